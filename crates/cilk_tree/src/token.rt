@@ -1,0 +1,72 @@
+ghost use Rattle.cilk_tree.specs.Token.{keyword_text, sign_text};
+ghost use Rattle.std.specs.Prelude.{◌≡◌};
+
+/// The reserved words.
+#[derive(Clone, Copy, Debug, PartialEq, Eq)]
+pub enum Keyword {
+    Cilk,
+    CilkFor,
+    Else,
+    FetchAdd,
+    For,
+    If,
+    Int,
+    Print,
+    Return,
+    Spawn,
+    Sync,
+    Void,
+    While,
+}
+
+impl Keyword {
+    /// How the word is written.
+    pub fn text(self) -> &'static [u8]
+        ensures { result.now ≡ keyword_text self }
+    {
+        match self {
+            Keyword::Cilk => b"cilk",
+            Keyword::CilkFor => b"cilk_for",
+            Keyword::Else => b"else",
+            Keyword::FetchAdd => b"fetch_add",
+            Keyword::For => b"for",
+            Keyword::If => b"if",
+            Keyword::Int => b"int",
+            Keyword::Print => b"print",
+            Keyword::Return => b"return",
+            Keyword::Spawn => b"spawn",
+            Keyword::Sync => b"sync",
+            Keyword::Void => b"void",
+            Keyword::While => b"while",
+        }
+    }
+}
+
+/// The signs that are read today.
+#[derive(Clone, Copy, Debug, PartialEq, Eq)]
+pub enum Sign {
+    Plus,
+    Assign,
+    OpenParen,
+    CloseParen,
+    OpenBrace,
+    CloseBrace,
+    Semicolon,
+}
+
+impl Sign {
+    /// How the sign is written.
+    pub fn text(self) -> &'static [u8]
+        ensures { result.now ≡ sign_text self }
+    {
+        match self {
+            Sign::Plus => b"+",
+            Sign::Assign => b"=",
+            Sign::OpenParen => b"(",
+            Sign::CloseParen => b")",
+            Sign::OpenBrace => b"{",
+            Sign::CloseBrace => b"}",
+            Sign::Semicolon => b";",
+        }
+    }
+}

@@ -1,0 +1,17 @@
+//! What the program meets outside itself: a shelf of texts to read from and sinks to put bytes into,
+//! as traits whose meanings the theorems speak of, with fakes for tests and adapters for the system.
+#![tactic(auto)]
+
+mod reading;
+mod shelf;
+mod sink;
+mod words;
+
+pub use reading::{TextRefusal, read_text};
+pub use shelf::Shelf;
+pub use sink::Sink;
+pub use words::Words;
+
+/// A device refused a call.
+#[derive(Clone, Copy, Debug, PartialEq, Eq)]
+pub struct Failed;
