@@ -1,1 +1,5 @@
+pub mod Lexeme
+pub mod SerialMain
+pub mod Spelling
+pub mod Syntax
 pub mod Token

@@ -1,0 +1,46 @@
+-- What text spells what tree.
+use Rattle.std.specs.Prelude.{◌≡◌, ℕ, ◌+◌, ◌≤◌, List, [], ◌∷◌, length, sum_by}
+use Rattle.std.specs.List.{AllByRecursion}
+use Rattle.cilk_tree.specs.declared.tree.Program.{Program}
+use Rattle.cilk_tree.specs.Lexeme.{Lexes}
+use Rattle.cilk_tree.specs.Syntax.{Expression, Numeral, Variable, Infix, Statement, Declaration, Assignment, Printing, IsGroupedStatement, program_tokens, program_tree}
+use Rattle.cilk_tree.specs.Token.{Token, Name, Number, Word, Mark}
+
+-- a name has at most 63 bytes
+abbrev pub IsShort : Token → Type 0
+IsShort (Name name) = length name ≤ 63
+IsShort (Number value) = Unit {0}
+IsShort (Word word) = Unit {0}
+IsShort (Mark sign) = Unit {0}
+
+-- how many operators an expression has
+abbrev pub operator_count : Expression → ℕ
+operator_count (Numeral value) = 0
+operator_count (Variable name) = 0
+operator_count (Infix left operator right) = operator_count left + 1 + operator_count right
+
+-- an expression has at most 256 operators
+abbrev pub HasFewOperators : Statement → Type 0
+HasFewOperators (Declaration name) = Unit {0}
+HasFewOperators (Assignment name value) = operator_count value ≤ 256
+HasFewOperators (Printing value) = operator_count value ≤ 256
+
+-- how many locals a statement declares
+abbrev pub local_count : Statement → ℕ
+local_count (Declaration name) = 1
+local_count (Assignment name value) = 0
+local_count (Printing value) = 0
+
+-- The limits on a source: the bytes of a name, the operators of an expression, and the locals of a function.
+pub record IsWithinLimits (body : List Statement) : Type 0 where
+  pub names : AllByRecursion IsShort (program_tokens body)
+  pub operators : AllByRecursion HasFewOperators body
+  pub locals : sum_by local_count body ≤ 256
+
+-- The text spells the tree: some concrete syntax that keeps the rules has these tokens and stands for this tree.
+pub record Spells (text : List ℕ) (program : Program) : Type 0 where
+  pub body : List Statement
+  pub tokens : Lexes text (program_tokens body)
+  pub grouped : AllByRecursion IsGroupedStatement body
+  pub limits : IsWithinLimits body
+  pub tree : program ≡ program_tree body
