@@ -1,13 +1,11 @@
-// A library with one function.
+//! Reads the text of a Cilk program into its syntax tree.
 #![tactic(auto)]
 
-ghost use Rattle.std.specs.Prelude.{◌≡◌};
-ghost use Rattle.cilk_reader.specs.Echo.{echo_of};
+mod lexer;
+mod names;
+mod parser;
+mod reading;
+mod refusal;
 
-// The `ensures` clause is the contract: what `echo` returns is `echo_of` of its argument, a definition
-// in `specs/Echo.antt`, which a caller's clause can cite too.
-pub fn echo(x: usize) -> usize
-    ensures { result ≡ echo_of x }
-{
-    x
-}
+pub use reading::read_program;
+pub use refusal::ReadRefusal;

@@ -4,7 +4,9 @@ use Rattle.std.specs.List.{list_all}
 use Rattle.std.specs.Fmt.{decimal}
 use Rattle.cilk_tree.specs.declared.token.Keyword.{Keyword}
 use Rattle.cilk_tree.specs.declared.token.Sign.{Sign}
-use Rattle.cilk_tree.specs.Token.{Token, Name, Number, Word, Mark, keyword_text, sign_text}
+use Rattle.cilk_tree.specs.declared.token.Token.{Token}
+use Rattle.cilk_tree.specs.declared.token.Token.TheVariants.{Name, Number, Word, Mark}
+use Rattle.cilk_tree.specs.Token.{keyword_text, sign_text}
 
 -- the byte is from the first to the last
 abbrev pub is_between : ℕ → ℕ → ℕ → Bool

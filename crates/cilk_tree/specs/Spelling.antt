@@ -1,10 +1,11 @@
 -- What text spells what tree.
-use Rattle.std.specs.Prelude.{◌≡◌, ℕ, ◌+◌, ◌≤◌, List, [], ◌∷◌, length, sum_by}
+use Rattle.std.specs.Prelude.{◌≡◌, ℕ, ◌+◌, ◌≤◌, List, length, sum_by}
 use Rattle.std.specs.List.{AllByRecursion}
 use Rattle.cilk_tree.specs.declared.tree.Program.{Program}
 use Rattle.cilk_tree.specs.Lexeme.{Lexes}
 use Rattle.cilk_tree.specs.Syntax.{Expression, Numeral, Variable, Infix, Statement, Declaration, Assignment, Printing, IsGroupedStatement, program_tokens, program_tree}
-use Rattle.cilk_tree.specs.Token.{Token, Name, Number, Word, Mark}
+use Rattle.cilk_tree.specs.declared.token.Token.{Token}
+use Rattle.cilk_tree.specs.declared.token.Token.TheVariants.{Name, Number, Word, Mark}
 
 -- a name has at most 63 bytes
 abbrev pub IsShort : Token → Type 0
@@ -37,10 +38,14 @@ pub record IsWithinLimits (body : List Statement) : Type 0 where
   pub operators : AllByRecursion HasFewOperators body
   pub locals : sum_by local_count body ≤ 256
 
--- The text spells the tree: some concrete syntax that keeps the rules has these tokens and stands for this tree.
-pub record Spells (text : List ℕ) (program : Program) : Type 0 where
+-- The tokens are those of a program: some concrete syntax that keeps the rules has these tokens and stands for this tree.
+pub record IsProgram (tokens : List Token) (program : Program) : Type 0 where
   pub body : List Statement
-  pub tokens : Lexes text (program_tokens body)
+  pub same : tokens ≡ program_tokens body
   pub grouped : AllByRecursion IsGroupedStatement body
   pub limits : IsWithinLimits body
   pub tree : program ≡ program_tree body
+
+-- The text spells the tree.
+abbrev pub Spells : List ℕ → Program → Type 0
+Spells text program = (tokens : List Token) × Lexes text tokens × IsProgram tokens program

@@ -1,5 +1,5 @@
 -- The concrete syntax that is read today, its tokens, and the tree that it stands for.
-use Rattle.std.specs.Prelude.{ℕ, ◌+◌, ◌<◌, ◌≤◌, ℤ, Bool, true, false, Option, Some, None, IsSome, List, [], ◌∷◌, ◌++◌, codes, max}
+use Rattle.std.specs.Prelude.{ℕ, ◌<◌, ◌≤◌, ℤ, true, false, Option, Some, None, IsSome, List, [], ◌∷◌, ◌++◌, codes}
 use Rattle.std.specs.List.{flat_map}
 use Rattle.std.specs.Prelude.{map}
 use Rattle.cilk_tree.specs.declared.token.Keyword.TheVariants.{Int, Print}
@@ -12,7 +12,8 @@ use Rattle.cilk_tree.specs.declared.tree.Expr.TheVariants as expr
 use Rattle.cilk_tree.specs.declared.tree.Stmt.{Stmt}
 use Rattle.cilk_tree.specs.declared.tree.Stmt.TheVariants as stmt
 use Rattle.cilk_tree.specs.declared.tree.Program.{Program}
-use Rattle.cilk_tree.specs.Token.{Token, Name, Number, Word, Mark}
+use Rattle.cilk_tree.specs.declared.token.Token.{Token}
+use Rattle.cilk_tree.specs.declared.token.Token.TheVariants.{Name, Number, Word, Mark}
 
 -- An expression as it is written: a number, a name, or two operands round an operator.
 pub data Expression : Type 0 where

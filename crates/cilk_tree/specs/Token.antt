@@ -1,5 +1,5 @@
--- The tokens of a source, as they are written.
-use Rattle.std.specs.Prelude.{ℕ, ℤ, List, codes}
+-- How the reserved words and the signs are written.
+use Rattle.std.specs.Prelude.{ℕ, List, codes}
 use Rattle.cilk_tree.specs.declared.token.Keyword.{Keyword}
 use Rattle.cilk_tree.specs.declared.token.Keyword.TheVariants.{Cilk, CilkFor, Else, FetchAdd, For, If, Int, Print, Return, Spawn, Sync, Void, While}
 use Rattle.cilk_tree.specs.declared.token.Sign.{Sign}
@@ -30,10 +30,3 @@ sign_text CloseParen = codes ")"
 sign_text OpenBrace = codes "{"
 sign_text CloseBrace = codes "}"
 sign_text Semicolon = codes ";"
-
--- A token. A number has its value, which is not negative.
-pub data Token : Type 0 where
-  Name : (name : List ℕ) → Token
-  Number : (value : ℤ) → Token
-  Word : (word : Keyword) → Token
-  Mark : (sign : Sign) → Token

@@ -7,5 +7,5 @@ mod token;
 mod tree;
 
 pub use name::Name;
-pub use token::{Keyword, Sign};
+pub use token::{Keyword, Sign, Token};
 pub use tree::{BinaryOp, Expr, Function, Program, Shared, Stmt, UnaryOp};

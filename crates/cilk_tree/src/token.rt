@@ -1,6 +1,17 @@
 ghost use Rattle.cilk_tree.specs.Token.{keyword_text, sign_text};
 ghost use Rattle.std.specs.Prelude.{◌≡◌};
 
+use crate::name::Name;
+
+/// A token of a text. A number has its value, which is not negative.
+#[derive(Debug, Drop)]
+pub enum Token {
+    Name(Name),
+    Number(i64),
+    Word(Keyword),
+    Mark(Sign),
+}
+
 /// The reserved words.
 #[derive(Clone, Copy, Debug, PartialEq, Eq)]
 pub enum Keyword {
