@@ -1,1 +1,4 @@
+pub mod Ends
+pub mod Pieces
 pub mod Slots
+pub mod Taken

@@ -1,13 +1,13 @@
 //! The program `backer` as one call over a shelf and two sinks.
 #![tactic(auto)]
 
-
+mod lines;
 mod locals;
 mod status;
-
+mod top;
 mod walk;
-
-
+mod words;
+mod writing;
 
 pub use status::{Ended, SourceRefusal, Status, TrapKind};
-
+pub use top::backer;

@@ -30,6 +30,22 @@ pub enum Status {
     Memory,
 }
 
+impl Status {
+    /// The line that tells the status on `err`, none at Done.
+    pub(crate) fn line(self) -> &'static [u8] {
+        match self {
+            Status::Done => b"",
+            Status::Words => b"backer: words refused\n",
+            Status::Source(SourceRefusal::TooLong) => b"backer: source refused: too long\n",
+            Status::Source(SourceRefusal::NotYet) => b"backer: source refused: not yet\n",
+            Status::ReadFault => b"backer: read failed\n",
+            Status::WriteFault => b"backer: write failed\n",
+            Status::Trap { kind: TrapKind::Overflow, node: _ } => b"backer: trap Overflow on node 0\n",
+            Status::Memory => b"backer: out of memory\n",
+        }
+    }
+}
+
 /// What a call of the program leaves.
 #[derive(Clone, Copy, Debug, PartialEq, Eq)]
 pub struct Ended {

@@ -6,7 +6,7 @@ ghost use Rattle.backer_top.specs.Locals.{state_of};
 use crate::locals::Locals;
 use crate::status::TrapKind;
 use cilk_tree::{BinaryOp, Expr, Program, Stmt};
-use sqlite_items::Items;
+use outside::Words;
 use std::alloc::{AllocError, Global};
 
 /// Why an expression has no value.
@@ -32,7 +32,7 @@ pub enum End {
 #[derive(Debug, Drop)]
 pub struct Run {
     pub end: End,
-    pub output: Items<i64>,
+    pub output: Words,
 }
 
 impl End {
@@ -76,7 +76,7 @@ fn evaluate(locals: &Locals, expr: &Expr) -> Result<i64, Stop>
 #[derive(Debug, Drop)]
 struct Machine {
     locals: Locals,
-    output: Items<i64>,
+    output: Words,
     left: u64,
 }
 
@@ -129,7 +129,7 @@ fn run_body(alloc: Global, body: &[Stmt], budget: u64) -> Result<Run, AllocError
 {
     let mut machine = Machine {
         locals: Locals::new(alloc),
-        output: Items::new(alloc),
+        output: Words::new(alloc),
         left: budget,
     };
     for stmt in body {

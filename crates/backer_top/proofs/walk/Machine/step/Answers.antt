@@ -1,7 +1,6 @@
-use Rattle.std.proofs.Common.{◌≡◌, List, ◌∷◌, ap, sym, ◌∙◌, pos, FitsSigned, w64, rules}
+use Rattle.std.proofs.Common.{◌∷◌, ap, sym, ◌∙◌, pos, FitsSigned, w64, rules}
 use Rattle.std.proofs.lemmas.Int.{to_z-of_z}
-use Rattle.cilk_tree.specs.declared.tree.Stmt.{Stmt}
-use Rattle.backer_top.specs.Elision.{value_of, run, given, assigned}
+use Rattle.backer_top.specs.Elision.{run, given, assigned}
 use Rattle.backer_top.specs.Locals.{state_of}
 use Rattle.backer_top.specs.Walk.{run_from, with_front}
 use Rattle.backer_top.proofs.walk.Machine.step.Goals as goal

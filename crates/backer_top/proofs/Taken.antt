@@ -1,0 +1,114 @@
+-- A program that the walk takes comes to no part that it does not take, and spends no more ticks than it has statements.
+use Rattle.std.proofs.Common.{◌≡◌, ◌≢◌, ℕ, zero, suc, ◌+◌, ◌<◌, ◌≤◌, ℤ, pos, ◌+ℤ◌, Bool, true, false, ◌&&◌, Result, Ok, Err, List, [], ◌∷◌, length, refl, sym, ◌∙◌, subst, arith, cond}
+use Rattle.cilk_tree.specs.declared.tree.BinaryOp.{BinaryOp}
+use Rattle.cilk_tree.specs.declared.tree.BinaryOp.TheVariants as op
+use Rattle.cilk_tree.specs.declared.tree.Expr.{Expr, roll-Expr, map-Expr, fold-roll-Expr, ind-Expr}
+use Rattle.cilk_tree.specs.declared.tree.Expr.TheOpen as layer
+use Rattle.cilk_tree.specs.declared.tree.Expr.TheOpen.{Expr-F}
+use Rattle.cilk_tree.specs.declared.tree.Function.{Function}
+use Rattle.cilk_tree.specs.declared.tree.Program.{Program}
+use Rattle.cilk_tree.specs.declared.tree.Shared.{Shared}
+use Rattle.cilk_tree.specs.declared.tree.Stmt.{Stmt}
+use Rattle.cilk_tree.specs.declared.tree.Stmt.TheVariants as stmt
+use Rattle.cilk_tree.specs.SerialMain.{is_among, is_serial_operator, reads_only_here, reads_only, is_serial_body, is_serial_source, IsSerialMain}
+use Rattle.backer_top.specs.declared.status.TrapKind.TheVariants.{Overflow}
+use Rattle.backer_top.specs.declared.walk.Stop.{Stop}
+use Rattle.backer_top.specs.declared.walk.Stop.TheVariants.{Trap, Untaken}
+use Rattle.backer_top.specs.declared.walk.End.{End}
+use Rattle.backer_top.specs.declared.walk.End.TheVariants as end
+use Rattle.backer_top.specs.declared.walk.Run.{Run}
+use Rattle.backer_top.specs.Elision.{State, fits, exact, operated, from_both, value_here, value_of, assigned, given, printing, run, start, main_body, elision}
+
+both_true : (a b : Bool) → (a && b) ≡ true → (a ≡ true) × (b ≡ true)
+both_true true b h = (refl, h)
+both_true false b h = absurd (let f : false ≡ true = h in cc)
+
+abbrev IsTaken : List (List ℕ) → State → Expr → Type 0
+IsTaken names state e = reads_only names e ≡ true → value_of state e ≢ Err Untaken
+
+exact_taken : (value : ℤ) → exact value ≢ Err Untaken
+exact_taken value = elim (fits value) as (λ b. cond b (Ok value) (Err (Trap Overflow)) ≢ Err Untaken) [ true ↦ λ e. cc | false ↦ λ e. cc ]
+
+operated_taken : (operator : BinaryOp) (x y : ℤ) → is_serial_operator operator ≡ true → operated operator x y ≢ Err Untaken
+operated_taken op.Add x y taken = exact_taken (x +ℤ y)
+operated_taken op.Or x y taken = absurd (let f : false ≡ true = taken in cc)
+operated_taken op.And x y taken = absurd (let f : false ≡ true = taken in cc)
+operated_taken op.Eq x y taken = absurd (let f : false ≡ true = taken in cc)
+operated_taken op.Ne x y taken = absurd (let f : false ≡ true = taken in cc)
+operated_taken op.Lt x y taken = absurd (let f : false ≡ true = taken in cc)
+operated_taken op.Le x y taken = absurd (let f : false ≡ true = taken in cc)
+operated_taken op.Gt x y taken = absurd (let f : false ≡ true = taken in cc)
+operated_taken op.Ge x y taken = absurd (let f : false ≡ true = taken in cc)
+operated_taken op.Sub x y taken = absurd (let f : false ≡ true = taken in cc)
+operated_taken op.Mul x y taken = absurd (let f : false ≡ true = taken in cc)
+operated_taken op.Div x y taken = absurd (let f : false ≡ true = taken in cc)
+operated_taken op.Rem x y taken = absurd (let f : false ≡ true = taken in cc)
+
+both_taken : (f : ℤ → ℤ → Result ℤ Stop) (left right : Result ℤ Stop) → ((x y : ℤ) → f x y ≢ Err Untaken) → left ≢ Err Untaken → right ≢ Err Untaken → from_both f left right ≢ Err Untaken
+both_taken f (Ok x) (Ok y) each l r = each x y
+both_taken f (Ok x) (Err stop) each l r = r
+both_taken f (Err stop) right each l r = l
+
+-- one level, where each operand is taken
+level_taken : (names : List (List ℕ)) (state : State) (y : Expr-F ((e : Expr) × IsTaken names state e)) → IsTaken names state (roll-Expr (map-Expr _ Expr (λ e. e.0) y))
+level_taken names state (layer.Number value) reads e =
+    absurd (let f : Ok value ≡ Err Untaken = sym (fold-roll-Expr (Result ℤ Stop) (value_here state) (layer.Number value)) ∙ e in cc)
+level_taken names state (layer.Local name) reads e =
+    absurd (let f : Ok (state name) ≡ Err Untaken = sym (fold-roll-Expr (Result ℤ Stop) (value_here state) (layer.Local name)) ∙ e in cc)
+level_taken names state (layer.Get name index) reads e =
+    absurd (let f : false ≡ true = sym (fold-roll-Expr Bool (reads_only_here names) (layer.Get name index.0)) ∙ reads in cc)
+level_taken names state (layer.Unary operator operand) reads e =
+    absurd (let f : false ≡ true = sym (fold-roll-Expr Bool (reads_only_here names) (layer.Unary operator operand.0)) ∙ reads in cc)
+level_taken names state (layer.Binary operator left right) reads e =
+    let read = sym (fold-roll-Expr Bool (reads_only_here names) (layer.Binary operator left.0 right.0)) ∙ reads in
+    let outer = both_true (is_serial_operator operator && reads_only names left.0) (reads_only names right.0) read in
+    let inner = both_true (is_serial_operator operator) (reads_only names left.0) outer.0 in
+    both_taken (operated operator) (value_of state left.0) (value_of state right.0) (λ x y. operated_taken operator x y inner.0) (left.1 inner.1) (right.1 outer.1)
+        (sym (fold-roll-Expr (Result ℤ Stop) (value_here state) (layer.Binary operator left.0 right.0)) ∙ e)
+
+pub value_taken : (names : List (List ℕ)) (state : State) (e : Expr) → IsTaken names state e
+value_taken names state = ind-Expr (IsTaken names state) (λ x y is. subst (λ z. IsTaken names state (roll-Expr z)) is (level_taken names state y))
+
+-- a run that neither spends its ticks nor comes to a part that is not taken
+abbrev IsTold : End → Type 0
+IsTold how = (how ≢ end.Spent) × (how ≢ end.Untaken)
+
+given_told : (value : Result ℤ Stop) (next : ℤ → Run) → value ≢ Err Untaken → ((v : ℤ) → IsTold (next v).end) → IsTold (given value next).end
+given_told (Ok v) next taken later = later v
+given_told (Err (Trap kind)) next taken later = (λ e. cc, λ e. cc)
+given_told (Err Untaken) next taken later = absurd (taken refl)
+
+printing_told : (ticks : ℕ) (value : ℤ) (next : ℕ → Run) → 0 < ticks → ((left : ℕ) → left + 1 ≡ ticks → IsTold (next left).end) → IsTold (printing ticks value next).end
+printing_told zero value next some later = absurd (omega arith)
+printing_told (suc left) value next some later = later left (omega arith)
+
+pub run_told : (names : List (List ℕ)) (body : List Stmt) (ticks : ℕ) (state : State) → is_serial_body names body ≡ true → length body ≤ ticks → IsTold (run ticks state body).end
+run_told names [] ticks state serial few = (λ e. cc, λ e. cc)
+run_told names (stmt.Declare name ∷ rest) ticks state serial few =
+    run_told (name ∷ names) rest ticks (assigned state name (pos 0)) (both_true _ (is_serial_body (name ∷ names) rest) serial).1 (omega arith)
+run_told names (stmt.Assign name value ∷ rest) ticks state serial few =
+    let outer = both_true (is_among names name && reads_only names value) (is_serial_body names rest) serial in
+    let inner = both_true (is_among names name) (reads_only names value) outer.0 in
+    given_told (value_of state value) _ (value_taken names state value inner.1) (λ v. run_told names rest ticks (assigned state name v) outer.1 (omega arith))
+run_told names (stmt.Print value ∷ rest) ticks state serial few =
+    let outer = both_true (reads_only names value) (is_serial_body names rest) serial in
+    given_told (value_of state value) _ (value_taken names state value outer.0)
+        (λ v. printing_told ticks v _ (omega arith) (λ left e. run_told names rest left state outer.1 (omega arith)))
+run_told names (stmt.Put name index value ∷ rest) ticks state serial few = absurd (let f : false ≡ true = serial in cc)
+run_told names (stmt.If' a b c d e ∷ rest) ticks state serial few = absurd (let f : false ≡ true = serial in cc)
+run_told names (stmt.While' a b c ∷ rest) ticks state serial few = absurd (let f : false ≡ true = serial in cc)
+run_told names (stmt.Block' a b ∷ rest) ticks state serial few = absurd (let f : false ≡ true = serial in cc)
+run_told names (stmt.Call target name arguments ∷ rest) ticks state serial few = absurd (let f : false ≡ true = serial in cc)
+run_told names (stmt.Spawn target name arguments ∷ rest) ticks state serial few = absurd (let f : false ≡ true = serial in cc)
+run_told names (stmt.Sync ∷ rest) ticks state serial few = absurd (let f : false ≡ true = serial in cc)
+run_told names (stmt.Return value ∷ rest) ticks state serial few = absurd (let f : false ≡ true = serial in cc)
+
+serial_body : (shared : List Shared) (functions : List Function) → is_serial_source shared functions ≡ true → is_serial_body [] (main_body functions) ≡ true
+serial_body [] (f ∷ []) serial = (both_true _ (is_serial_body [] f.body) serial).1
+serial_body [] [] serial = absurd (let f : false ≡ true = serial in cc)
+serial_body [] (f ∷ g ∷ others) serial = absurd (let f : false ≡ true = serial in cc)
+serial_body (s ∷ shared) functions serial = absurd (let f : false ≡ true = serial in cc)
+
+-- the elision of a program that the walk takes finishes or traps
+pub elision_told : (program : Program) (ticks : ℕ) → IsSerialMain program → length (main_body program.functions) ≤ ticks → IsTold (elision program ticks).end
+elision_told program ticks serial few = run_told [] (main_body program.functions) ticks start (serial_body program.shared program.functions serial) few

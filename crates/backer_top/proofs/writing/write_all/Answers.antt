@@ -1,0 +1,31 @@
+use Rattle.std.proofs.Common.{◌≡◌, ◌<◌, ◌++◌, length, take, arith, sym, ap, ◌∙◌}
+use Rattle.std.proofs.lemmas.List.{take-append-drop}
+use Rattle.std.proofs.lemmas.Bool.Decides.{nat_tests}
+use Rattle.backer_top.proofs.Pieces.{IsWritten-more, IsWritten-last, IsWritten-nothing}
+use Rattle.backer_top.proofs.writing.write_all.Goals as goal
+
+pub loop-rest-preserved : goal.loop-rest-preserved
+loop-rest-preserved g c =
+    let sink = g.S.Sink in
+    let rest = c.loop-rest.rest.now in
+    let piece = c.split_at.result.0.now in
+    let later = c.split_at.result.1.now in
+    let cut : rest ≡ piece ++ later = sym (ap (λ b. b ++ later) c.split_at.ensures.front ∙ ap (λ b. take 4096 rest ++ b) c.split_at.ensures.back ∙ take-append-drop 4096 rest) in
+    record {
+      faults = omega (arith, c.in_ok-put.ensures.faults, c.loop-rest.invariant.faults);
+      goes_on = λ new written. c.loop-rest.invariant.goes_on new (IsWritten-more sink.held sink.took c.loop-rest.sink c.put.new.self new piece later rest cut c.split_at.ensures.front_len c.in_ok-put.ensures.whole c.in_ok-put.ensures.took written)
+    }
+
+pub returns-in_ok-put-2-clause-written : goal.returns-in_ok-put-2-clause-written
+returns-in_ok-put-2-clause-written g c =
+    let sink = g.S.Sink in
+    let rest = c.loop-rest.rest.now in
+    let some : 0 < length rest = grind (arith, nat_tests) in
+    c.loop-rest.invariant.goes_on _ (IsWritten-last sink.held sink.took c.loop-rest.sink c.put-then-not-is_empty.new.self rest some c.loop-rest-test.false c.in_ok-put-2.ensures.whole c.in_ok-put-2.ensures.took)
+
+pub returns-else-not-is_empty-clause-written : goal.returns-else-not-is_empty-clause-written
+returns-else-not-is_empty-clause-written g c =
+    let sink = g.S.Sink in
+    let rest = c.loop-rest.rest.now in
+    let none : length rest ≡ 0 = grind (arith, nat_tests) in
+    c.loop-rest.invariant.goes_on _ (IsWritten-nothing sink.held sink.took c.loop-rest.sink rest none)

@@ -1,0 +1,31 @@
+-- What is put on the sinks.
+use Rattle.std.specs.Prelude.{◌≡◌, ℕ, ◌<◌, ◌≤◌, ℤ, Option, Some, IfSome, List, [], ◌∷◌, ◌++◌, length}
+use Rattle.std.specs.Fmt.{signed_decimal}
+use Rattle.std.specs.List.{flat_map}
+use Rattle.outside.specs.Shelf.{joined}
+
+-- a value in decimal on a line of its own
+abbrev pub line : ℤ → List ℕ
+line value = signed_decimal value ++ 10 ∷ []
+
+abbrev pub lines : List ℤ → List ℕ
+lines = flat_map line
+
+-- pieces of 4,096 bytes, of which the last may be shorter, and none is empty
+abbrev pub ArePieces : List (List ℕ) → Type 0
+ArePieces [] = Unit {0}
+ArePieces (last ∷ []) = (0 < length last) × (length last ≤ 4096)
+ArePieces (piece ∷ next ∷ rest) = (length piece ≡ 4096) × ArePieces (next ∷ rest)
+
+-- puts of these pieces one after another, each of them whole
+abbrev pub Puts : {S : Type 0} → (S → List ℕ → S → Type 0) → S → List (List ℕ) → S → Type 0
+Puts {S} took old [] new = new ≡ old
+Puts {S} took old (piece ∷ pieces) new = (mid : S) × took old piece mid × Puts took mid pieces new
+
+-- The bytes are put on the sink, in pieces and whole.
+pub record IsWritten {S : Type 0} (held : S → Option (List ℕ)) (took : S → List ℕ → S → Type 0) (old new : S) (bytes : List ℕ) : Type 0 where
+  pub whole : IfSome (held old) (λ before. held new ≡ Some (before ++ bytes))
+  pub pieces : List (List ℕ)
+  pub cut : joined pieces ≡ bytes
+  pub sizes : ArePieces pieces
+  pub puts : Puts took old pieces new

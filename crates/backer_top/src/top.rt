@@ -1,0 +1,112 @@
+ghost use Rattle.std.specs.Prelude.{◌≡◌, ◌≢◌, ◌↔◌, ◌≤◌, List, ℕ, None, Some, map, length, string_bytes, IfOk, IfErr, OnErr, MatchResult};
+ghost use Rattle.cilk_tree.specs.SerialMain.{IsSerialMain};
+ghost use Rattle.outside.specs.Device.{Rose};
+ghost use Rattle.backer_top.specs.Command.{file_of};
+ghost use Rattle.backer_top.specs.Elision.{main_body};
+ghost use Rattle.backer_top.specs.Output.{IsWritten, lines};
+ghost use Rattle.backer_top.specs.Serial.{IsSerial, IsSource, Prints, StopsWith};
+
+use crate::lines::lines_of;
+use crate::status::{Ended, SourceRefusal, Status};
+use crate::walk::{End, run_serial};
+use crate::words::file_word;
+use crate::writing::write_all;
+use cilk_reader::{ReadRefusal, read_program};
+use cilk_tree::Program;
+use outside::{Failed, Shelf, Sink, TextRefusal, read_text};
+use std::alloc::Global;
+
+/// How many bytes a source may have.
+const SOURCE_LIMIT: u64 = 1_048_576;
+
+/// How many ticks a serial run may make.
+const BUDGET: u64 = 2_000_000;
+
+/// The whole program: takes the words after its name, reads the file that they name from the shelf, runs it, and
+/// puts what it prints on `out`; at any other status but Done one line goes to `err`.
+pub fn backer<L: Shelf, O: Sink, E: Sink>(
+    alloc: Global,
+    words: &[String],
+    shelf: &mut L,
+    out: &mut O,
+    err: &mut E,
+) -> Ended
+    // The words are refused exactly where they are not `serial FILE`, and then the shelf is not called.
+    ensures words { (result.status ≡ Status.Words) ↔ (file_of (map string_bytes words.now) ≡ None) }
+    ensures no_call { result.status ≡ Status.Words → shelf.new ≡ shelf.old }
+
+    // One text serves all that is said of the run.
+    ensures serial { (file : List ℕ) → file_of (map string_bytes words.now) ≡ Some file →
+        ((text : List ℕ) × IsSerial (L.texts shelf.old) file
+            (Rose (L.faults shelf.old file) (L.faults shelf.new file)) (Rose (O.faults out.old) (O.faults out.new))
+            (IsWritten O.held O.took out.old out.new) text result.status) }
+    ensures nothing_written { result.status ≢ Status.Done → result.status ≢ Status.WriteFault → out.new ≡ out.old }
+{
+    let status = match file_word(words) {
+        Some(file) => serial(alloc, file, shelf, out),
+        None => Status::Words,
+    };
+    if status != Status::Done {
+        let _ = err.put(status.line());
+    }
+    Ended { status }
+}
+
+/// Reads the file, runs the program that it spells, and puts what it prints on `out`.
+fn serial<L: Shelf, O: Sink>(alloc: Global, file: &str, shelf: &mut L, out: &mut O) -> Status
+    ensures serial { (text : List ℕ) × IsSerial (L.texts shelf.old) file.now
+        (Rose (L.faults shelf.old file.now) (L.faults shelf.new file.now)) (Rose (O.faults out.old) (O.faults out.new))
+        (IsWritten O.held O.took out.old out.new) text result }
+    ensures nothing_written { result ≢ Status.Done → result ≢ Status.WriteFault → out.new ≡ out.old }
+{
+    let program = match source(alloc, file, shelf) {
+        Ok(program) => program,
+        Err(status) => return status,
+    };
+    let text = match outcome(alloc, &program) {
+        Ok(text) => text,
+        Err(status) => return status,
+    };
+    match write_all(out, text.as_slice()) {
+        Ok(()) => Status::Done,
+        Err(Failed) => Status::WriteFault,
+    }
+}
+
+/// The program that the file spells.
+fn source<L: Shelf>(alloc: Global, file: &str, shelf: &mut L) -> Result<Program, Status>
+    ensures { (text : List ℕ) × IsSource (L.texts shelf.old) file.now
+        (Rose (L.faults shelf.old file.now) (L.faults shelf.new file.now)) text result }
+{
+    let text = match read_text(alloc, shelf, file, SOURCE_LIMIT) {
+        Ok(text) => text,
+        Err(TextRefusal::Fault) => return Err(Status::ReadFault),
+        Err(TextRefusal::TooLong) => return Err(Status::Source(SourceRefusal::TooLong)),
+        Err(TextRefusal::Memory) => return Err(Status::Memory),
+    };
+    match read_program(alloc, text.as_slice()) {
+        Ok(program) => Ok(program),
+        Err(ReadRefusal::NotYet) => Err(Status::Source(SourceRefusal::NotYet)),
+        Err(ReadRefusal::Memory) => Err(Status::Memory),
+    }
+}
+
+/// What the program prints, each value on a line.
+fn outcome(alloc: Global, program: &Program) -> Result<Vec<u8>, Status>
+    requires taken { IsSerialMain program.now }
+    requires small { length (main_body program.now.functions) ≤ 2000000 }
+    ensures { MatchResult result (λ text. Prints program.now text.items) (StopsWith program.now) }
+{
+    let run = match run_serial(alloc, program, BUDGET) {
+        Ok(run) => run,
+        Err(_) => return Err(Status::Memory),
+    };
+    match run.end {
+        End::Finished => match lines_of(alloc, run.output.items()) {
+            Ok(text) => Ok(text),
+            Err(_) => Err(Status::Memory),
+        },
+        End::Trapped(kind) => Err(Status::Trap { kind, node: 0 }),
+        End::Spent | End::Untaken => unreachable!(),
+    }
+}
