@@ -22,9 +22,9 @@ pub fn read_program(alloc: Global, text: &[u8]) -> Result<Program, ReadRefusal>
 {
     let tokens = tokens_of(alloc, text)?;
     let program = program_of(alloc, tokens.as_slice())?;
-    if is_serial_main(&program) {
-        Ok(program)
-    } else {
-        Err(ReadRefusal::NotYet)
+    match is_serial_main(alloc, &program) {
+        Ok(true) => Ok(program),
+        Ok(false) => Err(ReadRefusal::NotYet),
+        Err(_) => Err(ReadRefusal::Memory),
     }
 }

@@ -1,5 +1,5 @@
 -- The programs that the serial walk takes: a plain main of locals, sums and prints.
-use Rattle.std.specs.Prelude.{ℕ, Bool, true, false, not, ◌&&◌, IsTrue, List, [], ◌∷◌, codes}
+use Rattle.std.specs.Prelude.{ℕ, Bool, true, false, not, ◌&&◌, IsTrue, List, [], ◌∷◌, ◌++◌, codes}
 use Rattle.std.specs.List.{list_any}
 use Rattle.std.specs.Str.{bytes_eq}
 use Rattle.cilk_tree.specs.declared.tree.BinaryOp.{BinaryOp}
@@ -35,13 +35,22 @@ reads_only_here names (layer.Binary operator left right) = is_serial_operator op
 abbrev pub reads_only : List (List ℕ) → Expr → Bool
 reads_only names = fold-Expr Bool (reads_only_here names)
 
--- Each name is declared once, before its use, and none is `main`. `names` are those that are declared already.
+-- A declared name is new and not `main`; a statement reads and sets names that are declared already, which `names` are.
+abbrev pub is_serial_statement : List (List ℕ) → Stmt → Bool
+is_serial_statement names (stmt.Declare name) = not (bytes_eq name (codes "main")) && not (is_among names name)
+is_serial_statement names (stmt.Assign name value) = is_among names name && reads_only names value
+is_serial_statement names (stmt.Print value) = reads_only names value
+is_serial_statement names _ = false
+
+-- the names that are declared after a statement
+abbrev pub names_after : List (List ℕ) → Stmt → List (List ℕ)
+names_after names (stmt.Declare name) = names ++ name ∷ []
+names_after names _ = names
+
+-- Each name is declared once, before its use, and none is `main`.
 abbrev pub is_serial_body : List (List ℕ) → List Stmt → Bool
 is_serial_body names [] = true
-is_serial_body names (stmt.Declare name ∷ rest) = not (bytes_eq name (codes "main")) && not (is_among names name) && is_serial_body (name ∷ names) rest
-is_serial_body names (stmt.Assign name value ∷ rest) = is_among names name && reads_only names value && is_serial_body names rest
-is_serial_body names (stmt.Print value ∷ rest) = reads_only names value && is_serial_body names rest
-is_serial_body names (_ ∷ rest) = false
+is_serial_body names (first ∷ rest) = is_serial_statement names first && is_serial_body (names_after names first) rest
 
 abbrev pub is_empty : {T : Type 0} → List T → Bool
 is_empty [] = true
