@@ -2,11 +2,15 @@
 //! as traits whose meanings the theorems speak of, with fakes for tests and adapters for the system.
 #![tactic(auto)]
 
+mod mem_shelf;
+mod mem_sink;
 mod reading;
 mod shelf;
 mod sink;
 mod words;
 
+pub use mem_shelf::MemShelf;
+pub use mem_sink::MemSink;
 pub use reading::{TextRefusal, read_text};
 pub use shelf::Shelf;
 pub use sink::Sink;
