@@ -1,5 +1,5 @@
 -- What a call gives that gives as many bytes as there are and fit.
-use Rattle.std.proofs.Common.{◌≡◌, ℕ, zero, suc, ◌+◌, ◌-◌, ◌<◌, ◌≤◌, ◌⊎◌, min, List, [], length, take, drop, refl, sym, ap, ◌∙◌, inl, inr, arith}
+use Rattle.std.proofs.Common.{◌≡◌, ℕ, zero, suc, ◌-◌, ◌≤◌, ◌⊎◌, min, List, length, take, drop, refl, sym, ap, ◌∙◌, inl, inr, arith}
 use Rattle.std.proofs.lemmas.List.{length-take}
 use Rattle.outside.specs.Shelf.{GivesFrom}
 
@@ -17,5 +17,5 @@ GivesFrom-most text into after at count most given same =
     let long : length (take count after) ≡ count = omega (arith, length-take count after) in
     record {
       bytes = given ∙ ap (λ k. take k (drop at text)) (sym long);
-      none = (λ none. at_end_or_full count (length into) at (length text) most (sym long ∙ ap length none), λ ended. ap (λ k. take k after) (stops count (length into) at (length text) most ended))
+      none = (λ none. at_end_or_full count (length into) at (length text) most (sym long ∙ ap length none), λ ended. ap (λ k. take k after) (stops count (length into) at (length text) most ended));
     }

@@ -1,5 +1,5 @@
 -- A shelf in memory, as its callers see it.
-use Rattle.std.specs.Prelude.{◌≡◌, ℕ, List, Option, Some, None, map, slice_index, slice_set}
+use Rattle.std.specs.Prelude.{ℕ, List, Option, Some, None, slice_index, slice_set}
 use Rattle.std.specs.FinMap.{from_entries}
 use Rattle.std.specs.List.{position}
 use Rattle.std.specs.Option.{option_map_or}

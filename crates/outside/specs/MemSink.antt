@@ -1,6 +1,7 @@
 -- A sink in memory, as its callers see it.
-use Rattle.std.specs.Prelude.{◌≡◌, ℕ, ◌+◌, List, [], ◌++◌, Option, Bool, length, take, nat_eq, nat_le, unwrap_or, if◌then◌else◌}
-use Rattle.std.specs.Map.{lookup}
+use Rattle.std.specs.Prelude.{ℕ, ◌+◌, List, Option, Bool, length, take, ◌==◌, nat_le}
+use Rattle.std.specs.List.{find}
+use Rattle.std.specs.Option.{option_map, unwrap_or}
 use Rattle.outside.specs.Device.{one_more}
 
 pub record SinkState : Type 0 where
@@ -17,7 +18,7 @@ pub record SinkState : Type 0 where
 
 -- how many bytes the next put keeps, where it is one that fails
 abbrev pub planned : SinkState → Option ℕ
-planned s = lookup (nat_eq (one_more s.puts)) s.failing
+planned s = option_map (λ plan. plan.1) (find (λ plan. plan.0 == one_more s.puts) s.failing)
 
 -- the bytes of a piece that the next put is to keep
 abbrev pub wanted : SinkState → List ℕ → List ℕ

@@ -5,6 +5,9 @@
 mod mem_shelf;
 mod mem_sink;
 mod reading;
+mod real_shelf;
+mod real_sink;
+mod retrying;
 mod shelf;
 mod sink;
 mod words;
@@ -12,6 +15,8 @@ mod words;
 pub use mem_shelf::MemShelf;
 pub use mem_sink::MemSink;
 pub use reading::{TextRefusal, read_text};
+pub use real_shelf::RealShelf;
+pub use real_sink::RealSink;
 pub use shelf::Shelf;
 pub use sink::Sink;
 pub use words::Words;

@@ -28,11 +28,11 @@ impl Model for MemShelf {
     ghost Value = { ShelfState };
 
     ghost view = { λ s. record {
-        entries = map (λ t. (string_bytes t.0, t.1.items)) s.texts.items;
-        failing = s.failing.items;
-        calls = s.calls;
-        faults = s.fault_counts.items;
-        other_faults = s.other_faults
+      entries = map (λ t. (string_bytes t.0, t.1.items)) s.texts.items;
+      failing = s.failing.items;
+      calls = s.calls;
+      faults = s.fault_counts.items;
+      other_faults = s.other_faults;
     } };
 
     ghost invariant = { λ s. vec_len s.fault_counts ≡ vec_len s.texts };

@@ -24,11 +24,11 @@ impl Model for MemSink {
     ghost Value = { SinkState };
 
     ghost view = { λ s. record {
-        bytes = s.bytes.items;
-        room = s.room;
-        failing = s.failing.items;
-        puts = s.puts;
-        faults = s.faults
+      bytes = s.bytes.items;
+      room = s.room;
+      failing = s.failing.items;
+      puts = s.puts;
+      faults = s.faults;
     } };
 
     ghost invariant = { λ s. (vec_len s.bytes ≤ s.room) × (s.room ≤ vec_capacity s.bytes) };
@@ -126,9 +126,9 @@ impl Sink for MemSink {
         // It keeps the whole piece, or as much of it as the put that fails is to keep, or nothing where
         // there is no room for that; it is counted, and nothing else changes.
         ensures after { self.new ≡ record self.old {
-            bytes = if has_room self.old piece.now then self.old.bytes ++ wanted self.old piece.now else self.old.bytes;
-            puts = one_more self.old.puts;
-            faults = if is_ok result then self.old.faults else one_more self.old.faults
+          bytes = if has_room self.old piece.now then self.old.bytes ++ wanted self.old piece.now else self.old.bytes;
+          puts = one_more self.old.puts;
+          faults = if is_ok result then self.old.faults else one_more self.old.faults;
         } }
     {
         let planned = self.planned();

@@ -1,6 +1,4 @@
-use Rattle.std.proofs.Common.{◌≡◌, ℕ, List, Option, Some, None, false, IsTrue, refl, sym, ap, ◌∙◌, inl, inr, ⊎_elim, rules}
-use Rattle.std.specs.FinMap as finite
-use Rattle.outside.specs.MemShelf.{ShelfState, held, place}
+use Rattle.std.proofs.Common.{◌≡◌, Some, None, false, IsTrue, refl, sym, ◌∙◌, inr, ⊎_elim}
 use Rattle.outside.proofs.Places.{get-place, get-no_place}
 use Rattle.outside.proofs.mem_shelf.MemShelf.answer.Goals as goal
 
