@@ -10,6 +10,8 @@ mod real_sink;
 mod retrying;
 mod shelf;
 mod sink;
+#[cfg(test)]
+mod tests;
 mod words;
 
 pub use mem_shelf::MemShelf;
