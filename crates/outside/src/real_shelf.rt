@@ -1,5 +1,6 @@
-ghost use Rattle.std.specs.Prelude.{◌≡◌, ℕ, ◌≤◌, List, Option, None, length, take, if◌then◌else◌, is_ok, IfOk, OnOk, OnErr, IfSome, IsSomeAnd};
+ghost use Rattle.std.specs.Prelude.{◌≡◌, ℕ, ◌<◌, ◌≤◌, List, Option, None, length, take, if◌then◌else◌, is_ok, IfOk, OnOk, OnErr, IfSome, IsSomeAnd};
 ghost use Rattle.std.specs.FinMap as map;
+ghost use Rattle.std.specs.Io.KnownBytes.{IsAtEnd};
 ghost use Rattle.outside.specs.Device.{Rose, one_more};
 ghost use Rattle.outside.specs.Shelf.{Texts, GivesFrom};
 
@@ -22,7 +23,7 @@ struct OpenText<F> {
 #[derive(Drop)]
 pub struct RealShelf<R: Files> {
     rt: R,
-    open: Option<OpenText<R::File>>,
+    current: Option<OpenText<R::File>>,
     faults: u64,
 }
 
@@ -33,7 +34,7 @@ impl<R: Files + AllocGlobal> RealShelf<R> {
     {
         RealShelf {
             rt,
-            open: None,
+            current: None,
             faults: 0,
         }
     }
@@ -41,6 +42,7 @@ impl<R: Files + AllocGlobal> RealShelf<R> {
     // A call that fails leaves no file open, since the place that it reached is not known.
     fn read_from(&mut self, name: &str, at: u64, into: &mut [u8]) -> IoResult<usize>
         ensures within { IfOk result (λ count. count ≤ length into.old) }
+        ensures ended { IfOk result (λ count. count ≡ 0 → 0 < length into.old → IsSomeAnd self.new.current (λ text. IsAtEnd (R.File.remaining text.file))) }
         ensures faults { self.new.faults ≡ self.old.faults }
     {
         let mut text = self.text_at(name, at)?;
@@ -50,15 +52,16 @@ impl<R: Files + AllocGlobal> RealShelf<R> {
             read_some(&mut text.file, into)?
         };
         text.reached = text.reached.saturating_add(count as u64);
-        self.open = Some(text);
+        self.current = Some(text);
         Ok(count)
     }
 
     // The named file, read up to a place, or to its end where that comes first. At place 0 it is opened anew.
     fn text_at(&mut self, name: &str, at: u64) -> IoResult<OpenText<R::File>>
+        ensures ended { IfOk result (λ text. text.reached < at → IsAtEnd (R.File.remaining text.file)) }
         ensures faults { self.new.faults ≡ self.old.faults }
     {
-        if let Some(text) = self.open.take() {
+        if let Some(text) = self.current.take() {
             if at != 0 && text.reached == at && text.name.as_str() == name {
                 return Ok(text);
             }
@@ -74,13 +77,16 @@ impl<R: Files + AllocGlobal> RealShelf<R> {
 }
 
 impl<F: Read> OpenText<F> {
-    fn skip_to(&mut self, at: u64) -> IoResult<()> {
+    // Reads up to a place, or to the end where that comes first.
+    fn skip_to(&mut self, at: u64) -> IoResult<()>
+        ensures { OnOk result (self.new.reached < at → IsAtEnd (F.remaining self.new.file)) }
+    {
         let mut passed = [0; 4096];
         while self.reached < at {
             let most = (at - self.reached).min(4096) as usize;
             let count = read_some(&mut self.file, &mut passed[..most])?;
             if count == 0 {
-                break;
+                return Ok(());
             }
             self.reached += count as u64;
         }
@@ -97,6 +103,9 @@ impl<R: Files + AllocGlobal> Shelf for RealShelf<R> {
         ensures faults { (other : List ℕ) → self.old.faults ≤ self.new.faults }
         ensures cause { OnErr result (Rose self.old.faults self.new.faults) }
         ensures within { IfOk result (λ count. count ≤ length into.old) }
+
+        // It gives no bytes only at the end of the file, or where there is no room for them.
+        ensures ended { IfOk result (λ count. count ≡ 0 → 0 < length into.old → IsSomeAnd self.new.current (λ text. IsAtEnd (R.File.remaining text.file))) }
 
         // A call that fails is one fault.
         ensures counted { self.new.faults ≡ (if is_ok result then self.old.faults else one_more self.old.faults) }
