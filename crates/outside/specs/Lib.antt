@@ -1,2 +1,4 @@
 pub mod Device
+pub mod MemShelf
+pub mod MemSink
 pub mod Shelf

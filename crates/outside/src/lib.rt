@@ -2,12 +2,23 @@
 //! as traits whose meanings the theorems speak of, with fakes for tests and adapters for the system.
 #![tactic(auto)]
 
+mod mem_shelf;
+mod mem_sink;
 mod reading;
+mod real_shelf;
+mod real_sink;
+mod retrying;
 mod shelf;
 mod sink;
+#[cfg(test)]
+mod tests;
 mod words;
 
+pub use mem_shelf::MemShelf;
+pub use mem_sink::MemSink;
 pub use reading::{TextRefusal, read_text};
+pub use real_shelf::RealShelf;
+pub use real_sink::RealSink;
 pub use shelf::Shelf;
 pub use sink::Sink;
 pub use words::Words;

@@ -26,7 +26,12 @@ const PIECE: usize = 4096;
 
 /// The whole named text, which has at most `limit` bytes. It asks for pieces of 4,096 bytes, the first from
 /// place 0 and each later one from the place reached, until a call gives none or the limit is passed.
-pub fn read_text<L: Shelf>(alloc: Global, shelf: &mut L, name: &str, limit: u64) -> Result<Vec<u8>, TextRefusal>
+pub fn read_text<L: Shelf>(
+    alloc: Global,
+    shelf: &mut L,
+    name: &str,
+    limit: u64,
+) -> Result<Vec<u8>, TextRefusal>
     ensures texts { L.texts shelf.new ≡ L.texts shelf.old }
     ensures faults { (other : List ℕ) → L.faults shelf.old other ≤ L.faults shelf.new other }
 

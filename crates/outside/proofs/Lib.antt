@@ -1,0 +1,4 @@
+pub mod Giving
+pub mod Joining
+pub mod Places
+pub mod Putting

@@ -1,0 +1,86 @@
+use crate::{
+    Failed, MemShelf, MemSink, RealShelf, RealSink, Shelf, Sink, TextRefusal, Words, read_text,
+};
+use std::alloc::{AllocError, Global};
+use std::test::Fail;
+
+fn text(alloc: Global) -> Result<Vec<u8>, AllocError> {
+    (0..5000u16).map(|i| (i % 251) as u8).collect(alloc)
+}
+
+// A shelf that holds a text of 5,000 bytes, and fails at one call.
+fn shelf(alloc: Global, failing: u64) -> Result<MemShelf, AllocError> {
+    let mut texts = Vec::new(alloc);
+    texts.push((String::from_str(alloc, "a.cilk")?, text(alloc)?))?;
+    MemShelf::new(alloc, texts, vec![in alloc; failing]?)
+}
+
+#[test]
+fn reads_a_text_of_two_pieces(rt: HostRuntime) -> Result<(), Fail> {
+    let alloc = rt.alloc();
+    let mut shelf = shelf(alloc, 0)?;
+    let read = read_text(alloc, &mut shelf, "a.cilk", 5000)?;
+    assert!(rt; read == text(alloc)?);
+    assert_eq!(rt; shelf.calls(), 3);
+    Ok(())
+}
+
+#[test]
+fn refuses_a_text(rt: HostRuntime) -> Result<(), Fail> {
+    let alloc = rt.alloc();
+    let second_fails = read_text(alloc, &mut shelf(alloc, 2)?, "a.cilk", 5000).err();
+    assert_eq!(rt; second_fails, Some(TextRefusal::Fault));
+    let not_held = read_text(alloc, &mut shelf(alloc, 0)?, "b.cilk", 5000).err();
+    assert_eq!(rt; not_held, Some(TextRefusal::Fault));
+    let too_long = read_text(alloc, &mut shelf(alloc, 0)?, "a.cilk", 4999).err();
+    assert_eq!(rt; too_long, Some(TextRefusal::TooLong));
+    Ok(())
+}
+
+#[test]
+fn reads_files(rt: HostRuntime) -> Result<(), Fail> {
+    let alloc = rt.alloc();
+    let mut shelf = RealShelf::new(rt.clone()?);
+    assert_eq!(rt; read_text(alloc, &mut shelf, "/dev/null", 10)?.len(), 0);
+    let endless = read_text(alloc, &mut shelf, "/dev/zero", 5000).err();
+    assert_eq!(rt; endless, Some(TextRefusal::TooLong));
+    let missing = read_text(alloc, &mut shelf, "/dev/null/a.cilk", 10).err();
+    assert_eq!(rt; missing, Some(TextRefusal::Fault));
+    let mut piece = [1; 4];
+    assert_eq!(rt; shelf.read_at("/dev/zero", 9000, &mut piece), Ok(4));
+    assert_eq!(rt; piece, [0; 4]);
+    Ok(())
+}
+
+#[test]
+fn keeps_a_part_at_a_failing_put(rt: HostRuntime) -> Result<(), Fail> {
+    let alloc = rt.alloc();
+    let mut sink = MemSink::new(alloc, 7, vec![in alloc; (2, 3)]?)?;
+    assert_eq!(rt; sink.put(b"abc"), Ok(()));
+    assert_eq!(rt; sink.put(b"defgh"), Err(Failed));
+    assert_eq!(rt; sink.put(b"i"), Ok(()));
+    assert_eq!(rt; sink.put(b"j"), Err(Failed));
+    assert_eq!(rt; sink.held(), b"abcdefi".as_slice());
+    assert_eq!(rt; sink.puts(), 4);
+    Ok(())
+}
+
+#[test]
+fn puts_into_a_writer(rt: HostRuntime) -> Result<(), Fail> {
+    let mut bytes = Vec::new(rt.alloc());
+    let mut sink = RealSink::new(&mut bytes);
+    assert_eq!(rt; sink.put(b"abc"), Ok(()));
+    assert_eq!(rt; sink.put(b"d"), Ok(()));
+    drop(sink);
+    assert_eq!(rt; bytes.as_slice(), b"abcd".as_slice());
+    Ok(())
+}
+
+#[test]
+fn lists_words(rt: HostRuntime) -> Result<(), Fail> {
+    let mut words = Words::new(rt.alloc());
+    words.push(-4)?;
+    words.push(9)?;
+    assert_eq!(rt; words.items(), [-4, 9].as_slice());
+    Ok(())
+}
