@@ -160,33 +160,34 @@ module _ (around : Around) (operand : Expression) (sign : Sign) (operator : Bina
   unfolding step
   operator_refused many = ap (after_operand around operand sign) known ∙ ap (λ test. place_if test (Wants (with_operator around operand operator))) (le-ltb _ 256 many)
 
--- what is read, with an operator and its right operand
-pub reads_on : (least count : ℕ) (tokens : List Token) (left : Expr) (rest : List Token) (now : ℕ) (operator : BinaryOp) (after : List Token) (right : Expr) (behind : List Token) (sum : ℕ) (tree : Expr) →
-    ReadsExpression least count tokens left rest now → GoesOn least rest operator after → now < 256 →
-    ReadsExpression (operator_strength operator + 1) (now + 1) after right behind sum → StopsBelow (operator_strength operator + 1) behind →
-    tree ≡ expr.Binary operator left right → ReadsExpression least count tokens tree behind sum
-reads_on least count tokens left rest now operator after right behind sum tree read on few then stops same = record {
-  syntax = Infix read.syntax operator then.syntax;
-  same = same ∙ ap (λ e. expr.Binary operator e right) read.same ∙ ap (λ e. expr.Binary operator (expression_tree read.syntax) e) then.same;
-  counted = let a : now ≡ count + operator_count read.syntax = read.counted in let b : sum ≡ now + 1 + operator_count then.syntax = then.counted in omega arith;
-  within = then.within;
-  shorter = let a : length behind < length after = then.shorter in let b : length rest < length tokens = read.shorter in let d : length rest ≡ length (Mark on.sign ∷ after) = ap length on.same in omega arith;
-  leads = λ around e f.
-    read.leads around e f ∙
-    on_step (Has around read.syntax) (Wants (RightOf around read.syntax operator)) (Mark on.sign) rest after
-      (operator_step around read.syntax on.sign operator on.known (let h : least ≤ operator_strength operator = on.strong in omega arith) (let a : now ≡ count + operator_count read.syntax = read.counted in omega arith)) on.same ∙
-    then.leads (RightOf around read.syntax operator) refl (let a : now ≡ count + operator_count read.syntax = read.counted in omega arith) ∙
-    right_is_whole around read.syntax then.syntax operator behind stops;
-}
+-- What is read is read on, with an operator and its right operand.
+module _ (least count : ℕ) (tokens : List Token) (left : Expr) (rest : List Token) (now : ℕ) (operator : BinaryOp) (after : List Token) (bound : ℕ)
+    (read : ReadsExpression least count tokens left rest now) (on : GoesOn least rest operator after) (strong : bound ≡ operator_strength operator) where
+  to_operand : now < 256 → (around : Around) → least_strength around ≡ least → operators_before around ≡ count → run (Wants around) tokens ≡ run (Wants (RightOf around read.syntax operator)) after
+  to_operand few around e f =
+      read.leads around e f ∙
+      on_step (Has around read.syntax) (Wants (RightOf around read.syntax operator)) (Mark on.sign) rest after
+        (operator_step around read.syntax on.sign operator on.known (let h : least ≤ operator_strength operator = on.strong in omega arith) (let a : now ≡ count + operator_count read.syntax = read.counted in omega arith)) on.same
 
-pub refuses_on : (least count : ℕ) (tokens : List Token) (left : Expr) (rest : List Token) (now : ℕ) (operator : BinaryOp) (after : List Token) →
-    ReadsExpression least count tokens left rest now → GoesOn least rest operator after → now < 256 →
-    RefusesExpression (operator_strength operator + 1) (now + 1) after → RefusesExpression least count tokens
-refuses_on least count tokens left rest now operator after read on few refused around e f =
-    read.leads around e f ∙
-    on_step (Has around read.syntax) (Wants (RightOf around read.syntax operator)) (Mark on.sign) rest after
-      (operator_step around read.syntax on.sign operator on.known (let h : least ≤ operator_strength operator = on.strong in omega arith) (let a : now ≡ count + operator_count read.syntax = read.counted in omega arith)) on.same ∙
-    refused (RightOf around read.syntax operator) refl (let a : now ≡ count + operator_count read.syntax = read.counted in omega arith)
+  counted_on : (around : Around) → operators_before around ≡ count → operators_before (RightOf around read.syntax operator) ≡ now + 1
+  counted_on around f = let a : now ≡ count + operator_count read.syntax = read.counted in omega arith
+
+  pub reads_on : (right : Expr) (behind : List Token) (sum : ℕ) (tree : Expr) → now < 256 → ReadsExpression (bound + 1) (now + 1) after right behind sum → StopsBelow (bound + 1) behind →
+      tree ≡ expr.Binary operator left right → ReadsExpression least count tokens tree behind sum
+  reads_on right behind sum tree few then stops same = record {
+    syntax = Infix read.syntax operator then.syntax;
+    same = same ∙ ap (λ e. expr.Binary operator e right) read.same ∙ ap (λ e. expr.Binary operator (expression_tree read.syntax) e) then.same;
+    counted = let a : now ≡ count + operator_count read.syntax = read.counted in let b : sum ≡ now + 1 + operator_count then.syntax = then.counted in omega arith;
+    within = then.within;
+    shorter = let a : length behind < length after = then.shorter in let b : length rest < length tokens = read.shorter in let d : length rest ≡ length (Mark on.sign ∷ after) = ap length on.same in omega arith;
+    leads = λ around e f.
+      to_operand few around e f ∙
+      then.leads (RightOf around read.syntax operator) (ap (λ n. n + 1) (sym strong)) (counted_on around f) ∙
+      right_is_whole around read.syntax then.syntax operator behind (subst (λ n. StopsBelow (n + 1) behind) strong stops);
+  }
+
+  pub refuses_on : now < 256 → RefusesExpression (bound + 1) (now + 1) after → RefusesExpression least count tokens
+  refuses_on few refused around e f = to_operand few around e f ∙ refused (RightOf around read.syntax operator) (ap (λ n. n + 1) (sym strong)) (counted_on around f)
 
 pub refuses_many : (least count : ℕ) (tokens : List Token) (left : Expr) (rest : List Token) (now : ℕ) (operator : BinaryOp) (after : List Token) →
     ReadsExpression least count tokens left rest now → GoesOn least rest operator after → now ≡ 256 → RefusesExpression least count tokens
@@ -214,3 +215,42 @@ pub opens_body : (tokens here : List Token) (next : Option (Bor (List Token))) �
 unfolding step
 opens_body tokens here None before h = before ∙ refuses awaits_body here h
 opens_body tokens here (Some rest) before h = before ∙ on_step AtBody (Between []) _ _ _ refl h
+
+-- the operands of an expression
+pub reads_number : (least count : ℕ) (tokens rest : List Token) (value : ℤ) → count ≤ 256 → tokens ≡ Number value ∷ rest → ReadsExpression least count tokens (expr.Number value) rest count
+unfolding step
+reads_number least count tokens rest value few same = record {
+  syntax = Numeral value;
+  same = refl;
+  counted = omega arith;
+  within = few;
+  shorter = let d : length tokens ≡ length (Number value ∷ rest) = ap length same in omega arith;
+  leads = λ around e f. on_step (Wants around) (Has around (Numeral value)) _ _ _ refl same;
+}
+
+pub reads_name : (least count : ℕ) (tokens rest : List Token) (name copy : List ℕ) → count ≤ 256 → tokens ≡ Name name ∷ rest → copy ≡ name → length name ≤ 63 → ReadsExpression least count tokens (expr.Local copy) rest count
+unfolding step
+reads_name least count tokens rest name copy few same copied short = record {
+  syntax = Variable name;
+  same = ap expr.Local copied;
+  counted = omega arith;
+  within = few;
+  shorter = let d : length tokens ≡ length (Name name ∷ rest) = ap length same in omega arith;
+  leads = λ around e f. on_step (Wants around) (Has around (Variable name)) _ _ _ (ap (λ test. place_if test (Has around (Variable name))) (short_true name short)) same;
+}
+
+pub refuses_long : (tokens rest : List Token) (name : List ℕ) (around : Around) → tokens ≡ Name name ∷ rest → 63 < length name → run (Wants around) tokens ≡ None
+unfolding step
+refuses_long tokens rest name around same long = on_refusal (Wants around) _ _ _ (ap (λ test. place_if test (Has around (Variable name))) (short_false name long)) same
+
+pub refuses_nothing : (tokens : List Token) (around : Around) → tokens ≡ [] → run (Wants around) tokens ≡ None
+unfolding run
+refuses_nothing tokens around same = ap (run (Wants around)) same
+
+pub refuses_word : (tokens rest : List Token) (word : Keyword) (around : Around) → tokens ≡ Word word ∷ rest → run (Wants around) tokens ≡ None
+unfolding step
+refuses_word tokens rest word around same = on_refusal (Wants around) _ _ _ refl same
+
+pub refuses_mark : (tokens rest : List Token) (sign : Sign) (around : Around) → tokens ≡ Mark sign ∷ rest → run (Wants around) tokens ≡ None
+unfolding step
+refuses_mark tokens rest sign around same = on_refusal (Wants around) _ _ _ refl same

@@ -42,10 +42,16 @@ fn operand(alloc: Global, tokens: &[Token]) -> Result<(Expr, &[Token]), ReadRefu
     ensures { (count : ℕ) → count ≤ 256 → (least : ℕ) →
         MatchResult result (λ parts. ReadsExpression least count tokens.now parts.0 parts.1.now count) (λ refusal. refusal ≡ ReadRefusal.NotYet → RefusesExpression least count tokens.now) }
 {
-    match next(tokens) {
-        Some((Token::Number(value), rest)) => Ok((Expr::Number(*value), rest)),
-        Some((Token::Name(name), rest)) => Ok((Expr::Local(short_name(alloc, name)?), rest)),
-        _ => Err(ReadRefusal::NotYet),
+    let Some((first, rest)) = next(tokens) else {
+        return Err(ReadRefusal::NotYet);
+    };
+    match first {
+        Token::Number(value) => Ok((Expr::Number(*value), rest)),
+        Token::Name(name) => {
+            let name = short_name(alloc, name)?;
+            Ok((Expr::Local(name), rest))
+        }
+        Token::Word(_) | Token::Mark(_) => Err(ReadRefusal::NotYet),
     }
 }
 
