@@ -163,6 +163,14 @@ pub record ReadsStatement (here : List Statement → Place) (locals : ℕ) (toke
 abbrev pub RefusesStatement : (List Statement → Place) → ℕ → List Token → Type 0
 RefusesStatement here locals tokens = (body : List Statement) → sum_by local_count body ≡ locals → run (here body) tokens ≡ None
 
+-- From the tokens on, up to the rest, the machine reads statements with these trees, which declare so many locals.
+pub record ReadsStatements (tokens : List Token) (trees : List Stmt) (rest : List Token) (locals : ℕ) : Type 0 where
+  pub body : List Statement
+  pub same : trees ≡ map statement_tree body
+  pub counted : locals ≡ sum_by local_count body
+  pub within : locals ≤ 256
+  pub leads : run (Between []) tokens ≡ run (Between body) rest
+
 -- From the tokens on, up to the rest, the machine reads the statements of a body with these trees and the brace that
 -- ends it.
 pub record ReadsBody (tokens : List Token) (trees : List Stmt) (rest : List Token) : Type 0 where
