@@ -1,5 +1,5 @@
 -- A program that the walk takes comes to no part that it does not take, and spends no more ticks than it has statements.
-use Rattle.std.proofs.Common.{◌≡◌, ◌≢◌, ℕ, zero, suc, ◌+◌, ◌<◌, ◌≤◌, ℤ, pos, ◌+ℤ◌, Bool, true, false, ◌&&◌, Result, Ok, Err, List, [], ◌∷◌, length, refl, sym, ◌∙◌, subst, arith, cond}
+use Rattle.std.proofs.Common.{◌≡◌, ◌≢◌, ℕ, zero, suc, ◌+◌, ◌<◌, ◌≤◌, ℤ, pos, ◌+ℤ◌, Bool, true, false, ◌&&◌, Result, Ok, Err, List, [], ◌∷◌, ◌++◌, length, refl, sym, ◌∙◌, subst, arith, cond}
 use Rattle.cilk_tree.specs.declared.tree.BinaryOp.{BinaryOp}
 use Rattle.cilk_tree.specs.declared.tree.BinaryOp.TheVariants as op
 use Rattle.cilk_tree.specs.declared.tree.Expr.{Expr, roll-Expr, map-Expr, fold-roll-Expr, ind-Expr}
@@ -85,15 +85,16 @@ printing_told (suc left) value next some later = later left (omega arith)
 pub run_told : (names : List (List ℕ)) (body : List Stmt) (ticks : ℕ) (state : State) → is_serial_body names body ≡ true → length body ≤ ticks → IsTold (run ticks state body).end
 run_told names [] ticks state serial few = (λ e. cc, λ e. cc)
 run_told names (stmt.Declare name ∷ rest) ticks state serial few =
-    run_told (name ∷ names) rest ticks (assigned state name (pos 0)) (both_true _ (is_serial_body (name ∷ names) rest) serial).1 (omega arith)
+    let parts = both_true (is_serial_statement names (stmt.Declare name)) (is_serial_body (names ++ name ∷ []) rest) serial in
+    run_told (names ++ name ∷ []) rest ticks (assigned state name (pos 0)) parts.1 (omega arith)
 run_told names (stmt.Assign name value ∷ rest) ticks state serial few =
-    let outer = both_true (is_among names name && reads_only names value) (is_serial_body names rest) serial in
-    let inner = both_true (is_among names name) (reads_only names value) outer.0 in
-    given_told (value_of state value) _ (value_taken names state value inner.1) (λ v. run_told names rest ticks (assigned state name v) outer.1 (omega arith))
+    let parts = both_true (is_serial_statement names (stmt.Assign name value)) (is_serial_body names rest) serial in
+    let reads = (both_true (is_among names name) (reads_only names value) parts.0).1 in
+    given_told (value_of state value) _ (value_taken names state value reads) (λ v. run_told names rest ticks (assigned state name v) parts.1 (omega arith))
 run_told names (stmt.Print value ∷ rest) ticks state serial few =
-    let outer = both_true (reads_only names value) (is_serial_body names rest) serial in
-    given_told (value_of state value) _ (value_taken names state value outer.0)
-        (λ v. printing_told ticks v _ (omega arith) (λ left e. run_told names rest left state outer.1 (omega arith)))
+    let parts = both_true (is_serial_statement names (stmt.Print value)) (is_serial_body names rest) serial in
+    given_told (value_of state value) _ (value_taken names state value parts.0)
+        (λ v. printing_told ticks v _ (omega arith) (λ left e. run_told names rest left state parts.1 (omega arith)))
 run_told names (stmt.Put name index value ∷ rest) ticks state serial few = absurd (let f : false ≡ true = serial in cc)
 run_told names (stmt.If' a b c d e ∷ rest) ticks state serial few = absurd (let f : false ≡ true = serial in cc)
 run_told names (stmt.While' a b c ∷ rest) ticks state serial few = absurd (let f : false ≡ true = serial in cc)

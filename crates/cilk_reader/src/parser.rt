@@ -1,10 +1,21 @@
-ghost use Rattle.std.specs.Prelude.{◌≡◌, IfOk, MatchResult};
+ghost use Rattle.std.specs.Prelude.{◌≡◌, [], List, IfOk, MatchResult, MatchOption, None};
 ghost use Rattle.cilk_tree.specs.declared.tree.Program.{Program};
 ghost use Rattle.cilk_tree.specs.Spelling.{IsProgram};
+ghost use Rattle.cilk_reader.specs.Machine.{AtStart, Between, run, main_of};
 
+mod expression;
+mod statement;
+mod tokens;
+
+use crate::parser::statement::body_of;
+use crate::parser::tokens::{after_name, after_sign, after_word};
 use crate::refusal::ReadRefusal;
-use cilk_tree::{Program, Token};
-use std::alloc::Global;
+use cilk_tree::{Function, Keyword, Name, Program, Sign, Stmt, Token};
+use sqlite_items::Items;
+use std::alloc::{AllocError, Global};
+
+/// The name of the function that a program starts with.
+const MAIN: &[u8] = b"main";
 
 /// The program whose tokens these are. `NotYet` comes where they are those of none that is read today.
 pub(crate) fn program_of(alloc: Global, tokens: &[Token]) -> Result<Program, ReadRefusal>
@@ -13,8 +24,44 @@ pub(crate) fn program_of(alloc: Global, tokens: &[Token]) -> Result<Program, Rea
     ensures only { (program : Program) → IsProgram tokens.now program →
         MatchResult result (λ read. read ≡ program) (λ refusal. refusal ≡ ReadRefusal.Memory) }
 {
-    if tokens.is_empty() {
-        let _spare = Vec::<u8>::new(alloc);
+    let Some(rest) = after_head(tokens) else {
+        return Err(ReadRefusal::NotYet);
+    };
+    let (body, rest) = body_of(alloc, rest)?;
+    if !rest.is_empty() {
+        return Err(ReadRefusal::NotYet);
     }
-    Err(ReadRefusal::Memory)
+    Ok(main_alone(alloc, body)?)
+}
+
+/// The tokens after `int main() {`, where they begin so.
+fn after_head(tokens: &[Token]) -> Option<&[Token]>
+    ensures { MatchOption result (run AtStart tokens.now ≡ None) (λ rest. run AtStart tokens.now ≡ run (Between []) rest.now) }
+{
+    let rest = after_word(tokens, Keyword::Int)?;
+    let (name, rest) = after_name(rest)?;
+    if name.items() != MAIN {
+        return None;
+    }
+    let rest = after_sign(rest, Sign::OpenParen)?;
+    let rest = after_sign(rest, Sign::CloseParen)?;
+    after_sign(rest, Sign::OpenBrace)
+}
+
+/// The program that is `int main()` with this body alone.
+fn main_alone(alloc: Global, body: Items<Stmt>) -> Result<Program, AllocError>
+    ensures { IfOk result (λ program. program ≡ main_of body) }
+{
+    let mut functions = Items::new(alloc);
+    functions.push(Function {
+        cilk: false,
+        gives: true,
+        name: Name::from_slice(alloc, MAIN)?,
+        params: Items::new(alloc),
+        body,
+    })?;
+    Ok(Program {
+        shared: Items::new(alloc),
+        functions,
+    })
 }
