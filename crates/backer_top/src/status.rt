@@ -31,6 +31,24 @@ pub enum Status {
 }
 
 impl Status {
+    ghost use Rattle.std.specs.Prelude.{◌≡◌};
+    ghost use Rattle.backer_top.specs.Status.{status_number};
+
+    /// The number that the program ends with.
+    pub fn number(&self) -> u8
+        ensures { result ≡ status_number self.now }
+    {
+        match self {
+            Status::Done => 0,
+            Status::Words => 1,
+            Status::Source(_) => 2,
+            Status::ReadFault => 3,
+            Status::WriteFault => 4,
+            Status::Trap { kind: _, node: _ } => 5,
+            Status::Memory => 8,
+        }
+    }
+
     /// The line that tells the status on `err`, none at Done.
     pub(crate) fn line(self) -> &'static [u8] {
         match self {

@@ -8,11 +8,11 @@ use Rattle.cilk_tree.specs.declared.token.Token.{Token}
 use Rattle.cilk_tree.specs.declared.token.Token.TheVariants.{Name, Number, Word, Mark}
 use Rattle.cilk_tree.specs.Token.{keyword_text, sign_text}
 
--- the byte is from the first to the last
+-- the byte is from the first to the last, both included
 abbrev pub is_between : ℕ → ℕ → ℕ → Bool
 is_between first last byte = nat_le first byte && nat_le byte last
 
--- tab, the three ends of a line, page feed and the space
+-- the bytes 9 to 13, and the space
 abbrev pub is_blank : ℕ → Bool
 is_blank byte = is_between 9 13 byte || byte == 32
 
@@ -23,7 +23,7 @@ is_digit byte = is_between 48 57 byte
 abbrev pub is_letter : ℕ → Bool
 is_letter byte = is_between 97 122 byte || is_between 65 90 byte || byte == 95
 
--- what names and numbers are made of
+-- a letter, a digit or `_`
 abbrev pub is_word : ℕ → Bool
 is_word byte = is_letter byte || is_digit byte
 
@@ -45,14 +45,14 @@ StartsNoWord [] = Unit {0}
 StartsNoWord (byte ∷ rest) = is_word byte ≡ false
 
 -- A token ends where this text follows it: a name, number or reserved word at the end of the whole run of letters,
--- digits and `_`, a sign where no longer sign could be read.
+-- digits and `_`, a sign where no longer sign begins at the same place. Today each sign has one byte, so it always ends there.
 abbrev pub EndsBefore : Token → List ℕ → Type 0
 EndsBefore (Mark sign) rest = (other : Sign) (more : List ℕ) → sign_text sign ++ rest ≡ sign_text other ++ more → length (sign_text other) ≤ length (sign_text sign)
 EndsBefore (Name name) rest = StartsNoWord rest
 EndsBefore (Number value) rest = StartsNoWord rest
 EndsBefore (Word word) rest = StartsNoWord rest
 
--- The text is a gap of blanks, this token's lexeme, and the rest.
+-- The text is a gap of blanks, this token's lexeme, and the rest, and the token ends there.
 pub record StartsWith (text : List ℕ) (token : Token) (rest : List ℕ) : Type 0 where
   pub gap : List ℕ
   pub lexeme : List ℕ

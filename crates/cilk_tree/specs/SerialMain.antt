@@ -23,7 +23,7 @@ abbrev pub is_serial_operator : BinaryOp → Bool
 is_serial_operator op.Add = true
 is_serial_operator _ = false
 
--- one level of an expression, where each operand has its answer already
+-- one step of `reads_only`, where the operands are replaced by their own answers
 abbrev pub reads_only_here : List (List ℕ) → Expr-F Bool → Bool
 reads_only_here names (layer.Number value) = true
 reads_only_here names (layer.Local name) = is_among names name

@@ -32,7 +32,8 @@ local_count (Declaration name) = 1
 local_count (Assignment name value) = 0
 local_count (Printing value) = 0
 
--- The limits on a source: the bytes of a name, the operators of an expression, and the locals of a function.
+-- The limits on a program: the bytes of a name, the operators of an expression, and the locals of a function. Nothing nests,
+-- so no level is passed. How many bytes a source may have is said where it is read.
 pub record IsWithinLimits (body : List Statement) : Type 0 where
   pub names : AllByRecursion IsShort (program_tokens body)
   pub operators : AllByRecursion HasFewOperators body

@@ -48,7 +48,8 @@ operator_strength op.Mul = 6
 operator_strength op.Div = 6
 operator_strength op.Rem = 6
 
--- how strongly the parts of an expression hold together
+-- How strongly the parts of an expression hold together: an operand that is no operation more than any operator, of which
+-- the unary ones will have 7.
 abbrev pub strength : Expression → ℕ
 strength (Numeral value) = 8
 strength (Variable name) = 8
