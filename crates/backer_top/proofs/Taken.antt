@@ -10,7 +10,7 @@ use Rattle.cilk_tree.specs.declared.tree.Program.{Program}
 use Rattle.cilk_tree.specs.declared.tree.Shared.{Shared}
 use Rattle.cilk_tree.specs.declared.tree.Stmt.{Stmt}
 use Rattle.cilk_tree.specs.declared.tree.Stmt.TheVariants as stmt
-use Rattle.cilk_tree.specs.SerialMain.{is_among, is_serial_operator, reads_only_here, reads_only, is_serial_body, is_serial_source, IsSerialMain}
+use Rattle.cilk_tree.specs.SerialMain.{is_among, is_serial_operator, reads_only_here, reads_only, is_serial_statement, is_serial_body, is_serial_source, IsSerialMain}
 use Rattle.backer_top.specs.declared.status.TrapKind.TheVariants.{Overflow}
 use Rattle.backer_top.specs.declared.walk.Stop.{Stop}
 use Rattle.backer_top.specs.declared.walk.Stop.TheVariants.{Trap, Untaken}
