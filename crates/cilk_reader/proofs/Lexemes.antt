@@ -1,0 +1,1 @@
+-- What bytes a token may have, and that no other token has them.
