@@ -1,4 +1,4 @@
-ghost use Rattle.std.specs.Prelude.{◌≡◌, ◌≢◌, ◌<◌, ◌≤◌, ℕ, ℤ, ◌++◌, List, Err, length, drop, IfOk, IfSome, IsTrue, MatchOption, MatchResult};
+ghost use Rattle.std.specs.Prelude.{◌≡◌, ◌≢◌, ◌<◌, ◌≤◌, ℕ, ℤ, ◌++◌, List, Err, length, drop, IfOk, IfErr, IfSome, IsTrue, MatchOption, MatchResult};
 ghost use Rattle.std.specs.List.{list_all, prefix_len};
 ghost use Rattle.cilk_tree.specs.declared.token.Keyword.{Keyword};
 ghost use Rattle.cilk_tree.specs.declared.token.Sign.{Sign};
@@ -39,9 +39,9 @@ pub(crate) fn tokens_of(alloc: Global, text: &[u8]) -> Result<Vec<Token>, ReadRe
 /// The token that the text begins with, or `None` where it is blank to its end. `NotYet` comes where it begins with
 /// none that is read today.
 fn next_token(alloc: Global, text: &[u8]) -> Result<Option<Step>, ReadRefusal>
-    ensures found { IfOk result (λ next. IfSome next (λ step. StartsWith text.now step.token step.rest.now)) }
-    ensures blank { IfOk result (λ next. MatchOption next (IsTrue (list_all is_blank text.now)) (λ _. Unit {0})) }
-    ensures refused { MatchResult result (λ _. Unit {0}) (λ refusal. refusal ≡ ReadRefusal.NotYet →
+    ensures found { IfOk result (λ next. MatchOption next (IsTrue (list_all is_blank text.now))
+        (λ step. StartsWith text.now step.token step.rest.now)) }
+    ensures refused { IfErr result (λ refusal. refusal ≡ ReadRefusal.NotYet →
         (tokens : List Token) → Lexes text.now tokens → ⊥) }
 {
     let start = &text[gap_len(text)..];
