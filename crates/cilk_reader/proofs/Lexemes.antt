@@ -7,7 +7,7 @@ use Rattle.std.proofs.str.Laws.{order}
 use Rattle.std.proofs.lemmas.Bool.{and_parts, and_from, both_ways, or_left, or_right}
 use Rattle.std.proofs.lemmas.Bool.Decides.{nat_tests}
 use Rattle.std.proofs.lemmas.Fmt.{decimal_injective}
-use Rattle.std.proofs.lemmas.List.{append_cancel_left, take_at, drop_at}
+use Rattle.std.proofs.lemmas.List.{append_cancel_left, nil_from_length, take_at, drop_at}
 use Rattle.std.proofs.lemmas.Option.{none-some, same_Some}
 use Rattle.cilk_tree.specs.declared.token.Keyword.{Keyword}
 use Rattle.cilk_tree.specs.declared.token.Keyword.TheVariants.{Cilk, CilkFor, Else, FetchAdd, For, If, Int, Print, Return, Spawn, Sync, Void, While}
@@ -18,7 +18,7 @@ use Rattle.cilk_tree.specs.declared.token.Token.TheVariants.{Name, Number, Word,
 use Rattle.cilk_tree.specs.Lexeme.{is_blank, is_digit, is_letter, is_word, IsName, IsLexeme, StartsNoWord, EndsBefore}
 use Rattle.cilk_tree.specs.Token.{keyword_text, sign_text}
 use Rattle.cilk_reader.proofs.Numbers.{decimal_digits}
-use Rattle.cilk_reader.proofs.Runs.{run_unique}
+use Rattle.cilk_reader.proofs.Runs.{StartsWithout, run_unique}
 use Rattle.cilk_reader.proofs.Tables.{keywords, signs}
 
 -- the list begins with an element that passes
@@ -279,5 +279,26 @@ same_token bytes read all some h token k =
     (λ m. absurd (no_mark read h m))
     (token_kind read)
 
-pub no_mark : ℕ
-no_mark = 0
+pub begins_some : (p : ℕ → Bool) (bytes : List ℕ) → Begins p bytes → 0 < length bytes
+begins_some p [] h = absurd h
+begins_some p (x ∷ xs) h = omega arith
+
+begins_without : (p : ℕ → Bool) (bytes : List ℕ) → Begins p bytes → StartsWithout p bytes → ⊥
+begins_without p [] h k = h
+begins_without p (x ∷ xs) h k = both_ways (p x) k h
+
+-- where no token has the bytes of the word that a text begins with, the text begins with no token
+pub refused_word : (text word rest : List ℕ) → text ≡ word ++ rest → IsTrue (list_all is_word word) → StartsNoWord rest → 0 < length word → ((token : Token) → IsLexeme word token → ⊥) → (token : Token) (lexeme after : List ℕ) → text ≡ lexeme ++ after → IsLexeme lexeme token → EndsBefore token after → ⊥
+refused_word text word rest split all whole some none token lexeme after parts h ends =
+    ⊎_elim
+    (λ w. none token (subst (λ bs. IsLexeme bs token) (run_unique is_word lexeme word after rest (sym parts ∙ split) (word_token_bytes token lexeme w h).0 all (word_token_ends token after w ends) whole).0 h))
+    (λ m. begins_apart is_mark is_word (lexeme ++ after) mark_word (begins_append is_mark lexeme after (mark_bytes token m.0 lexeme m.1 h)) (subst (Begins is_word) (sym split ∙ parts) (begins_append is_word word rest (begins_all is_word word all some))))
+    (token_kind token)
+
+-- where a text begins with no word and no sign, it begins with no token
+pub refused_sign : (text word rest : List ℕ) → text ≡ word ++ rest → StartsNoWord rest → length word ≡ 0 → ((sign : Sign) (more : List ℕ) → text ≢ sign_text sign ++ more) → (token : Token) (lexeme after : List ℕ) → text ≡ lexeme ++ after → IsLexeme lexeme token → EndsBefore token after → ⊥
+refused_sign text word rest split whole empty none token lexeme after parts h ends =
+    ⊎_elim
+    (λ w. begins_without is_word rest (subst (Begins is_word) (sym parts ∙ split ∙ ap (λ bs. bs ++ rest) (nil_from_length word empty)) (begins_append is_word lexeme after (word_token_bytes token lexeme w h).1)) whole)
+    (λ m. none m.0 after (parts ∙ ap (λ bs. bs ++ after) (subst (IsLexeme lexeme) m.1 h)))
+    (token_kind token)

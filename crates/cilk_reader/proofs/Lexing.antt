@@ -2,7 +2,7 @@
 use Rattle.std.proofs.Common.{◌≡◌, ◌≢◌, ◌⊎◌, ℕ, ◌+◌, ◌<◌, ◌≤◌, Bool, true, false, not, IsTrue, List, [], ◌∷◌, ◌++◌, length, take, drop, sym, refl, ap, ◌∙◌, subst, ⊎_elim, arith, append_assoc, take-append-drop, length-append}
 use Rattle.std.specs.List.{list_all, prefix_len}
 use Rattle.std.proofs.lemmas.Bool.{and_parts, and_from, both_ways, not-true}
-use Rattle.std.proofs.lemmas.List.{append-nil}
+use Rattle.std.proofs.lemmas.List.{append-nil, nil_from_length}
 use Rattle.std.proofs.lemmas.List.Folds.{list_all-append}
 use Rattle.cilk_tree.specs.declared.token.Sign.{Sign}
 use Rattle.cilk_tree.specs.declared.token.Token.{Token}
@@ -10,7 +10,7 @@ use Rattle.cilk_tree.specs.declared.token.Token.TheVariants.{Mark}
 use Rattle.cilk_tree.specs.Lexeme.{is_blank, is_word, IsLexeme, EndsBefore, StartsWith, Lexes}
 use Rattle.cilk_tree.specs.Token.{sign_text}
 use Rattle.cilk_reader.proofs.Runs.{StartsWithout, run_all, run_ends, run_unique}
-use Rattle.cilk_reader.proofs.Lexemes.{Begins, IsWordToken, token_kind, word_token_bytes, word_token_ends, word_token_ended, mark_bytes, lexeme_begins, word_mark_apart, same_first, no_mark}
+use Rattle.cilk_reader.proofs.Lexemes.{Begins, begins_some, lexeme_begins, same_first}
 
 -- the text begins with this token, with no gap before it
 pub record StartsAt (text : List ℕ) (token : Token) (rest : List ℕ) : Type 0 where
@@ -55,7 +55,8 @@ starts_unique text rest after token other s t =
 
 -- a token takes one byte at least
 pub starts_shorter : (text rest : List ℕ) (token : Token) → StartsWith text token rest → length rest < length text
-starts_shorter text rest token s = ?
+starts_shorter text rest token s =
+    omega (arith, ap length s.parts, length-append (s.gap ++ s.lexeme) rest, length-append s.gap s.lexeme, begins_some (λ byte. not (is_blank byte)) s.lexeme (lexeme_begins token s.lexeme s.spelled))
 
 -- what `tokens` are the front of the text's tokens, where `rest` is left
 pub record SoFar (text : List ℕ) (tokens : List Token) (rest : List ℕ) : Type 0 where
@@ -91,22 +92,36 @@ so_far_only text rest tokens so_far blank all h = let m = so_far.only all h in n
 pub so_far_refused : (text rest : List ℕ) (tokens : List Token) → SoFar text tokens rest → ((more : List Token) → Lexes rest more → ⊥) → (all : List Token) → Lexes text all → ⊥
 so_far_refused text rest tokens so_far none all h = let m = so_far.only all h in none m.0 m.2
 
--- ---- the parts of a step: `start` is the text from its first byte on that is no blank
-abbrev pub after_gap : List ℕ → List ℕ
-after_gap text = drop (prefix_len is_blank text) text
+-- the text from its first byte on that is no blank
+abbrev pub past_gap : List ℕ → List ℕ
+past_gap text = drop (prefix_len is_blank text) text
 
-gap_split : (text : List ℕ) → text ≡ take (prefix_len is_blank text) text ++ after_gap text
+gap_split : (text : List ℕ) → text ≡ take (prefix_len is_blank text) text ++ past_gap text
 gap_split text = sym (take-append-drop (prefix_len is_blank text) text)
 
-pub blank_from_empty : (text : List ℕ) → length (after_gap text) ≡ 0 → IsTrue (list_all is_blank text)
-blank_from_empty text empty = ?
+pub blank_from_empty : (text : List ℕ) → length (past_gap text) ≡ 0 → IsTrue (list_all is_blank text)
+blank_from_empty text empty =
+    subst (λ bs. IsTrue (list_all is_blank bs)) (sym (gap_split text))
+    (all_append is_blank (take (prefix_len is_blank text) text) (past_gap text) (run_all is_blank text) (subst (λ bs. IsTrue (list_all is_blank bs)) (sym (nil_from_length (past_gap text) empty)) refl))
 
-pub starts_after_gap : (text rest : List ℕ) (token : Token) → StartsAt (after_gap text) token rest → StartsWith text token rest
-starts_after_gap text rest token s = record {
+pub starts_past_gap : (text lexeme rest : List ℕ) (token : Token) → past_gap text ≡ lexeme ++ rest → IsLexeme lexeme token → EndsBefore token rest → StartsWith text token rest
+starts_past_gap text lexeme rest token parts spelled ends = record {
   gap = take (prefix_len is_blank text) text;
-  lexeme = s.lexeme;
-  parts = gap_split text ∙ ap (λ bs. take (prefix_len is_blank text) text ++ bs) s.parts ∙ sym (append_assoc (take (prefix_len is_blank text) text) s.lexeme rest);
+  lexeme = lexeme;
+  parts = gap_split text ∙ ap (λ bs. take (prefix_len is_blank text) text ++ bs) parts ∙ sym (append_assoc (take (prefix_len is_blank text) text) lexeme rest);
   blank = run_all is_blank text;
-  spelled = s.spelled;
-  ends = s.ends;
+  spelled = spelled;
+  ends = ends;
 }
+
+some_not_blank : (bytes : List ℕ) → 0 < length bytes → StartsWithout is_blank bytes → IsTrue (list_all is_blank bytes) → ⊥
+some_not_blank [] some begins blank = omega arith
+some_not_blank (x ∷ xs) some begins blank = both_ways (is_blank x) begins (and_parts (is_blank x) (list_all is_blank xs) blank).0
+
+-- where a text begins with no token after its gap, it is divided into no tokens
+pub lexes_refused : (text : List ℕ) → 0 < length (past_gap text) → ((token : Token) (lexeme rest : List ℕ) → past_gap text ≡ lexeme ++ rest → IsLexeme lexeme token → EndsBefore token rest → ⊥) → (tokens : List Token) → Lexes text tokens → ⊥
+lexes_refused text some none [] blank =
+    some_not_blank (past_gap text) some (run_ends is_blank text) (all_append_parts is_blank (take (prefix_len is_blank text) text) (past_gap text) (subst (λ bs. IsTrue (list_all is_blank bs)) (gap_split text) blank)).1
+lexes_refused text some none (token ∷ tokens) (rest, s, more) =
+    let at = at_start text (take (prefix_len is_blank text) text) (past_gap text) rest token (gap_split text) (run_all is_blank text) (run_ends is_blank text) s in
+    none token at.lexeme rest at.parts at.spelled at.ends

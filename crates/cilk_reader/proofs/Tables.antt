@@ -9,7 +9,7 @@ use Rattle.cilk_tree.specs.declared.token.Keyword.TheVariants.{Cilk, CilkFor, El
 use Rattle.cilk_tree.specs.declared.token.Sign.{Sign}
 use Rattle.cilk_tree.specs.declared.token.Sign.TheVariants.{Plus, Assign, OpenParen, CloseParen, OpenBrace, CloseBrace, Semicolon}
 use Rattle.cilk_tree.specs.declared.token.Token.TheVariants.{Mark}
-use Rattle.cilk_tree.specs.Lexeme.{StartsWith, EndsBefore}
+use Rattle.cilk_tree.specs.Lexeme.{EndsBefore}
 use Rattle.cilk_tree.specs.Token.{keyword_text, sign_text}
 
 abbrev pub keywords : List Keyword
@@ -78,13 +78,6 @@ longest_from_first text sign (begins, k, within, here, before) other more e =
     (λ later. subst (λ s. sign_len other ≤ sign_len s) (here other) (subst (λ s. sign_len s ≤ sign_len (get_or signs k other)) listed.2 (falls_at sign_len signs k listed.0 other refl later listed.1)))
     (order listed.0 k)
 
-pub sign_from_first : (text : List ℕ) (r : Option Sign) → FirstOf (λ sign. text ≡ sign_text sign ++ drop (length (sign_text sign)) text) (λ sign. (rest : List ℕ) → text ≢ sign_text sign ++ rest) signs r → MatchOption r ((sign : Sign) (rest : List ℕ) → text ≢ sign_text sign ++ rest) (λ sign. StartsWith text (Mark sign) (drop (length (sign_text sign)) text))
+pub sign_from_first : (text : List ℕ) (r : Option Sign) → FirstOf (λ sign. text ≡ sign_text sign ++ drop (length (sign_text sign)) text) (λ sign. (rest : List ℕ) → text ≢ sign_text sign ++ rest) signs r → MatchOption r ((sign : Sign) (rest : List ℕ) → text ≢ sign_text sign ++ rest) (λ sign. (text ≡ sign_text sign ++ drop (length (sign_text sign)) text) × EndsBefore (Mark sign) (drop (length (sign_text sign)) text))
 sign_from_first text None first = λ sign. of_listed (λ sign. (rest : List ℕ) → text ≢ sign_text sign ++ rest) signs sign first (sign_listed sign)
-sign_from_first text (Some sign) first = record {
-  gap = [];
-  lexeme = sign_text sign;
-  parts = first.0;
-  blank = refl;
-  spelled = refl;
-  ends = λ other more e. longest_from_first text sign first other more (first.0 ∙ e);
-}
+sign_from_first text (Some sign) first = (first.0, λ other more e. longest_from_first text sign first other more (first.0 ∙ e))

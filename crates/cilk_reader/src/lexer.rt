@@ -4,7 +4,7 @@ ghost use Rattle.cilk_tree.specs.declared.token.Keyword.{Keyword};
 ghost use Rattle.cilk_tree.specs.declared.token.Sign.{Sign};
 ghost use Rattle.cilk_tree.specs.declared.token.Token.{Token};
 ghost use Rattle.cilk_tree.specs.declared.token.Token.TheVariants.{Number, Mark};
-ghost use Rattle.cilk_tree.specs.Lexeme.{is_blank, is_digit, is_letter, is_word, IsLexeme, Lexes, StartsWith};
+ghost use Rattle.cilk_tree.specs.Lexeme.{is_blank, is_digit, is_letter, is_word, IsLexeme, EndsBefore, Lexes, StartsNoWord, StartsWith};
 ghost use Rattle.cilk_tree.specs.Token.{keyword_text, sign_text};
 
 use crate::refusal::ReadRefusal;
@@ -36,37 +36,67 @@ pub(crate) fn tokens_of(alloc: Global, text: &[u8]) -> Result<Vec<Token>, ReadRe
     Ok(tokens)
 }
 
-/// The token that the text begins with, or `None` where it is blank to its end. `NotYet` comes where it begins with
-/// none that is read today.
+/// The token that the text begins with, after a gap, or `None` where it is blank to its end. `NotYet` comes where the
+/// text is divided into no tokens.
 fn next_token(alloc: Global, text: &[u8]) -> Result<Option<Step>, ReadRefusal>
     ensures found { IfOk result (λ next. MatchOption next (IsTrue (list_all is_blank text.now))
         (λ step. StartsWith text.now step.token step.rest.now)) }
     ensures refused { IfErr result (λ refusal. refusal ≡ ReadRefusal.NotYet →
         (tokens : List Token) → Lexes text.now tokens → ⊥) }
 {
-    let start = &text[gap_len(text)..];
+    let start = after_gap(text);
     if start.is_empty() {
         return Ok(None);
     }
-    let len = word_len(start);
-    if len > 0 {
-        let token = word_token(alloc, &start[..len])?;
-        return Ok(Some(Step { token, rest: &start[len..] }));
-    }
-    let sign = sign_at(start).ok_or(ReadRefusal::NotYet)?;
-    Ok(Some(Step { token: Token::Mark(sign), rest: &start[sign.text().len()..] }))
+    let step = first_token(alloc, start)?;
+    Ok(Some(step))
+}
+
+/// The text from its first byte on that is no blank.
+fn after_gap(text: &[u8]) -> &[u8]
+    ensures { result.now ≡ drop (prefix_len is_blank text.now) text.now }
+{
+    &text[gap_len(text)..]
 }
 
 /// How many blanks the text begins with.
 fn gap_len(text: &[u8]) -> usize
-    ensures { result ≡ prefix_len is_blank text.now }
+    ensures longest { result ≡ prefix_len is_blank text.now }
+    ensures within { result ≤ length text.now }
 {
     text.iter().take_while(|byte| is_blank(**byte)).count()
 }
 
+/// The token that the text begins with, with no gap before it. `NotYet` comes where it begins with none.
+fn first_token(alloc: Global, text: &[u8]) -> Result<Step, ReadRefusal>
+    ensures found { IfOk result (λ step. (lexeme : List ℕ) × (text.now ≡ lexeme ++ step.rest.now)
+        × IsLexeme lexeme step.token × EndsBefore step.token step.rest.now) }
+    ensures refused { IfErr result (λ refusal. refusal ≡ ReadRefusal.NotYet →
+        (token : Token) (lexeme rest : List ℕ) → text.now ≡ lexeme ++ rest → IsLexeme lexeme token → EndsBefore token rest → ⊥) }
+{
+    let (word, rest) = split_word(text);
+    if word.is_empty() {
+        let sign = sign_at(text).ok_or(ReadRefusal::NotYet)?;
+        let rest = &text[sign.text().len()..];
+        return Ok(Step { token: Token::Mark(sign), rest });
+    }
+    let token = word_token(alloc, word)?;
+    Ok(Step { token, rest })
+}
+
+/// The letters, digits and `_` that the text begins with, and what follows them.
+fn split_word(text: &[u8]) -> (&[u8], &[u8])
+    ensures parts { text.now ≡ result.0.now ++ result.1.now }
+    ensures word { IsTrue (list_all is_word result.0.now) }
+    ensures whole { StartsNoWord result.1.now }
+{
+    text.split_at(word_len(text))
+}
+
 /// How many letters, digits and `_` the text begins with.
 fn word_len(text: &[u8]) -> usize
-    ensures { result ≡ prefix_len is_word text.now }
+    ensures longest { result ≡ prefix_len is_word text.now }
+    ensures within { result ≤ length text.now }
 {
     text.iter().take_while(|byte| is_word(**byte)).count()
 }
@@ -135,7 +165,8 @@ fn name_of(alloc: Global, word: &[u8]) -> Result<Name, AllocError>
 /// The longest sign that the text begins with.
 fn sign_at(text: &[u8]) -> Option<Sign>
     ensures { MatchOption result ((sign : Sign) (rest : List ℕ) → text.now ≢ sign_text sign ++ rest)
-        (λ sign. StartsWith text.now (Mark sign) (drop (length (sign_text sign)) text.now)) }
+        (λ sign. (text.now ≡ sign_text sign ++ drop (length (sign_text sign)) text.now)
+            × EndsBefore (Mark sign) (drop (length (sign_text sign)) text.now)) }
 {
     Sign::ALL.iter().copied().find(|sign| text.starts_with(sign.text()))
 }

@@ -4,7 +4,7 @@ use Rattle.cilk_tree.specs.declared.token.Keyword.{Keyword}
 use Rattle.cilk_tree.specs.declared.token.Sign.{Sign}
 use Rattle.cilk_tree.specs.declared.token.Token.{Token}
 use Rattle.cilk_tree.specs.declared.token.Token.TheVariants.{Number, Mark}
-use Rattle.cilk_tree.specs.Lexeme.{is_blank, is_digit, is_letter, is_word, IsLexeme, Lexes, StartsWith}
+use Rattle.cilk_tree.specs.Lexeme.{is_blank, is_digit, is_letter, is_word, IsLexeme, EndsBefore, Lexes, StartsNoWord, StartsWith}
 use Rattle.cilk_tree.specs.Token.{keyword_text, sign_text}
 use Rattle.cilk_reader.proofs.lexer.tokens_of.Goals as goal
 
