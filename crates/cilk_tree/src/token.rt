@@ -31,6 +31,22 @@ pub enum Keyword {
 }
 
 impl Keyword {
+    pub const ALL: [Keyword; 13] = [
+        Keyword::Cilk,
+        Keyword::CilkFor,
+        Keyword::Else,
+        Keyword::FetchAdd,
+        Keyword::For,
+        Keyword::If,
+        Keyword::Int,
+        Keyword::Print,
+        Keyword::Return,
+        Keyword::Spawn,
+        Keyword::Sync,
+        Keyword::Void,
+        Keyword::While,
+    ];
+
     /// How the word is written.
     pub fn text(self) -> &'static [u8]
         ensures { result.now ≡ keyword_text self }
@@ -66,6 +82,17 @@ pub enum Sign {
 }
 
 impl Sign {
+    /// All the signs, a longer one before a shorter one.
+    pub const ALL: [Sign; 7] = [
+        Sign::Plus,
+        Sign::Assign,
+        Sign::OpenParen,
+        Sign::CloseParen,
+        Sign::OpenBrace,
+        Sign::CloseBrace,
+        Sign::Semicolon,
+    ];
+
     /// How the sign is written.
     pub fn text(self) -> &'static [u8]
         ensures { result.now ≡ sign_text self }
