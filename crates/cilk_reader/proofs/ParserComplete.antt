@@ -1,19 +1,18 @@
 -- The machine reads the tokens of each program.
-use Rattle.std.proofs.Common.{◌≡◌, ℕ, ◌+◌, ◌≤◌, ◌<◌, Bool, true, false, ◌&&◌, nat_lt, Option, Some, None, IsSome, MatchOption, List, [], ◌∷◌, ◌++◌, length, codes, sum_by, map, refl, ap, sym, ◌∙◌, arith, subst, append_assoc}
+use Rattle.std.proofs.Common.{◌≡◌, ℕ, ◌+◌, ◌≤◌, ◌<◌, ◌&&◌, nat_lt, Option, Some, None, IsSome, MatchOption, List, [], ◌∷◌, ◌++◌, sum_by, refl, ap, sym, ◌∙◌, arith, append_assoc}
 use Rattle.std.specs.List.{AllByRecursion, flat_map}
 use Rattle.std.proofs.lemmas.Bool.{lt-ltb}
 use Rattle.std.proofs.lemmas.List.{append-nil}
 use Rattle.std.proofs.lemmas.List.Sums.{sum_by_push, sum_by-cons}
-use Rattle.cilk_tree.specs.declared.token.Keyword.TheVariants as keyword
 use Rattle.cilk_tree.specs.declared.token.Sign.{Sign}
-use Rattle.cilk_tree.specs.declared.token.Sign.TheVariants.{Plus, Assign, OpenParen, CloseParen, OpenBrace, CloseBrace, Semicolon}
+use Rattle.cilk_tree.specs.declared.token.Sign.TheVariants.{Plus, CloseParen, CloseBrace, Semicolon}
 use Rattle.cilk_tree.specs.declared.token.Token.{Token}
-use Rattle.cilk_tree.specs.declared.token.Token.TheVariants.{Name, Number, Word, Mark}
+use Rattle.cilk_tree.specs.declared.token.Token.TheVariants.{Mark}
 use Rattle.cilk_tree.specs.declared.tree.BinaryOp.{BinaryOp}
 use Rattle.cilk_tree.specs.declared.tree.BinaryOp.TheVariants as op
 use Rattle.cilk_tree.specs.Spelling.{IsShort, operator_count, HasFewOperators, local_count, IsWithinLimits}
 use Rattle.cilk_tree.specs.Syntax.{Expression, Numeral, Variable, Infix, Statement, Declaration, Assignment, Printing, operator_sign, operator_strength, strength, IsGrouped, IsGroupedStatement, sign_tokens, expression_tokens, statement_tokens, program_tokens}
-use Rattle.cilk_reader.specs.Machine.{Around, AssignedTo, Printed, RightOf, Place, AtStart, AtMain, AtParameters, AtParametersEnd, AtBody, Between, AfterInt, AfterDeclared, AfterName, AfterPrint, Wants, Has, AfterPrinted, AtEnd, sign_operator, least_strength, operators_before, place_if, step, finish, run, first_operator, StopsBelow}
+use Rattle.cilk_reader.specs.Machine.{Around, AssignedTo, Printed, RightOf, AtStart, Between, AfterInt, AfterDeclared, AfterName, AfterPrint, Wants, Has, AfterPrinted, sign_operator, least_strength, operators_before, place_if, step, run, first_operator, StopsBelow}
 use Rattle.cilk_reader.proofs.ParserSteps.{on_step, short_true, operator_step, right_is_whole}
 
 -- a list of short tokens, in two parts
@@ -61,7 +60,7 @@ complete_expression (Variable name) around rest grouped short strong few stops =
 complete_expression (Infix left operator right) around rest grouped short strong few stops =
     let has = has_sign operator grouped.0 in
     let tokens : expression_tokens left ++ sign_tokens (operator_sign operator) ++ expression_tokens right ++ rest ≡ expression_tokens left ++ (Mark has.sign ∷ (expression_tokens right ++ rest)) =
-      ap (λ s. expression_tokens left ++ sign_tokens s ++ expression_tokens right ++ rest) has.written ∙ simp append_assoc in
+    ap (λ s. expression_tokens left ++ sign_tokens s ++ expression_tokens right ++ rest) has.written ∙ simp append_assoc in
     let first = short_parts (expression_tokens left ++ sign_tokens (operator_sign operator)) (expression_tokens right) short in
     let short_left = (short_parts (expression_tokens left) (sign_tokens (operator_sign operator)) first.0).0 in
     ap (run (Wants around)) tokens ∙
@@ -82,7 +81,7 @@ unfolding step
 complete_statement (Declaration name) body rest grouped short few locals =
     on_step (Between body) (AfterInt body) _ _ _ refl refl ∙
     on_step (AfterInt body) (AfterDeclared body name) _ _ _
-      (ap (λ test. place_if (test && nat_lt (sum_by local_count body) 256) (AfterDeclared body name)) (short_true name short.1.0) ∙ ap (λ test. place_if test (AfterDeclared body name)) (lt-ltb (sum_by local_count body) 256 (omega arith))) refl ∙
+    (ap (λ test. place_if (test && nat_lt (sum_by local_count body) 256) (AfterDeclared body name)) (short_true name short.1.0) ∙ ap (λ test. place_if test (AfterDeclared body name)) (lt-ltb (sum_by local_count body) 256 (omega arith))) refl ∙
     on_step (AfterDeclared body name) (Between (body ++ Declaration name ∷ [])) _ _ _ refl refl
 complete_statement (Assignment name value) body rest grouped short few locals =
     on_step (Between body) (AfterName body name) _ _ _ (ap (λ test. place_if test (AfterName body name)) (short_true name short.0)) refl ∙

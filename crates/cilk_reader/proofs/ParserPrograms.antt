@@ -1,5 +1,5 @@
 -- What the parser answers, from what the machine does.
-use Rattle.std.proofs.Common.{Bool, true, false, ◌==◌, length, arith, ◌≡◌, ◌≢◌, Option, Some, None, List, [], ◌∷◌, map, refl, ap, sym, ◌∙◌}
+use Rattle.std.proofs.Common.{Bool, true, false, ◌==◌, length, arith, ◌≡◌, ◌≢◌, Some, None, List, [], ◌∷◌, refl, ap, sym, ◌∙◌}
 use Rattle.std.proofs.lemmas.Option.{same_Some}
 use Rattle.std.proofs.lemmas.Bool.Decides.{nat_tests}
 use Rattle.cilk_tree.specs.declared.token.Token.{Token}
@@ -9,7 +9,7 @@ use Rattle.cilk_tree.specs.Spelling.{IsProgram}
 use Rattle.cilk_tree.specs.Syntax.{Statement, program_tree}
 use Rattle.cilk_reader.specs.declared.refusal.ReadRefusal.{ReadRefusal}
 use Rattle.cilk_reader.specs.declared.refusal.ReadRefusal.TheVariants.{NotYet, Memory}
-use Rattle.cilk_reader.specs.Machine.{AtStart, Between, AtEnd, step, run, main_of, ReadsBody, RefusesBody}
+use Rattle.cilk_reader.specs.Machine.{AtStart, Between, AtEnd, step, run, main_of, ReadsBody}
 use Rattle.cilk_reader.proofs.ParserSteps.{on_refusal}
 use Rattle.cilk_reader.proofs.ParserComplete.{complete}
 use Rattle.cilk_reader.proofs.ParserSound.{sound}

@@ -1,5 +1,5 @@
 -- What the machine reads is a program.
-use Rattle.std.proofs.Common.{◌≡◌, ℕ, ◌+◌, ◌≤◌, ◌<◌, Bool, true, false, ◌&&◌, nat_le, nat_lt, Option, Some, None, IsSome, option_and_then, if◌then◌else◌, List, [], ◌∷◌, ◌++◌, length, codes, sum_by, refl, ap, sym, ◌∙◌, arith, subst, append_assoc}
+use Rattle.std.proofs.Common.{◌≡◌, ℕ, ◌+◌, ◌≤◌, ◌<◌, Bool, true, false, ◌&&◌, nat_lt, Option, Some, None, IsSome, option_and_then, if◌then◌else◌, List, [], ◌∷◌, ◌++◌, length, codes, sum_by, refl, ap, sym, ◌∙◌, arith, subst, append_assoc}
 use Rattle.std.specs.List.{AllByRecursion, flat_map}
 use Rattle.std.specs.Option.{IfSome}
 use Rattle.std.specs.Str.{bytes_eq}
@@ -17,8 +17,8 @@ use Rattle.cilk_tree.specs.declared.token.Token.TheVariants.{Name, Number, Word,
 use Rattle.cilk_tree.specs.declared.tree.BinaryOp.{BinaryOp}
 use Rattle.cilk_tree.specs.declared.tree.BinaryOp.TheVariants as op
 use Rattle.cilk_tree.specs.Spelling.{IsShort, operator_count, HasFewOperators, local_count, IsWithinLimits}
-use Rattle.cilk_tree.specs.Syntax.{Expression, Numeral, Variable, Infix, Statement, Declaration, Assignment, Printing, operator_sign, operator_strength, strength, IsGrouped, IsGroupedStatement, sign_tokens, expression_tokens, statement_tokens, program_tokens}
-use Rattle.cilk_reader.specs.Machine.{Around, AssignedTo, Printed, RightOf, Place, AtStart, AtMain, AtParameters, AtParametersEnd, AtBody, Between, AfterInt, AfterDeclared, AfterName, AfterPrint, Wants, Has, AfterPrinted, AtEnd, sign_operator, least_strength, operators_before, with_operator, at_end_of, place_if, after_operand, is_short, step, finish, run}
+use Rattle.cilk_tree.specs.Syntax.{Expression, Variable, Infix, Statement, Declaration, Assignment, Printing, operator_sign, operator_strength, strength, IsGrouped, IsGroupedStatement, sign_tokens, expression_tokens, statement_tokens, program_tokens}
+use Rattle.cilk_reader.specs.Machine.{Around, AssignedTo, Printed, RightOf, Place, AtStart, AtMain, AtParameters, AtParametersEnd, AtBody, Between, AfterInt, AfterDeclared, AfterName, AfterPrint, Wants, Has, AfterPrinted, AtEnd, least_strength, operators_before, with_operator, at_end_of, place_if, is_short, step, finish, run}
 
 -- the tokens that were read before an operand
 abbrev pub around_tokens : Around → List Token
@@ -164,7 +164,7 @@ module _ (sign : Sign) (operator : BinaryOp) (written : operator_sign operator �
   operates (Printed body) operand h few weak = taken (Printed body) operand h few weak (omega arith)
   operates (RightOf around left before) operand h few weak =
       choice around left operand before (nat_lt (operator_strength before) (operator_strength operator)) refl h few weak
-        (λ weaker. operates around (Infix left before operand) (whole around left operand before h) (let a : operators_before around + operator_count left + 1 + operator_count operand < 256 = few in omega arith) weaker)
+      (λ weaker. operates around (Infix left before operand) (whole around left operand before h) (let a : operators_before around + operator_count left + 1 + operator_count operand < 256 = few in omega arith) weaker)
 
 -- The sign ends the expression.
 pub record Ends (around : Around) (operand : Expression) (sign : Sign) (next : Place) : Type 0 where
@@ -276,11 +276,12 @@ unfolding run
 reached [] seen here body h e = rw append-nil (subst (λ place. Reaches seen place) (at_end here body e) h)
 reached (token ∷ tokens) seen here body h e =
     let onward : (next : Option Place) → IfSome next (Follows here token) → option_and_then (λ place. run place tokens) next ≡ Some body → Reaches (seen ++ token ∷ tokens) (AtEnd body) =
-      λ next. elim next as (λ o. IfSome o (Follows here token) → option_and_then (λ place. run place tokens) o ≡ Some body → Reaches (seen ++ token ∷ tokens) (AtEnd body)) [
-        None ↦ λ f g. absurd (cc)
-        | Some place ↦ λ f g. subst (λ t. Reaches t (AtEnd body)) (append_assoc seen (token ∷ []) tokens)
+    λ next. elim next as (λ o. IfSome o (Follows here token) → option_and_then (λ place. run place tokens) o ≡ Some body → Reaches (seen ++ token ∷ tokens) (AtEnd body)) [
+      | None ↦ λ f g. absurd (cc)
+      | Some place ↦ λ f g. subst (λ t. Reaches t (AtEnd body)) (append_assoc seen (token ∷ []) tokens)
           (reached tokens (seen ++ token ∷ []) place body
-            (record { valid = f.valid; same = ap (λ t. t ++ token ∷ []) h.same ∙ sym f.same; short = all_pushed IsShort seen token h.short f.short }) g) ] in
+          (record { valid = f.valid; same = ap (λ t. t ++ token ∷ []) h.same ∙ sym f.same; short = all_pushed IsShort seen token h.short f.short }) g)
+    ] in
     onward (step here token) (follows here token h.valid) e
 
 -- What the machine reads has the tokens of its syntax, which keeps the rules.

@@ -1,24 +1,21 @@
 -- What the machine does at the tokens of a statement.
-use Rattle.std.proofs.Common.{Result, Ok, Err, MatchResult, Bor, ◌≡◌, ◌≢◌, ℕ, ℤ, ◌+◌, ◌≤◌, ◌<◌, Bool, true, false, ◌&&◌, nat_lt, Option, Some, None, option_and_then, MatchOption, List, [], ◌∷◌, ◌++◌, length, sum_by, map, refl, ap, sym, ◌∙◌, arith, subst}
+use Rattle.std.proofs.Common.{Result, Ok, Err, MatchResult, Bor, ◌≡◌, ◌≢◌, ℕ, ℤ, ◌+◌, ◌≤◌, ◌<◌, ◌&&◌, nat_lt, Some, None, List, [], ◌∷◌, ◌++◌, length, sum_by, map, refl, ap, sym, ◌∙◌, arith}
 use Rattle.std.proofs.lemmas.Bool.{lt-ltb, le-ltb}
-use Rattle.std.proofs.lemmas.List.{map-append}
-use Rattle.std.proofs.lemmas.List.Sums.{sum_by_push}
 use Rattle.cilk_tree.specs.declared.token.Keyword.{Keyword}
 use Rattle.cilk_tree.specs.declared.token.Keyword.TheVariants as keyword
 use Rattle.cilk_tree.specs.declared.token.Sign.{Sign}
-use Rattle.cilk_tree.specs.declared.token.Sign.TheVariants.{Plus, Assign, OpenParen, CloseParen, OpenBrace, CloseBrace, Semicolon}
+use Rattle.cilk_tree.specs.declared.token.Sign.TheVariants.{Plus, Assign, OpenParen, CloseParen, CloseBrace, Semicolon}
 use Rattle.cilk_tree.specs.declared.token.Token.{Token}
 use Rattle.cilk_tree.specs.declared.token.Token.TheVariants.{Name, Number, Word, Mark}
-use Rattle.cilk_tree.specs.declared.tree.BinaryOp.{BinaryOp}
 use Rattle.cilk_tree.specs.declared.tree.Expr.{Expr}
 use Rattle.cilk_tree.specs.declared.tree.Stmt.{Stmt}
 use Rattle.cilk_tree.specs.declared.tree.Stmt.TheVariants as stmt
 use Rattle.cilk_tree.specs.Spelling.{local_count}
-use Rattle.cilk_tree.specs.Syntax.{Expression, Statement, Declaration, Assignment, Printing, operator_strength, statement_tree}
-use Rattle.cilk_reader.specs.Machine.{Around, AssignedTo, Printed, Place, Between, AfterInt, AfterDeclared, AfterName, AfterPrint, Wants, Has, AfterPrinted, AtEnd, sign_operator, at_end_of, place_if, after_operand, is_short, step, finish, run, first_operator, StopsBelow, ReadsExpression, RefusesExpression, ReadsStatement, RefusesStatement, ReadsStatements, ReadsBody, RefusesBody}
+use Rattle.cilk_tree.specs.Syntax.{Expression, Statement, Declaration, Assignment, Printing, statement_tree}
+use Rattle.cilk_reader.specs.Machine.{AssignedTo, Printed, Place, Between, AfterInt, AfterDeclared, AfterName, AfterPrint, Wants, Has, AfterPrinted, AtEnd, place_if, step, run, StopsBelow, ReadsExpression, RefusesExpression, ReadsStatement, RefusesStatement, ReadsStatements, ReadsBody, RefusesBody}
 use Rattle.cilk_reader.specs.declared.refusal.ReadRefusal.{ReadRefusal}
 use Rattle.cilk_reader.specs.declared.refusal.ReadRefusal.TheVariants.{NotYet}
-use Rattle.cilk_reader.proofs.ParserSteps.{on_step, on_refusal, refuses, awaits_declared, awaits_assigned, awaits_print, awaits_printed, short_true, short_false}
+use Rattle.cilk_reader.proofs.ParserSteps.{on_step, on_refusal, refuses, awaits_declared, awaits_printed, short_true, short_false}
 
 -- `int x;`
 module _ (locals : ℕ) (tokens rest : List Token) (name : List ℕ) (named : tokens ≡ Name name ∷ rest) where
@@ -189,15 +186,3 @@ module _ (tokens : List Token) (trees : List Stmt) (rest : List Token) (locals :
   pub reads_body : (behind : List Token) → rest ≡ Mark CloseBrace ∷ behind → ReadsBody tokens trees behind
   unfolding step
   reads_body behind closed = record { body = read.body; same = read.same; leads = read.leads ∙ on_step (Between read.body) (AtEnd read.body) _ _ _ refl closed }
-
-  pub refuses_body : RefusesStatement Between locals rest → RefusesBody tokens
-  refuses_body refused = read.leads ∙ refused read.body (sym read.counted)
-
-  pub reads_more : (tree : Stmt) (behind : List Token) (now : ℕ) (more : List Stmt) → ReadsStatement Between locals rest tree behind now → more ≡ trees ++ tree ∷ [] → ReadsStatements tokens more behind now
-  reads_more tree behind now more then pushed = record {
-    body = read.body ++ then.syntax ∷ [];
-    same = pushed ∙ ap (λ t. t ++ tree ∷ []) read.same ∙ ap (λ t. map statement_tree read.body ++ t ∷ []) then.same ∙ sym (map-append statement_tree read.body (then.syntax ∷ []));
-    counted = then.counted ∙ ap (λ n. n + local_count then.syntax) read.counted ∙ sym (sum_by_push local_count read.body then.syntax);
-    within = then.within;
-    leads = read.leads ∙ then.leads read.body (sym read.counted);
-  }

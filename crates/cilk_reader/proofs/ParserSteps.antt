@@ -1,21 +1,19 @@
 -- What the machine does at the tokens that each part of the parser looks at.
-use Rattle.std.proofs.Common.{not, Bor, ◌≡◌, ◌≢◌, ℕ, ℤ, ◌+◌, ◌≤◌, ◌<◌, Bool, true, false, ◌&&◌, nat_le, nat_lt, Option, Some, None, option_and_then, MatchOption, List, [], ◌∷◌, ◌++◌, length, codes, sum_by, map, refl, ap, sym, ◌∙◌, inl, inr, ◌⊎◌, arith, subst}
+use Rattle.std.proofs.Common.{not, Bor, ◌≡◌, ◌≢◌, ℕ, ℤ, ◌+◌, ◌≤◌, ◌<◌, Bool, true, false, Option, Some, None, option_and_then, MatchOption, List, [], ◌∷◌, length, codes, refl, ap, sym, ◌∙◌, inl, inr, ◌⊎◌, arith, subst}
 use Rattle.std.specs.Str.{bytes_eq}
 use Rattle.std.proofs.lemmas.Bool.{lt-ltb, le-ltb, le-leb, lt-leb}
-use Rattle.std.proofs.lemmas.Grind.{common_steps}
 use Rattle.cilk_tree.specs.declared.token.Keyword.{Keyword}
 use Rattle.cilk_tree.specs.declared.token.Keyword.TheVariants as keyword
 use Rattle.cilk_tree.specs.declared.token.Sign.{Sign}
-use Rattle.cilk_tree.specs.declared.token.Sign.TheVariants.{Plus, Assign, OpenParen, CloseParen, OpenBrace, CloseBrace, Semicolon}
+use Rattle.cilk_tree.specs.declared.token.Sign.TheVariants.{Assign, OpenParen, CloseParen, OpenBrace, Semicolon}
 use Rattle.cilk_tree.specs.declared.token.Token.{Token}
 use Rattle.cilk_tree.specs.declared.token.Token.TheVariants.{Name, Number, Word, Mark}
 use Rattle.cilk_tree.specs.declared.tree.BinaryOp.{BinaryOp}
 use Rattle.cilk_tree.specs.declared.tree.Expr.{Expr}
 use Rattle.cilk_tree.specs.declared.tree.Expr.TheVariants as expr
-use Rattle.cilk_tree.specs.declared.tree.Stmt.{Stmt}
-use Rattle.cilk_tree.specs.Spelling.{operator_count, local_count}
-use Rattle.cilk_tree.specs.Syntax.{Expression, Numeral, Variable, Infix, Statement, Declaration, Assignment, Printing, operator_strength, expression_tree, statement_tree}
-use Rattle.cilk_reader.specs.Machine.{Around, AssignedTo, Printed, RightOf, Place, AtStart, AtMain, AtParameters, AtParametersEnd, AtBody, Between, AfterInt, AfterDeclared, AfterName, AfterPrint, Wants, Has, AfterPrinted, AtEnd, sign_operator, least_strength, operators_before, with_operator, at_end_of, place_if, after_operand, is_short, step, finish, run, first_operator, StopsBelow, GoesOn, ReadsExpression, RefusesExpression, ReadsStatement, RefusesStatement}
+use Rattle.cilk_tree.specs.Spelling.{operator_count}
+use Rattle.cilk_tree.specs.Syntax.{Expression, Numeral, Variable, Infix, Statement, operator_strength, expression_tree}
+use Rattle.cilk_reader.specs.Machine.{Around, AssignedTo, Printed, RightOf, Place, AtStart, AtMain, AtParameters, AtParametersEnd, AtBody, Between, AfterInt, AfterDeclared, AfterName, AfterPrint, Wants, Has, AfterPrinted, sign_operator, least_strength, operators_before, with_operator, place_if, after_operand, is_short, step, finish, run, StopsBelow, GoesOn, ReadsExpression, RefusesExpression}
 
 pub on_step : (here next : Place) (token : Token) (tokens rest : List Token) → step here token ≡ Some next → tokens ≡ token ∷ rest → run here tokens ≡ run next rest
 unfolding run
@@ -167,7 +165,7 @@ module _ (least count : ℕ) (tokens : List Token) (left : Expr) (rest : List To
   to_operand few around e f =
       read.leads around e f ∙
       on_step (Has around read.syntax) (Wants (RightOf around read.syntax operator)) (Mark on.sign) rest after
-        (operator_step around read.syntax on.sign operator on.known (let h : least ≤ operator_strength operator = on.strong in omega arith) (let a : now ≡ count + operator_count read.syntax = read.counted in omega arith)) on.same
+      (operator_step around read.syntax on.sign operator on.known (let h : least ≤ operator_strength operator = on.strong in omega arith) (let a : now ≡ count + operator_count read.syntax = read.counted in omega arith)) on.same
 
   counted_on : (around : Around) → operators_before around ≡ count → operators_before (RightOf around read.syntax operator) ≡ now + 1
   counted_on around f = let a : now ≡ count + operator_count read.syntax = read.counted in omega arith
@@ -181,9 +179,9 @@ module _ (least count : ℕ) (tokens : List Token) (left : Expr) (rest : List To
     within = then.within;
     shorter = let a : length behind < length after = then.shorter in let b : length rest < length tokens = read.shorter in let d : length rest ≡ length (Mark on.sign ∷ after) = ap length on.same in omega arith;
     leads = λ around e f.
-      to_operand few around e f ∙
-      then.leads (RightOf around read.syntax operator) (ap (λ n. n + 1) (sym strong)) (counted_on around f) ∙
-      right_is_whole around read.syntax then.syntax operator behind (subst (λ n. StopsBelow (n + 1) behind) strong stops);
+        to_operand few around e f ∙
+        then.leads (RightOf around read.syntax operator) (ap (λ n. n + 1) (sym strong)) (counted_on around f) ∙
+        right_is_whole around read.syntax then.syntax operator behind (subst (λ n. StopsBelow (n + 1) behind) strong stops);
   }
 
   pub refuses_on : now < 256 → RefusesExpression (bound + 1) (now + 1) after → RefusesExpression least count tokens

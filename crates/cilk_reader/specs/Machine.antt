@@ -1,6 +1,6 @@
 -- A machine that reads a program token by token. It serves the proofs of the parser alone: each part of the parser says
 -- where the machine stands before and after the tokens that the part reads.
-use Rattle.std.specs.Prelude.{map, ◌≡◌, ℕ, ◌+◌, ◌≤◌, ◌<◌, ℤ, Bool, true, false, ◌&&◌, nat_le, nat_lt, if◌then◌else◌, Option, Some, None, option_and_then, MatchOption, List, [], ◌∷◌, ◌++◌, length, codes, sum_by}
+use Rattle.std.specs.Prelude.{map, ◌≡◌, ℕ, ◌+◌, ◌≤◌, ◌<◌, Bool, true, false, ◌&&◌, nat_le, nat_lt, if◌then◌else◌, Option, Some, None, option_and_then, MatchOption, List, [], ◌∷◌, ◌++◌, length, codes, sum_by}
 use Rattle.std.specs.Str.{bytes_eq}
 use Rattle.cilk_tree.specs.declared.token.Keyword.TheVariants.{Int, Print}
 use Rattle.cilk_tree.specs.declared.token.Sign.{Sign}

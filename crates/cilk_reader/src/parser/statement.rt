@@ -78,10 +78,10 @@ fn declaration(
     if locals == MOST_LOCALS {
         return Err(ReadRefusal::NotYet);
     }
-    let Some(rest) = after_sign(rest, Sign::Semicolon) else {
+    let Some(behind) = after_sign(rest, Sign::Semicolon) else {
         return Err(ReadRefusal::NotYet);
     };
-    Ok((Stmt::Declare(name), rest, locals + 1))
+    Ok((Stmt::Declare(name), behind, locals + 1))
 }
 
 /// Reads `(e);` after `print`.

@@ -1,4 +1,4 @@
-use Rattle.std.proofs.Common.{◌≡◌, None, refl, ◌∙◌}
+use Rattle.std.proofs.Common.{◌≡◌, refl, ◌∙◌}
 use Rattle.cilk_reader.specs.Machine.{AtStart, AtMain, AtParameters, AtParametersEnd, AtBody, run, step}
 use Rattle.cilk_reader.proofs.ParserSteps.{refuses, refuses_nameless, on_step, after_main, refuses_other, opens_body, awaits_int, awaits_main, awaits_parameters, awaits_parameters_end}
 use Rattle.cilk_reader.proofs.parser.after_head.Goals as goal

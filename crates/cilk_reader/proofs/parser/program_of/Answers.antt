@@ -1,4 +1,4 @@
-use Rattle.std.proofs.Common.{◌≡◌, ◌∙◌, []}
+use Rattle.std.proofs.Common.{◌∙◌}
 use Rattle.std.proofs.lemmas.Result.{err_from_is_err_and}
 use Rattle.cilk_reader.proofs.ParserPrograms.{no_program, memory_alone, refuses_more, finds_program, finds_only, none_left, some_left}
 use Rattle.cilk_reader.proofs.parser.program_of.Goals as goal

@@ -1,6 +1,5 @@
-use Rattle.std.proofs.Common.{◌≡◌, ℕ, ◌+◌, ◌<◌, ◌≤◌, arith, refl, ap, ◌∙◌}
+use Rattle.std.proofs.Common.{◌<◌, arith}
 use Rattle.std.proofs.lemmas.Result.{err_from_is_err_and}
-use Rattle.cilk_reader.specs.Machine.{ReadsExpression, RefusesExpression, GoesOn}
 use Rattle.cilk_reader.proofs.ParserSteps.{reads_on, refuses_on, refuses_many}
 use Rattle.cilk_reader.proofs.parser.expression.+expression.Goals as goal
 

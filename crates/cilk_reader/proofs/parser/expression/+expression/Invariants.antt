@@ -1,4 +1,4 @@
-use Rattle.std.proofs.Common.{◌<◌, length}
+use Rattle.std.proofs.Common.{length}
 use Rattle.cilk_reader.specs.Machine.{ReadsExpression}
 use Rattle.cilk_reader.proofs.parser.expression.+expression.Given as goal
 

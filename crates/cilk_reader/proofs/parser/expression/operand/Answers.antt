@@ -1,6 +1,5 @@
-use Rattle.std.proofs.Common.{rules, ◌≡◌, ◌≤◌, ℕ, MatchResult, ◌<◌, length, ◌∷◌, inl, inr, arith, Err, Some, refl, ap, ◌∙◌, to_z-of_z, SFits, w64}
+use Rattle.std.proofs.Common.{rules, ◌∷◌, inl, inr, ap, ◌∙◌, to_z-of_z, SFits, w64}
 use Rattle.std.proofs.lemmas.Result.{err_from_is_err_and}
-use Rattle.cilk_reader.specs.Machine.{ReadsExpression, RefusesExpression}
 use Rattle.cilk_reader.proofs.ParserSteps.{reads_number, reads_name, refuses_long, refuses_nothing, refuses_word, refuses_mark}
 use Rattle.cilk_reader.proofs.parser.expression.operand.Goals as goal
 
@@ -22,5 +21,6 @@ returns-in_ok-name-in-Name c count few least = reads_name least count _ _ _ _ fe
 
 pub returns-in-Word : goal.returns-in-Word
 returns-in-Word c count few least same around e f = elim c.in-Word.is [
-    inl w ↦ refuses_word _ c.in-Some.rest.now w.0 around (c.in-Some.ensures ∙ ap (λ t. t ∷ c.in-Some.rest.now) w.1)
-    | inr w ↦ refuses_mark _ c.in-Some.rest.now w.0 around (c.in-Some.ensures ∙ ap (λ t. t ∷ c.in-Some.rest.now) w.1) ]
+  | inl w ↦ refuses_word _ c.in-Some.rest.now w.0 around (c.in-Some.ensures ∙ ap (λ t. t ∷ c.in-Some.rest.now) w.1)
+  | inr w ↦ refuses_mark _ c.in-Some.rest.now w.0 around (c.in-Some.ensures ∙ ap (λ t. t ∷ c.in-Some.rest.now) w.1)
+]

@@ -1,4 +1,3 @@
-use Rattle.std.proofs.Common.{◌≡◌, refl}
 use Rattle.std.proofs.lemmas.Result.{err_from_is_err_and}
 use Rattle.cilk_reader.proofs.ParserSteps.{refuses, awaits_assigned}
 use Rattle.cilk_reader.proofs.ParserStatements.{refuses_value, refuses_unended_assignment, reads_assignment}

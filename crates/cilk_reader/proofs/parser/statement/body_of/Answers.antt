@@ -1,4 +1,3 @@
-use Rattle.cilk_reader.specs.Machine.{ReadsBody}
 use Rattle.cilk_reader.proofs.ParserStatements.{reads_body}
 use Rattle.cilk_reader.proofs.parser.statement.body_of.Goals as goal
 

@@ -1,6 +1,5 @@
-use Rattle.std.proofs.Common.{◌≡◌, ◌<◌, arith, refl, ap, ◌∙◌}
+use Rattle.std.proofs.Common.{arith}
 use Rattle.std.proofs.lemmas.Result.{err_from_is_err_and}
-use Rattle.cilk_reader.specs.Machine.{RefusesStatement, ReadsStatement, AfterInt}
 use Rattle.cilk_reader.proofs.ParserSteps.{refuses_nameless, awaits_local}
 use Rattle.cilk_reader.proofs.ParserStatements.{refuses_long_local, refuses_many_locals, refuses_unended_local, reads_local}
 use Rattle.cilk_reader.proofs.parser.statement.declaration.Goals as goal

@@ -1,4 +1,3 @@
-use Rattle.std.proofs.Common.{◌≡◌, refl}
 use Rattle.std.proofs.lemmas.Result.{err_from_is_err_and}
 use Rattle.cilk_reader.proofs.ParserSteps.{refuses, awaits_print}
 use Rattle.cilk_reader.proofs.ParserStatements.{refuses_printed, refuses_unclosed, refuses_unended_printing, reads_printing}

@@ -1,4 +1,4 @@
-use Rattle.std.proofs.Common.{◌≡◌, ◌∷◌, inl, inr, refl, ap, ◌∙◌}
+use Rattle.std.proofs.Common.{◌∷◌, inl, inr, ap, ◌∙◌}
 use Rattle.std.proofs.lemmas.Result.{err_from_is_err_and}
 use Rattle.cilk_tree.specs.declared.token.Token.TheVariants.{Word}
 use Rattle.cilk_reader.specs.Machine.{AfterInt, AfterPrint, AfterName}
@@ -25,9 +25,10 @@ returns-in_default-word c same not_close = refuses_keyword c.args.locals _ _ _ (
 pub returns-in_ok-target-in-Name : goal.returns-in_ok-target-in-Name
 returns-in_ok-target-in-Name c =
     after_first (λ body. AfterName body c.in_ok-target-in-Name.target) _ _ _ _ (c.in-Some.ensures ∙ ap (λ t. t ∷ c.in-Some.rest.now) c.in-Name.is)
-      (begins_assignment _ _ c.in_ok-target-in-Name.ensures.0 c.in_ok-target-in-Name.ensures.1) _ c.assignment.ensures
+    (begins_assignment _ _ c.in_ok-target-in-Name.ensures.0 c.in_ok-target-in-Name.ensures.1) _ c.assignment.ensures
 
 pub returns-in-Number : goal.returns-in-Number
 returns-in-Number c same not_close = elim c.in-Number.is [
-    inl w ↦ refuses_number c.args.locals _ c.in-Some.rest.now w.0 (c.in-Some.ensures ∙ ap (λ t. t ∷ c.in-Some.rest.now) w.1)
-    | inr w ↦ refuses_sign c.args.locals _ c.in-Some.rest.now w.0 (c.in-Some.ensures ∙ ap (λ t. t ∷ c.in-Some.rest.now) w.1) not_close ]
+  | inl w ↦ refuses_number c.args.locals _ c.in-Some.rest.now w.0 (c.in-Some.ensures ∙ ap (λ t. t ∷ c.in-Some.rest.now) w.1)
+  | inr w ↦ refuses_sign c.args.locals _ c.in-Some.rest.now w.0 (c.in-Some.ensures ∙ ap (λ t. t ∷ c.in-Some.rest.now) w.1) not_close
+]
