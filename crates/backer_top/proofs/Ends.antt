@@ -73,14 +73,16 @@ pub source_read : (texts : Option Texts) (file text : List ℕ) (read_failed : T
     → AllByRecursion (λ function. length function.body ≤ length text) program.functions
     → (given : List ℕ) × IsSource texts file read_failed given (Ok program)
 source_read texts file text read_failed program short told spelled only small =
-    let few = main_small program.functions (length text) small in
-    (text, record {
-      told = whole_is texts file text told;
-      read = ((short, spelled), omega arith);
-      only = λ other accepted. only other accepted.1;
-      refused = tt;
-      due = λ _ _. tt;
-    })
+    let few = main_small program.functions (length text) small in (
+      text,
+      record {
+        told = whole_is texts file text told;
+        read = ((short, spelled), omega arith);
+        only = λ other accepted. only other accepted.1;
+        refused = tt;
+        due = λ _ _. tt;
+      },
+    )
 
 -- a source that was read calls for the end of its program's elision
 due_end : (text : List ℕ) (program : Program) → Accepts text program → ((other : Program) → Accepts text other → program ≡ other)

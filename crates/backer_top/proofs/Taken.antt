@@ -64,7 +64,7 @@ level_taken names state (layer.Binary operator left right) reads e =
     let outer = both_true (is_serial_operator operator && reads_only names left.0) (reads_only names right.0) read in
     let inner = both_true (is_serial_operator operator) (reads_only names left.0) outer.0 in
     both_taken (operated operator) (value_of state left.0) (value_of state right.0) (λ x y. operated_taken operator x y inner.0) (left.1 inner.1) (right.1 outer.1)
-        (sym (fold-roll-Expr (Result ℤ Stop) (value_here state) (layer.Binary operator left.0 right.0)) ∙ e)
+    (sym (fold-roll-Expr (Result ℤ Stop) (value_here state) (layer.Binary operator left.0 right.0)) ∙ e)
 
 pub value_taken : (names : List (List ℕ)) (state : State) (e : Expr) → IsTaken names state e
 value_taken names state = ind-Expr (IsTaken names state) (λ x y is. subst (λ z. IsTaken names state (roll-Expr z)) is (level_taken names state y))
@@ -94,7 +94,7 @@ run_told names (stmt.Assign name value ∷ rest) ticks state serial few =
 run_told names (stmt.Print value ∷ rest) ticks state serial few =
     let parts = both_true (is_serial_statement names (stmt.Print value)) (is_serial_body names rest) serial in
     given_told (value_of state value) _ (value_taken names state value parts.0)
-        (λ v. printing_told ticks v _ (omega arith) (λ left e. run_told names rest left state parts.1 (omega arith)))
+    (λ v. printing_told ticks v _ (omega arith) (λ left e. run_told names rest left state parts.1 (omega arith)))
 run_told names (stmt.Put name index value ∷ rest) ticks state serial few = absurd (let f : false ≡ true = serial in cc)
 run_told names (stmt.If' a b c d e ∷ rest) ticks state serial few = absurd (let f : false ≡ true = serial in cc)
 run_told names (stmt.While' a b c ∷ rest) ticks state serial few = absurd (let f : false ≡ true = serial in cc)

@@ -58,7 +58,10 @@ impl Status {
             Status::Source(SourceRefusal::NotYet) => b"backer: source refused: not yet\n",
             Status::ReadFault => b"backer: read failed\n",
             Status::WriteFault => b"backer: write failed\n",
-            Status::Trap { kind: TrapKind::Overflow, node: _ } => b"backer: trap Overflow on node 0\n",
+            Status::Trap {
+                kind: TrapKind::Overflow,
+                node: _,
+            } => b"backer: trap Overflow on node 0\n",
             Status::Memory => b"backer: out of memory\n",
         }
     }

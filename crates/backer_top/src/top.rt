@@ -38,8 +38,8 @@ pub fn backer<L: Shelf, O: Sink, E: Sink>(
     // One text serves all that is said of the run.
     ensures serial { (file : List ℕ) → file_of (map string_bytes words.now) ≡ Some file →
         ((text : List ℕ) × IsSerial (L.texts shelf.old) file
-            (Rose (L.faults shelf.old file) (L.faults shelf.new file)) (Rose (O.faults out.old) (O.faults out.new))
-            (IsWritten O.held O.took out.old out.new) text result.status) }
+        (Rose (L.faults shelf.old file) (L.faults shelf.new file)) (Rose (O.faults out.old) (O.faults out.new))
+        (IsWritten O.held O.took out.old out.new) text result.status) }
     ensures nothing_written { result.status ≢ Status.Done → result.status ≢ Status.WriteFault → out.new ≡ out.old }
 {
     let status = match file_word(words) {

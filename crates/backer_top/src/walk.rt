@@ -51,7 +51,9 @@ fn operate(operator: BinaryOp, left: i64, right: i64) -> Result<i64, Stop>
     ensures { result ≡ operated operator left right }
 {
     match operator {
-        BinaryOp::Add => left.checked_add(right).ok_or(Stop::Trap(TrapKind::Overflow)),
+        BinaryOp::Add => left
+            .checked_add(right)
+            .ok_or(Stop::Trap(TrapKind::Overflow)),
         _ => Err(Stop::Untaken),
     }
 }

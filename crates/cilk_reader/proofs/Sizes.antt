@@ -76,4 +76,4 @@ pub statements-le-bytes : (text : List ℕ) (tokens : List Token) (program : Pro
     → AllByRecursion (λ function. length function.body ≤ length text) program.functions
 statements-le-bytes text tokens program lexed is =
     subst (λ p. AllByRecursion (λ function. length function.body ≤ length text) p.functions) (sym is.tree)
-        ((omega (arith, program_fits is.body, ap length is.same, tokens_fit text tokens lexed), tt))
+    ((omega (arith, program_fits is.body, ap length is.same, tokens_fit text tokens lexed), tt))

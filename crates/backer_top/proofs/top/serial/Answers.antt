@@ -11,6 +11,8 @@ returns-in-Err-outcome-clause-serial g c =
 pub returns-in-Ok-write_all-clause-serial : goal.returns-in-Ok-write_all-clause-serial
 returns-in-Ok-write_all-clause-serial g c =
     let source = c.in-Ok.ensures in
-    let prints = c.in-Ok-outcome.ensures in
-    (source.0, serial_done (g.L.Shelf.texts c.args.shelf.now) c.args.file.now _ _ _ source.0 c.in-Ok.program source.1 prints.0
-        (subst (λ bytes. IsWritten g.O.Sink.held g.O.Sink.took c.args.out.now c.write_all.new.sink bytes) (c.as_slice.ensures.value ∙ prints.1) c.in-Ok-write_all.ensures.written))
+    let prints = c.in-Ok-outcome.ensures in (
+      source.0,
+      serial_done (g.L.Shelf.texts c.args.shelf.now) c.args.file.now _ _ _ source.0 c.in-Ok.program source.1 prints.0
+          (subst (λ bytes. IsWritten g.O.Sink.held g.O.Sink.took c.args.out.now c.write_all.new.sink bytes) (c.as_slice.ensures.value ∙ prints.1) c.in-Ok-write_all.ensures.written),
+    )

@@ -34,8 +34,8 @@ returns-in-Ok-read_program g c =
     let given = c.as_slice.ensures.value in
     let file = c.args.file.now in
     source_read (shelf.texts c.args.shelf.now) file c.in-Ok.text.items (Rose (shelf.faults c.args.shelf.now file) (shelf.faults c.read_text.new.shelf file)) c.in-Ok-read_program.program
-        c.in-Ok.ensures.within
-        c.in-Ok.ensures.whole
-        (subst (λ text. SpellsSerialMain text program) given read.found)
-        (λ other spelled. read.only other (subst (λ text. SpellsSerialMain text other) (sym given) spelled))
-        (subst (λ text. AllByRecursion (λ function. length function.body ≤ length text) program.functions) given read.small)
+    c.in-Ok.ensures.within
+    c.in-Ok.ensures.whole
+    (subst (λ text. SpellsSerialMain text program) given read.found)
+    (λ other spelled. read.only other (subst (λ text. SpellsSerialMain text other) (sym given) spelled))
+    (subst (λ text. AllByRecursion (λ function. length function.body ≤ length text) program.functions) given read.small)

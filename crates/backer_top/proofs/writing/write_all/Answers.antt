@@ -13,7 +13,7 @@ loop-rest-preserved g c =
     let cut : rest ≡ piece ++ later = sym (ap (λ b. b ++ later) c.split_at.ensures.front ∙ ap (λ b. take 4096 rest ++ b) c.split_at.ensures.back ∙ take-append-drop 4096 rest) in
     record {
       faults = omega (arith, c.in_ok-put.ensures.faults, c.loop-rest.invariant.faults);
-      goes_on = λ new written. c.loop-rest.invariant.goes_on new (IsWritten-more sink.held sink.took c.loop-rest.sink c.put.new.self new piece later rest cut c.split_at.ensures.front_len c.in_ok-put.ensures.whole c.in_ok-put.ensures.took written)
+      goes_on = λ new written. c.loop-rest.invariant.goes_on new (IsWritten-more sink.held sink.took c.loop-rest.sink c.put.new.self new piece later rest cut c.split_at.ensures.front_len c.in_ok-put.ensures.whole c.in_ok-put.ensures.took written);
     }
 
 pub returns-in_ok-put-2-clause-written : goal.returns-in_ok-put-2-clause-written

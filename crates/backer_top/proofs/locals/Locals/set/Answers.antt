@@ -19,9 +19,9 @@ returns-then-eq c =
     let named : bytes_eq slot.name c.args.name.now ≡ true = ap (λ n. bytes_eq n c.args.name.now) (sym same_name) ∙ sym c.eq.ensures ∙ c.if-eq.true in
     record {
       ok =
-        ap (λ v. state_of (set slots index (record { name = slot.name; value = v }))) (to_z-of_z w64 c.args.value c.ranges.value)
-        ∙ state_of-set slots index slot c.args.name.now c.args.value within c.index_mut.ensures.value c.loop-index.invariant.others named
-        ∙ ap (λ s. assigned (state_of s) c.args.name.now c.args.value) c.loop-index.invariant.same
+          ap (λ v. state_of (set slots index (record { name = slot.name; value = v }))) (to_z-of_z w64 c.args.value c.ranges.value)
+          ∙ state_of-set slots index slot c.args.name.now c.args.value within c.index_mut.ensures.value c.loop-index.invariant.others named
+          ∙ ap (λ s. assigned (state_of s) c.args.name.now c.args.value) c.loop-index.invariant.same;
     }
 
 pub returns : goal.returns
@@ -32,8 +32,8 @@ returns c =
     let named : c.in_ok-name.name ≡ c.args.name.now = c.in_ok-name.ensures in
     record {
       ok =
-        ap state_of (c.in_ok-push.ensures.items ∙ ap (λ v. slots ++ record { name = c.in_ok-name.name; value = v } ∷ []) (to_z-of_z w64 c.args.value c.ranges.value)
-        ∙ ap (λ n. slots ++ record { name = n; value = c.args.value } ∷ []) named)
-        ∙ state_of-push slots (record { name = c.args.name.now; value = c.args.value }) others
-        ∙ ap (λ s. assigned (state_of s) c.args.name.now c.args.value) c.loop-index.invariant.same
+          ap state_of (c.in_ok-push.ensures.items ∙ ap (λ v. slots ++ record { name = c.in_ok-name.name; value = v } ∷ []) (to_z-of_z w64 c.args.value c.ranges.value)
+          ∙ ap (λ n. slots ++ record { name = n; value = c.args.value } ∷ []) named)
+          ∙ state_of-push slots (record { name = c.args.name.now; value = c.args.value }) others
+          ∙ ap (λ s. assigned (state_of s) c.args.name.now c.args.value) c.loop-index.invariant.same;
     }
