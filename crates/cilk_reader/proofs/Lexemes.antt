@@ -1,13 +1,12 @@
 -- What bytes a token may have, and that no other token has them.
-use Rattle.std.proofs.Common.{◌≡◌, ◌≢◌, ◌⊎◌, inl, inr, ℕ, pos, ◌<◌, ◌≤◌, ◌^◌, ℤ, Bool, true, false, not, ◌&&◌, IsTrue, List, [], ◌∷◌, ◌++◌, length, get_or, take, drop, Option, Some, None, sym, refl, ap, ◌∙◌, subst, ⊎_elim, arith, append_assoc}
+use Rattle.std.proofs.Common.{◌≡◌, ◌≢◌, ◌⊎◌, inl, inr, ℕ, pos, ◌<◌, ◌^◌, ℤ, Bool, true, not, ◌&&◌, IsTrue, List, [], ◌∷◌, ◌++◌, length, get_or, take, drop, Option, Some, None, sym, refl, ap, ◌∙◌, subst, ⊎_elim, arith}
 use Rattle.std.specs.Fmt.{decimal}
 use Rattle.std.specs.List.{list_all, find}
 use Rattle.std.specs.Str.{bytes_eq}
-use Rattle.std.proofs.str.Laws.{order}
 use Rattle.std.proofs.lemmas.Bool.{and_parts, and_from, both_ways, or_left, or_right}
 use Rattle.std.proofs.lemmas.Bool.Decides.{nat_tests}
 use Rattle.std.proofs.lemmas.Fmt.{decimal_injective}
-use Rattle.std.proofs.lemmas.List.{append_cancel_left, nil_from_length, take_at, drop_at}
+use Rattle.std.proofs.lemmas.List.{nil_from_length, take_at, drop_at}
 use Rattle.std.proofs.lemmas.Option.{none-some, same_Some}
 use Rattle.cilk_tree.specs.declared.token.Keyword.{Keyword}
 use Rattle.cilk_tree.specs.declared.token.Keyword.TheVariants.{Cilk, CilkFor, Else, FetchAdd, For, If, Int, Print, Return, Spawn, Sync, Void, While}
@@ -131,12 +130,6 @@ word_token_ends (Number value) rest w h = h
 word_token_ends (Word word) rest w h = h
 word_token_ends (Mark sign) rest w h = absurd w
 
-pub word_token_ended : (token : Token) (rest : List ℕ) → IsWordToken token → StartsNoWord rest → EndsBefore token rest
-word_token_ended (Name name) rest w h = h
-word_token_ended (Number value) rest w h = h
-word_token_ended (Word word) rest w h = h
-word_token_ended (Mark sign) rest w h = absurd w
-
 pub mark_bytes : (token : Token) (sign : Sign) (bytes : List ℕ) → token ≡ Mark sign → IsLexeme bytes token → Begins is_mark bytes
 mark_bytes token sign bytes is h = subst (Begins is_mark) (sym (subst (IsLexeme bytes) is h)) (sign_bytes sign)
 
@@ -222,8 +215,8 @@ word_mark_apart token sign bytes others rest after same w h k =
 
 same_cut : (front other rest after : List ℕ) → front ++ rest ≡ other ++ after → length front ≡ length other → (front ≡ other) × (rest ≡ after)
 same_cut front other rest after same len = (
-    sym (take_at front rest (length front) refl) ∙ ap (take (length front)) same ∙ take_at other after (length front) (sym len),
-    sym (drop_at front rest (length front) refl) ∙ ap (drop (length front)) same ∙ drop_at other after (length front) (sym len),
+  sym (take_at front rest (length front) refl) ∙ ap (take (length front)) same ∙ take_at other after (length front) (sym len),
+  sym (drop_at front rest (length front) refl) ∙ ap (drop (length front)) same ∙ drop_at other after (length front) (sym len),
 )
 
 same_mark : (sign other : Sign) (rest after : List ℕ) → sign_text sign ++ rest ≡ sign_text other ++ after → EndsBefore (Mark sign) rest → EndsBefore (Mark other) after → (sign ≡ other) × (rest ≡ after)
@@ -236,19 +229,19 @@ pub same_first : (token other : Token) (bytes others rest after : List ℕ) → 
 same_first token other bytes others rest after same h k ends ends_too =
     ⊎_elim
     (λ w. ⊎_elim
-        (λ v.
-            let run = run_unique is_word bytes others rest after same (word_token_bytes token bytes w h).0 (word_token_bytes other others v k).0 (word_token_ends token rest w ends) (word_token_ends other after v ends_too) in
-            (same_word_token token other others w v (subst (λ bs. IsLexeme bs token) run.0 h) k, run.1))
-        (λ n. absurd (word_mark_apart token n.0 bytes others rest after same w h (subst (IsLexeme others) n.1 k)))
-        (token_kind other))
+    (λ v.
+    let run = run_unique is_word bytes others rest after same (word_token_bytes token bytes w h).0 (word_token_bytes other others v k).0 (word_token_ends token rest w ends) (word_token_ends other after v ends_too) in
+    (same_word_token token other others w v (subst (λ bs. IsLexeme bs token) run.0 h) k, run.1))
+    (λ n. absurd (word_mark_apart token n.0 bytes others rest after same w h (subst (IsLexeme others) n.1 k)))
+    (token_kind other))
     (λ m. ⊎_elim
-        (λ v. absurd (word_mark_apart other m.0 others bytes after rest (sym same) v k (subst (IsLexeme bytes) m.1 h)))
-        (λ n.
-            let spelled : bytes ≡ sign_text m.0 = subst (IsLexeme bytes) m.1 h in
-            let spelled_too : others ≡ sign_text n.0 = subst (IsLexeme others) n.1 k in
-            let both = same_mark m.0 n.0 rest after (sym (ap (λ bs. bs ++ rest) spelled) ∙ same ∙ ap (λ bs. bs ++ after) spelled_too) (subst (λ t. EndsBefore t rest) m.1 ends) (subst (λ t. EndsBefore t after) n.1 ends_too) in
-            (m.1 ∙ ap Mark both.0 ∙ sym n.1, both.1))
-        (token_kind other))
+    (λ v. absurd (word_mark_apart other m.0 others bytes after rest (sym same) v k (subst (IsLexeme bytes) m.1 h)))
+    (λ n.
+    let spelled : bytes ≡ sign_text m.0 = subst (IsLexeme bytes) m.1 h in
+    let spelled_too : others ≡ sign_text n.0 = subst (IsLexeme others) n.1 k in
+    let both = same_mark m.0 n.0 rest after (sym (ap (λ bs. bs ++ rest) spelled) ∙ same ∙ ap (λ bs. bs ++ after) spelled_too) (subst (λ t. EndsBefore t rest) m.1 ends) (subst (λ t. EndsBefore t after) n.1 ends_too) in
+    (m.1 ∙ ap Mark both.0 ∙ sym n.1, both.1))
+    (token_kind other))
     (token_kind token)
 
 begins_first : (p : ℕ → Bool) (bytes : List ℕ) → 0 < length bytes → p (get_or bytes 0 0) ≡ true → Begins p bytes

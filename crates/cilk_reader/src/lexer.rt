@@ -29,9 +29,8 @@ pub(crate) fn tokens_of(alloc: Global, text: &[u8]) -> Result<Vec<Token>, ReadRe
     let mut tokens = Vec::new(alloc);
     let mut rest = text;
     while let Some(step) = next_token(alloc, rest)? {
-        let Step { token, rest: after } = step;
-        tokens.push(token)?;
-        rest = after;
+        rest = step.rest;
+        tokens.push(step.token)?;
     }
     Ok(tokens)
 }
@@ -78,7 +77,10 @@ fn first_token(alloc: Global, text: &[u8]) -> Result<Step, ReadRefusal>
     if word.is_empty() {
         let sign = sign_at(text).ok_or(ReadRefusal::NotYet)?;
         let rest = &text[sign.text().len()..];
-        return Ok(Step { token: Token::Mark(sign), rest });
+        return Ok(Step {
+            token: Token::Mark(sign),
+            rest,
+        });
     }
     let token = word_token(alloc, word)?;
     Ok(Step { token, rest })
@@ -104,8 +106,8 @@ fn word_len(text: &[u8]) -> usize
 fn is_blank(byte: u8) -> bool
     ensures { result ≡ is_blank byte }
 {
-    // From tab on: the line ends and the form feed.
-    matches!(byte, 9..=13 | b' ')
+    // From tab to carriage return stand the ends of a line and form feed too.
+    matches!(byte, b'\t'..=b'\r' | b' ')
 }
 
 fn is_word(byte: u8) -> bool
@@ -148,7 +150,10 @@ fn number_of(word: &[u8]) -> Option<i64>
 fn keyword_of(word: &[u8]) -> Option<Keyword>
     ensures { MatchOption result ((keyword : Keyword) → word.now ≢ keyword_text keyword) (λ keyword. word.now ≡ keyword_text keyword) }
 {
-    Keyword::ALL.iter().copied().find(|keyword| keyword.text() == word)
+    Keyword::ALL
+        .iter()
+        .copied()
+        .find(|keyword| keyword.text() == word)
 }
 
 /// A copy of the word.
@@ -166,7 +171,10 @@ fn name_of(alloc: Global, word: &[u8]) -> Result<Name, AllocError>
 fn sign_at(text: &[u8]) -> Option<Sign>
     ensures { MatchOption result ((sign : Sign) (rest : List ℕ) → text.now ≢ sign_text sign ++ rest)
         (λ sign. (text.now ≡ sign_text sign ++ drop (length (sign_text sign)) text.now)
-            × EndsBefore (Mark sign) (drop (length (sign_text sign)) text.now)) }
+        × EndsBefore (Mark sign) (drop (length (sign_text sign)) text.now)) }
 {
-    Sign::ALL.iter().copied().find(|sign| text.starts_with(sign.text()))
+    Sign::ALL
+        .iter()
+        .copied()
+        .find(|sign| text.starts_with(sign.text()))
 }
