@@ -1,14 +1,11 @@
 -- How a text is divided into tokens: in one way, of which a token from the left is found at a time.
-use Rattle.std.proofs.Common.{◌≡◌, ◌≢◌, ◌⊎◌, ℕ, ◌+◌, ◌<◌, ◌≤◌, Bool, true, false, not, IsTrue, List, [], ◌∷◌, ◌++◌, length, take, drop, sym, refl, ap, ◌∙◌, subst, ⊎_elim, arith, append_assoc, take-append-drop, length-append}
+use Rattle.std.proofs.Common.{◌≡◌, ℕ, ◌<◌, Bool, not, IsTrue, List, [], ◌∷◌, ◌++◌, length, take, drop, sym, refl, ap, ◌∙◌, subst, arith, append_assoc, take-append-drop, length-append}
 use Rattle.std.specs.List.{list_all, prefix_len}
 use Rattle.std.proofs.lemmas.Bool.{and_parts, and_from, both_ways, not-true}
 use Rattle.std.proofs.lemmas.List.{append-nil, nil_from_length}
 use Rattle.std.proofs.lemmas.List.Folds.{list_all-append}
-use Rattle.cilk_tree.specs.declared.token.Sign.{Sign}
 use Rattle.cilk_tree.specs.declared.token.Token.{Token}
-use Rattle.cilk_tree.specs.declared.token.Token.TheVariants.{Mark}
-use Rattle.cilk_tree.specs.Lexeme.{is_blank, is_word, IsLexeme, EndsBefore, StartsWith, Lexes}
-use Rattle.cilk_tree.specs.Token.{sign_text}
+use Rattle.cilk_tree.specs.Lexeme.{is_blank, IsLexeme, EndsBefore, StartsWith, Lexes}
 use Rattle.cilk_reader.proofs.Runs.{StartsWithout, run_all, run_ends, run_unique}
 use Rattle.cilk_reader.proofs.Lexemes.{Begins, begins_some, lexeme_begins, same_first}
 
@@ -58,13 +55,10 @@ pub starts_shorter : (text rest : List ℕ) (token : Token) → StartsWith text 
 starts_shorter text rest token s =
     omega (arith, ap length s.parts, length-append (s.gap ++ s.lexeme) rest, length-append s.gap s.lexeme, begins_some (λ byte. not (is_blank byte)) s.lexeme (lexeme_begins token s.lexeme s.spelled))
 
--- what `tokens` are the front of the text's tokens, where `rest` is left
+-- the text's tokens are these and then the tokens of the rest, in whatever way that is divided
 pub record SoFar (text : List ℕ) (tokens : List Token) (rest : List ℕ) : Type 0 where
   pub found : (more : List Token) → Lexes rest more → Lexes text (tokens ++ more)
   pub only : (all : List Token) → Lexes text all → (more : List Token) × (all ≡ tokens ++ more) × Lexes rest more
-
-pub so_far_none : (text : List ℕ) → SoFar text [] text
-so_far_none text = record { found = λ more h. h; only = λ all h. (all, refl, h) }
 
 more_after : (text rest after : List ℕ) (tokens all : List Token) (token : Token) → StartsWith rest token after → (more : List Token) → all ≡ tokens ++ more → Lexes rest more → (others : List Token) × (all ≡ (tokens ++ token ∷ []) ++ others) × Lexes after others
 more_after text rest after tokens all token s [] e h = absurd (starts_not_blank rest after token s h)
@@ -87,10 +81,6 @@ so_far_found text rest tokens so_far blank = subst (Lexes text) (append-nil toke
 
 pub so_far_only : (text rest : List ℕ) (tokens : List Token) → SoFar text tokens rest → IsTrue (list_all is_blank rest) → (all : List Token) → Lexes text all → tokens ≡ all
 so_far_only text rest tokens so_far blank all h = let m = so_far.only all h in none_after rest tokens all blank m.0 m.1 m.2
-
--- where no tokens are those of what is left, none are those of the text
-pub so_far_refused : (text rest : List ℕ) (tokens : List Token) → SoFar text tokens rest → ((more : List Token) → Lexes rest more → ⊥) → (all : List Token) → Lexes text all → ⊥
-so_far_refused text rest tokens so_far none all h = let m = so_far.only all h in none m.0 m.2
 
 -- the text from its first byte on that is no blank
 abbrev pub past_gap : List ℕ → List ℕ

@@ -29,9 +29,8 @@ pub(crate) fn tokens_of(alloc: Global, text: &[u8]) -> Result<Vec<Token>, ReadRe
     let mut tokens = Vec::new(alloc);
     let mut rest = text;
     while let Some(step) = next_token(alloc, rest)? {
-        let Step { token, rest: after } = step;
-        tokens.push(token)?;
-        rest = after;
+        rest = step.rest;
+        tokens.push(step.token)?;
     }
     Ok(tokens)
 }
@@ -107,8 +106,8 @@ fn word_len(text: &[u8]) -> usize
 fn is_blank(byte: u8) -> bool
     ensures { result ≡ is_blank byte }
 {
-    // From tab on: the line ends and the form feed.
-    matches!(byte, 9..=13 | b' ')
+    // From tab to carriage return stand the ends of a line and form feed too.
+    matches!(byte, b'\t'..=b'\r' | b' ')
 }
 
 fn is_word(byte: u8) -> bool

@@ -31,6 +31,7 @@ pub enum Keyword {
 }
 
 impl Keyword {
+    /// All the reserved words.
     pub const ALL: [Keyword; 13] = [
         Keyword::Cilk,
         Keyword::CilkFor,
