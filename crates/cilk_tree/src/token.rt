@@ -73,6 +73,8 @@ impl Keyword {
 #[derive(Clone, Copy, Debug, PartialEq, Eq)]
 pub enum Sign {
     Plus,
+    Minus,
+    Star,
     Assign,
     OpenParen,
     CloseParen,
@@ -99,6 +101,8 @@ impl Sign {
     {
         match self {
             Sign::Plus => b"+",
+            Sign::Minus => b"-",
+            Sign::Star => b"*",
             Sign::Assign => b"=",
             Sign::OpenParen => b"(",
             Sign::CloseParen => b")",
