@@ -85,8 +85,10 @@ pub enum Sign {
 
 impl Sign {
     /// All the signs, a longer one before a shorter one.
-    pub const ALL: [Sign; 7] = [
+    pub const ALL: [Sign; 9] = [
         Sign::Plus,
+        Sign::Minus,
+        Sign::Star,
         Sign::Assign,
         Sign::OpenParen,
         Sign::CloseParen,
