@@ -12,7 +12,7 @@ use Rattle.std.proofs.lemmas.Option.{none-some, same_Some}
 use Rattle.cilk_tree.specs.declared.token.Keyword.{Keyword}
 use Rattle.cilk_tree.specs.declared.token.Keyword.TheVariants.{Cilk, CilkFor, Else, FetchAdd, For, If, Int, Print, Return, Spawn, Sync, Void, While}
 use Rattle.cilk_tree.specs.declared.token.Sign.{Sign}
-use Rattle.cilk_tree.specs.declared.token.Sign.TheVariants.{Plus, Assign, OpenParen, CloseParen, OpenBrace, CloseBrace, Semicolon}
+use Rattle.cilk_tree.specs.declared.token.Sign.TheVariants.{Plus, Minus, Star, Assign, OpenParen, CloseParen, OpenBrace, CloseBrace, Semicolon}
 use Rattle.cilk_tree.specs.declared.token.Token.{Token}
 use Rattle.cilk_tree.specs.declared.token.Token.TheVariants.{Name, Number, Word, Mark}
 use Rattle.cilk_tree.specs.Lexeme.{is_blank, is_digit, is_letter, is_word, IsName, IsLexeme, StartsNoWord, EndsBefore}
@@ -80,6 +80,8 @@ keyword_bytes While = (refl, refl)
 
 sign_bytes : (sign : Sign) → Begins is_mark (sign_text sign)
 sign_bytes Plus = refl
+sign_bytes Minus = refl
+sign_bytes Star = refl
 sign_bytes Assign = refl
 sign_bytes OpenParen = refl
 sign_bytes CloseParen = refl
@@ -169,6 +171,8 @@ keyword_injective word other same =
 
 sign_of_text : (sign : Sign) → find (λ s. bytes_eq (sign_text s) (sign_text sign)) signs ≡ Some sign
 sign_of_text Plus = refl
+sign_of_text Minus = refl
+sign_of_text Star = refl
 sign_of_text Assign = refl
 sign_of_text OpenParen = refl
 sign_of_text CloseParen = refl
@@ -222,8 +226,8 @@ word_mark_apart token sign bytes others rest after same w h k =
 
 same_cut : (front other rest after : List ℕ) → front ++ rest ≡ other ++ after → length front ≡ length other → (front ≡ other) × (rest ≡ after)
 same_cut front other rest after same len = (
-    sym (take_at front rest (length front) refl) ∙ ap (take (length front)) same ∙ take_at other after (length front) (sym len),
-    sym (drop_at front rest (length front) refl) ∙ ap (drop (length front)) same ∙ drop_at other after (length front) (sym len),
+  sym (take_at front rest (length front) refl) ∙ ap (take (length front)) same ∙ take_at other after (length front) (sym len),
+  sym (drop_at front rest (length front) refl) ∙ ap (drop (length front)) same ∙ drop_at other after (length front) (sym len),
 )
 
 same_mark : (sign other : Sign) (rest after : List ℕ) → sign_text sign ++ rest ≡ sign_text other ++ after → EndsBefore (Mark sign) rest → EndsBefore (Mark other) after → (sign ≡ other) × (rest ≡ after)
@@ -236,19 +240,19 @@ pub same_first : (token other : Token) (bytes others rest after : List ℕ) → 
 same_first token other bytes others rest after same h k ends ends_too =
     ⊎_elim
     (λ w. ⊎_elim
-        (λ v.
-            let run = run_unique is_word bytes others rest after same (word_token_bytes token bytes w h).0 (word_token_bytes other others v k).0 (word_token_ends token rest w ends) (word_token_ends other after v ends_too) in
-            (same_word_token token other others w v (subst (λ bs. IsLexeme bs token) run.0 h) k, run.1))
-        (λ n. absurd (word_mark_apart token n.0 bytes others rest after same w h (subst (IsLexeme others) n.1 k)))
-        (token_kind other))
+    (λ v.
+    let run = run_unique is_word bytes others rest after same (word_token_bytes token bytes w h).0 (word_token_bytes other others v k).0 (word_token_ends token rest w ends) (word_token_ends other after v ends_too) in
+    (same_word_token token other others w v (subst (λ bs. IsLexeme bs token) run.0 h) k, run.1))
+    (λ n. absurd (word_mark_apart token n.0 bytes others rest after same w h (subst (IsLexeme others) n.1 k)))
+    (token_kind other))
     (λ m. ⊎_elim
-        (λ v. absurd (word_mark_apart other m.0 others bytes after rest (sym same) v k (subst (IsLexeme bytes) m.1 h)))
-        (λ n.
-            let spelled : bytes ≡ sign_text m.0 = subst (IsLexeme bytes) m.1 h in
-            let spelled_too : others ≡ sign_text n.0 = subst (IsLexeme others) n.1 k in
-            let both = same_mark m.0 n.0 rest after (sym (ap (λ bs. bs ++ rest) spelled) ∙ same ∙ ap (λ bs. bs ++ after) spelled_too) (subst (λ t. EndsBefore t rest) m.1 ends) (subst (λ t. EndsBefore t after) n.1 ends_too) in
-            (m.1 ∙ ap Mark both.0 ∙ sym n.1, both.1))
-        (token_kind other))
+    (λ v. absurd (word_mark_apart other m.0 others bytes after rest (sym same) v k (subst (IsLexeme bytes) m.1 h)))
+    (λ n.
+    let spelled : bytes ≡ sign_text m.0 = subst (IsLexeme bytes) m.1 h in
+    let spelled_too : others ≡ sign_text n.0 = subst (IsLexeme others) n.1 k in
+    let both = same_mark m.0 n.0 rest after (sym (ap (λ bs. bs ++ rest) spelled) ∙ same ∙ ap (λ bs. bs ++ after) spelled_too) (subst (λ t. EndsBefore t rest) m.1 ends) (subst (λ t. EndsBefore t after) n.1 ends_too) in
+    (m.1 ∙ ap Mark both.0 ∙ sym n.1, both.1))
+    (token_kind other))
     (token_kind token)
 
 begins_first : (p : ℕ → Bool) (bytes : List ℕ) → 0 < length bytes → p (get_or bytes 0 0) ≡ true → Begins p bytes

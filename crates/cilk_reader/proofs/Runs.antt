@@ -18,16 +18,16 @@ pub run_all : (p : ℕ → Bool) (xs : List ℕ) → IsTrue (list_all p (take (p
 run_all p xs =
     list_all-from_AllPass p (take (prefix_len p xs) xs)
     (λ k d within.
-        let below : k < prefix_len p xs = omega (arith, length-prefix_len p xs) in
-        ap p (get_or-take (prefix_len p xs) xs k d below) ∙ prefix_len_passes p xs k d below)
+    let below : k < prefix_len p xs = omega (arith, length-prefix_len p xs) in
+    ap p (get_or-take (prefix_len p xs) xs k d below) ∙ prefix_len_passes p xs k d below)
 
 pub run_ends : (p : ℕ → Bool) (xs : List ℕ) → StartsWithout p (drop (prefix_len p xs) xs)
 run_ends p xs =
     StartsWithout-from_first p (drop (prefix_len p xs) xs)
     (λ more.
-        let first : get_or (drop (prefix_len p xs) xs) 0 0 ≡ get_or xs (prefix_len p xs) 0 = get_or-drop (prefix_len p xs) xs 0 0 ∙ ap (λ i. get_or xs i 0) (add-zero (prefix_len p xs)) in
-        let inside : prefix_len p xs < length xs = omega (arith, length-drop (prefix_len p xs) xs) in
-        ap p first ∙ prefix_len_stops p xs 0 inside)
+    let first : get_or (drop (prefix_len p xs) xs) 0 0 ≡ get_or xs (prefix_len p xs) 0 = get_or-drop (prefix_len p xs) xs 0 0 ∙ ap (λ i. get_or xs i 0) (add-zero (prefix_len p xs)) in
+    let inside : prefix_len p xs < length xs = omega (arith, length-drop (prefix_len p xs) xs) in
+    ap p first ∙ prefix_len_stops p xs 0 inside)
 
 -- a text is divided in one way into a run and what begins without one
 pub run_unique : (p : ℕ → Bool) (a c b d : List ℕ) → a ++ b ≡ c ++ d → IsTrue (list_all p a) → IsTrue (list_all p c) → StartsWithout p b → StartsWithout p d → (a ≡ c) × (b ≡ d)

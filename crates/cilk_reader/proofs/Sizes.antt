@@ -36,6 +36,8 @@ keyword_some keyword.While = omega arith
 
 sign_some : (mark : Sign) → 0 < length (sign_text mark)
 sign_some sign.Plus = omega arith
+sign_some sign.Minus = omega arith
+sign_some sign.Star = omega arith
 sign_some sign.Assign = omega arith
 sign_some sign.OpenParen = omega arith
 sign_some sign.CloseParen = omega arith
@@ -76,4 +78,4 @@ pub statements-le-bytes : (text : List ℕ) (tokens : List Token) (program : Pro
     → AllByRecursion (λ function. length function.body ≤ length text) program.functions
 statements-le-bytes text tokens program lexed is =
     subst (λ p. AllByRecursion (λ function. length function.body ≤ length text) p.functions) (sym is.tree)
-        ((omega (arith, program_fits is.body, ap length is.same, tokens_fit text tokens lexed), tt))
+    ((omega (arith, program_fits is.body, ap length is.same, tokens_fit text tokens lexed), tt))

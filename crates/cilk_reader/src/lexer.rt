@@ -78,7 +78,10 @@ fn first_token(alloc: Global, text: &[u8]) -> Result<Step, ReadRefusal>
     if word.is_empty() {
         let sign = sign_at(text).ok_or(ReadRefusal::NotYet)?;
         let rest = &text[sign.text().len()..];
-        return Ok(Step { token: Token::Mark(sign), rest });
+        return Ok(Step {
+            token: Token::Mark(sign),
+            rest,
+        });
     }
     let token = word_token(alloc, word)?;
     Ok(Step { token, rest })
@@ -148,7 +151,10 @@ fn number_of(word: &[u8]) -> Option<i64>
 fn keyword_of(word: &[u8]) -> Option<Keyword>
     ensures { MatchOption result ((keyword : Keyword) → word.now ≢ keyword_text keyword) (λ keyword. word.now ≡ keyword_text keyword) }
 {
-    Keyword::ALL.iter().copied().find(|keyword| keyword.text() == word)
+    Keyword::ALL
+        .iter()
+        .copied()
+        .find(|keyword| keyword.text() == word)
 }
 
 /// A copy of the word.
@@ -166,7 +172,10 @@ fn name_of(alloc: Global, word: &[u8]) -> Result<Name, AllocError>
 fn sign_at(text: &[u8]) -> Option<Sign>
     ensures { MatchOption result ((sign : Sign) (rest : List ℕ) → text.now ≢ sign_text sign ++ rest)
         (λ sign. (text.now ≡ sign_text sign ++ drop (length (sign_text sign)) text.now)
-            × EndsBefore (Mark sign) (drop (length (sign_text sign)) text.now)) }
+        × EndsBefore (Mark sign) (drop (length (sign_text sign)) text.now)) }
 {
-    Sign::ALL.iter().copied().find(|sign| text.starts_with(sign.text()))
+    Sign::ALL
+        .iter()
+        .copied()
+        .find(|sign| text.starts_with(sign.text()))
 }

@@ -55,7 +55,8 @@ fn takes_statement(names: &[&[u8]], stmt: &Stmt) -> bool
 {
     match stmt {
         Stmt::Declare(name) => name.items() != b"main".as_slice() && !contains(names, name.items()),
-        Stmt::Assign(name, value) => contains(names, name.items()) && takes_expression(names, value),
+        Stmt::Assign(name, value) => contains(names, name.items())
+            && takes_expression(names, value),
         Stmt::Print(value) => takes_expression(names, value),
         _ => false,
     }

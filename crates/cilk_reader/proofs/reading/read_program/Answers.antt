@@ -21,7 +21,7 @@ returns-in-Ok-true-clause-only c = λ program spelled.
 pub returns-in-Ok-true-clause-small : goal.returns-in-Ok-true-clause-small
 returns-in-Ok-true-clause-small c =
     statements-le-bytes c.args.text.now c.as_slice.result.now c.in_ok-program.program
-        (subst (λ tokens. Lexes c.args.text.now tokens) (sym c.as_slice.ensures.value) c.in_ok-tokens.ensures.found) c.in_ok-program.ensures.found
+    (subst (λ tokens. Lexes c.args.text.now tokens) (sym c.as_slice.ensures.value) c.in_ok-tokens.ensures.found) c.in_ok-program.ensures.found
 
 pub returns-in-Ok-false-clause-only : goal.returns-in-Ok-false-clause-only
 returns-in-Ok-false-clause-only c = λ program spelled.
