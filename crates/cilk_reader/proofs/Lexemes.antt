@@ -1,13 +1,12 @@
 -- What bytes a token may have, and that no other token has them.
-use Rattle.std.proofs.Common.{◌≡◌, ◌≢◌, ◌⊎◌, inl, inr, ℕ, pos, ◌<◌, ◌≤◌, ◌^◌, ℤ, Bool, true, false, not, ◌&&◌, IsTrue, List, [], ◌∷◌, ◌++◌, length, get_or, take, drop, Option, Some, None, sym, refl, ap, ◌∙◌, subst, ⊎_elim, arith, append_assoc}
+use Rattle.std.proofs.Common.{◌≡◌, ◌≢◌, ◌⊎◌, inl, inr, ℕ, pos, ◌<◌, ◌^◌, ℤ, Bool, true, not, ◌&&◌, IsTrue, List, [], ◌∷◌, ◌++◌, length, get_or, take, drop, Option, Some, None, sym, refl, ap, ◌∙◌, subst, ⊎_elim, arith}
 use Rattle.std.specs.Fmt.{decimal}
 use Rattle.std.specs.List.{list_all, find}
 use Rattle.std.specs.Str.{bytes_eq}
-use Rattle.std.proofs.str.Laws.{order}
 use Rattle.std.proofs.lemmas.Bool.{and_parts, and_from, both_ways, or_left, or_right}
 use Rattle.std.proofs.lemmas.Bool.Decides.{nat_tests}
 use Rattle.std.proofs.lemmas.Fmt.{decimal_injective}
-use Rattle.std.proofs.lemmas.List.{append_cancel_left, nil_from_length, take_at, drop_at}
+use Rattle.std.proofs.lemmas.List.{nil_from_length, take_at, drop_at}
 use Rattle.std.proofs.lemmas.Option.{none-some, same_Some}
 use Rattle.cilk_tree.specs.declared.token.Keyword.{Keyword}
 use Rattle.cilk_tree.specs.declared.token.Keyword.TheVariants.{Cilk, CilkFor, Else, FetchAdd, For, If, Int, Print, Return, Spawn, Sync, Void, While}

@@ -1,14 +1,11 @@
 -- How a text is divided into tokens: in one way, of which a token from the left is found at a time.
-use Rattle.std.proofs.Common.{◌≡◌, ◌≢◌, ◌⊎◌, ℕ, ◌+◌, ◌<◌, ◌≤◌, Bool, true, false, not, IsTrue, List, [], ◌∷◌, ◌++◌, length, take, drop, sym, refl, ap, ◌∙◌, subst, ⊎_elim, arith, append_assoc, take-append-drop, length-append}
+use Rattle.std.proofs.Common.{◌≡◌, ℕ, ◌<◌, Bool, not, IsTrue, List, [], ◌∷◌, ◌++◌, length, take, drop, sym, refl, ap, ◌∙◌, subst, arith, append_assoc, take-append-drop, length-append}
 use Rattle.std.specs.List.{list_all, prefix_len}
 use Rattle.std.proofs.lemmas.Bool.{and_parts, and_from, both_ways, not-true}
 use Rattle.std.proofs.lemmas.List.{append-nil, nil_from_length}
 use Rattle.std.proofs.lemmas.List.Folds.{list_all-append}
-use Rattle.cilk_tree.specs.declared.token.Sign.{Sign}
 use Rattle.cilk_tree.specs.declared.token.Token.{Token}
-use Rattle.cilk_tree.specs.declared.token.Token.TheVariants.{Mark}
-use Rattle.cilk_tree.specs.Lexeme.{is_blank, is_word, IsLexeme, EndsBefore, StartsWith, Lexes}
-use Rattle.cilk_tree.specs.Token.{sign_text}
+use Rattle.cilk_tree.specs.Lexeme.{is_blank, IsLexeme, EndsBefore, StartsWith, Lexes}
 use Rattle.cilk_reader.proofs.Runs.{StartsWithout, run_all, run_ends, run_unique}
 use Rattle.cilk_reader.proofs.Lexemes.{Begins, begins_some, lexeme_begins, same_first}
 

@@ -1,10 +1,10 @@
 -- What numbers are written as, and what is read from them.
-use Rattle.std.proofs.Common.{◌≡◌, ◌≢◌, ℕ, ℤ, pos, ◌<◌, ◌≤◌, ◌^◌, zero, suc, Bool, true, false, IsTrue, List, [], ◌∷◌, length, get_or, Option, Some, None, Result, Ok, Err, sym, refl, ap, ◌∙◌, subst, ⊎_elim, arith, rules, w64}
+use Rattle.std.proofs.Common.{◌≡◌, ◌≢◌, ℕ, ℤ, pos, ◌<◌, ◌^◌, zero, suc, true, false, IsTrue, List, [], ◌∷◌, length, get_or, Some, None, Result, Ok, Err, sym, refl, ap, ◌∙◌, subst, ⊎_elim, arith, rules, w64}
 use Rattle.std.proofs.str.Laws.{order}
 use Rattle.std.proofs.lemmas.Int.{ints}
 use Rattle.std.specs.List.{list_all}
 use Rattle.std.specs.Fmt.{decimal}
-use Rattle.std.specs.Str.Parse.{AllDigits, digits_value, IsNumeral, ParsesSigned}
+use Rattle.std.specs.Str.Parse.{AllDigits, digits_value, ParsesSigned}
 use Rattle.std.proofs.lemmas.Bool.{and_parts, and_from, both_ways}
 use Rattle.std.proofs.lemmas.Bool.Decides.{nat_tests}
 use Rattle.std.proofs.lemmas.Fmt.{decimal_is_IsNumeral, decimal_digit, decimal_nonempty, first_decimal, decimal-digits_value, parse-signed_decimal, IsAscii-decimal}

@@ -1,11 +1,11 @@
 -- The machine reads the tokens of each program.
-use Rattle.std.proofs.Common.{◌≡◌, ℕ, ◌+◌, ◌≤◌, ◌<◌, ◌&&◌, nat_lt, max, Option, Some, None, IsSome, MatchOption, List, [], ◌∷◌, ◌++◌, sum_by, refl, ap, sym, ◌∙◌, arith, append_assoc}
+use Rattle.std.proofs.Common.{◌≡◌, ℕ, ◌+◌, ◌≤◌, ◌<◌, ◌&&◌, nat_lt, Option, Some, None, IsSome, MatchOption, List, [], ◌∷◌, ◌++◌, sum_by, refl, ap, sym, ◌∙◌, arith, append_assoc}
 use Rattle.std.specs.List.{AllByRecursion, flat_map}
 use Rattle.std.proofs.lemmas.Bool.{lt-ltb}
 use Rattle.std.proofs.lemmas.List.{append-nil}
 use Rattle.std.proofs.lemmas.List.Sums.{sum_by_push, sum_by-cons}
 use Rattle.cilk_tree.specs.declared.token.Sign.{Sign}
-use Rattle.cilk_tree.specs.declared.token.Sign.TheVariants.{Plus, Minus, Star, OpenParen, CloseParen, CloseBrace, Semicolon}
+use Rattle.cilk_tree.specs.declared.token.Sign.TheVariants.{Plus, Minus, Star, CloseParen, CloseBrace, Semicolon}
 use Rattle.cilk_tree.specs.declared.token.Token.{Token}
 use Rattle.cilk_tree.specs.declared.token.Token.TheVariants.{Mark}
 use Rattle.cilk_tree.specs.declared.tree.BinaryOp.{BinaryOp}

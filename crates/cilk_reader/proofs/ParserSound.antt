@@ -1,5 +1,5 @@
 -- What the machine reads is a program.
-use Rattle.std.proofs.Common.{◌≡◌, ℕ, ◌+◌, ◌≤◌, ◌<◌, Bool, true, false, ◌&&◌, nat_lt, max, Option, Some, None, IsSome, option_and_then, if◌then◌else◌, List, [], ◌∷◌, ◌++◌, length, codes, sum_by, refl, ap, sym, ◌∙◌, arith, subst, append_assoc}
+use Rattle.std.proofs.Common.{◌≡◌, ℕ, ◌+◌, ◌≤◌, ◌<◌, Bool, true, false, ◌&&◌, nat_lt, Option, Some, None, IsSome, option_and_then, if◌then◌else◌, List, [], ◌∷◌, ◌++◌, length, codes, sum_by, refl, ap, sym, ◌∙◌, arith, subst, append_assoc}
 use Rattle.std.specs.List.{AllByRecursion, flat_map}
 use Rattle.std.specs.Option.{IfSome}
 use Rattle.std.specs.Str.{bytes_eq}
@@ -17,7 +17,7 @@ use Rattle.cilk_tree.specs.declared.token.Token.TheVariants.{Name, Number, Word,
 use Rattle.cilk_tree.specs.declared.tree.BinaryOp.{BinaryOp}
 use Rattle.cilk_tree.specs.declared.tree.BinaryOp.TheVariants as op
 use Rattle.cilk_tree.specs.Spelling.{IsShort, operator_count, HasFewOperators, nesting, IsShallow, local_count, IsWithinLimits}
-use Rattle.cilk_tree.specs.Syntax.{Expression, Variable, Group, Infix, Statement, Declaration, Assignment, Printing, operator_sign, operator_strength, strength, IsGrouped, IsGroupedStatement, sign_tokens, expression_tokens, statement_tokens, program_tokens}
+use Rattle.cilk_tree.specs.Syntax.{Expression, Variable, Infix, Statement, Declaration, Assignment, Printing, operator_sign, operator_strength, strength, IsGrouped, IsGroupedStatement, sign_tokens, expression_tokens, statement_tokens, program_tokens}
 use Rattle.cilk_reader.specs.Machine.{Around, AssignedTo, Printed, RightOf, InGroup, Place, AtStart, AtMain, AtParameters, AtParametersEnd, AtBody, Between, AfterInt, AfterDeclared, AfterName, AfterPrint, Wants, Has, AfterPrinted, AtEnd, least_strength, operators_before, level_of, with_operator, at_end_of, place_if, is_short, step, finish, run}
 
 -- the tokens that were read before an operand

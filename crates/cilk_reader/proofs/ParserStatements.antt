@@ -1,5 +1,5 @@
 -- What the machine does at the tokens of a statement.
-use Rattle.std.proofs.Common.{Result, Ok, Err, MatchResult, Bor, ◌≡◌, ◌≢◌, ℕ, ℤ, ◌+◌, ◌≤◌, ◌<◌, ◌&&◌, nat_lt, Some, None, List, [], ◌∷◌, ◌++◌, length, sum_by, map, refl, ap, sym, ◌∙◌, arith}
+use Rattle.std.proofs.Common.{Result, Ok, Err, MatchResult, Bor, ◌≡◌, ◌≢◌, ℕ, ℤ, ◌+◌, ◌≤◌, ◌<◌, ◌&&◌, nat_lt, Some, None, List, [], ◌∷◌, ◌++◌, length, sum_by, refl, ap, sym, ◌∙◌, arith}
 use Rattle.std.proofs.lemmas.Bool.{lt-ltb, le-ltb}
 use Rattle.cilk_tree.specs.declared.token.Keyword.{Keyword}
 use Rattle.cilk_tree.specs.declared.token.Keyword.TheVariants as keyword
@@ -11,8 +11,8 @@ use Rattle.cilk_tree.specs.declared.tree.Expr.{Expr}
 use Rattle.cilk_tree.specs.declared.tree.Stmt.{Stmt}
 use Rattle.cilk_tree.specs.declared.tree.Stmt.TheVariants as stmt
 use Rattle.cilk_tree.specs.Spelling.{local_count}
-use Rattle.cilk_tree.specs.Syntax.{Expression, Statement, Declaration, Assignment, Printing, statement_tree}
-use Rattle.cilk_reader.specs.Machine.{AssignedTo, Printed, Place, Between, AfterInt, AfterDeclared, AfterName, AfterPrint, Wants, Has, AfterPrinted, AtEnd, place_if, step, run, StopsBelow, ReadsExpression, RefusesExpression, ReadsStatement, RefusesStatement, ReadsStatements, ReadsBody, RefusesBody}
+use Rattle.cilk_tree.specs.Syntax.{Expression, Statement, Declaration, Assignment, Printing}
+use Rattle.cilk_reader.specs.Machine.{AssignedTo, Printed, Place, Between, AfterInt, AfterDeclared, AfterName, AfterPrint, Wants, Has, AfterPrinted, AtEnd, place_if, step, run, StopsBelow, ReadsExpression, RefusesExpression, ReadsStatement, RefusesStatement, ReadsStatements, ReadsBody}
 use Rattle.cilk_reader.specs.declared.refusal.ReadRefusal.{ReadRefusal}
 use Rattle.cilk_reader.specs.declared.refusal.ReadRefusal.TheVariants.{NotYet}
 use Rattle.cilk_reader.proofs.ParserSteps.{on_step, on_refusal, refuses, awaits_declared, awaits_printed, short_true, short_false}

@@ -1,5 +1,5 @@
 -- What the machine does at the tokens that each part of the parser looks at.
-use Rattle.std.proofs.Common.{not, Bor, ◌≡◌, ◌≢◌, ℕ, ℤ, ◌+◌, ◌≤◌, ◌<◌, nat_lt, Bool, true, false, Option, Some, None, option_and_then, MatchOption, List, [], ◌∷◌, length, codes, refl, ap, sym, ◌∙◌, inl, inr, ◌⊎◌, arith, subst}
+use Rattle.std.proofs.Common.{not, Bor, ◌≡◌, ◌≢◌, ℕ, ℤ, ◌+◌, ◌≤◌, ◌<◌, Bool, true, false, Option, Some, None, option_and_then, MatchOption, List, [], ◌∷◌, length, codes, refl, ap, sym, ◌∙◌, inl, inr, ◌⊎◌, arith, subst}
 use Rattle.std.specs.Str.{bytes_eq}
 use Rattle.std.proofs.lemmas.Bool.{lt-ltb, le-ltb, le-leb, lt-leb}
 use Rattle.cilk_tree.specs.declared.token.Keyword.{Keyword}

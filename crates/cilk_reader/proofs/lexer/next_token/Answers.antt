@@ -1,7 +1,7 @@
-use Rattle.std.proofs.Common.{◌≡◌, sym, subst, ap, length, ◌<◌, arith, rules, ◌∙◌}
+use Rattle.std.proofs.Common.{sym, ap, length, ◌<◌, arith, ◌∙◌}
 use Rattle.std.proofs.lemmas.Bool.{eqb-true, eqb-false}
 use Rattle.std.proofs.lemmas.Result.{err_from_is_err_and}
-use Rattle.cilk_reader.proofs.Lexing.{past_gap, blank_from_empty, starts_past_gap, lexes_refused, so_far_none, so_far_push, so_far_found, so_far_only, so_far_refused, starts_shorter}
+use Rattle.cilk_reader.proofs.Lexing.{past_gap, blank_from_empty, starts_past_gap, lexes_refused}
 use Rattle.cilk_reader.proofs.lexer.next_token.Goals as goal
 
 pub returns-then-is_empty-clause-found : goal.returns-then-is_empty-clause-found

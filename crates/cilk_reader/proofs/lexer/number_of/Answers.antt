@@ -1,8 +1,7 @@
-use Rattle.std.proofs.Common.{◌≡◌, ◌≢◌, ◌<◌, ◌∙◌, ap, sym, subst, Ok, length, get_or, w64, arith}
+use Rattle.std.proofs.Common.{◌≢◌, ◌<◌, ◌∙◌, ap, sym, subst, length, get_or, w64, arith}
 use Rattle.std.specs.Str.Parse.{ParsesSigned}
 use Rattle.std.specs.Option.{IfSome}
 use Rattle.std.specs.Result.{result_ok}
-use Rattle.std.specs.Str.{IsUtf8}
 use Rattle.cilk_tree.specs.declared.token.Token.TheVariants.{Number}
 use Rattle.cilk_tree.specs.Lexeme.{IsLexeme}
 use Rattle.cilk_reader.proofs.Numbers.{no_leading_zero, number_from_parse, parse_from_number, utf8_from_number, kept_by_ok, lost_by_ok, IfSome-by_ok}

@@ -1,6 +1,5 @@
-use Rattle.std.proofs.Common.{◌≡◌, ◌++◌, ◌∷◌, [], sym, subst}
+use Rattle.std.proofs.Common.{sym, subst}
 use Rattle.std.proofs.lemmas.Option.{MatchOption-at_some, MatchOption-at_none}
-use Rattle.cilk_tree.specs.Lexeme.{StartsWith}
 use Rattle.cilk_reader.proofs.Lexing.{SoFar, starts_shorter, so_far_push, so_far_found, so_far_only}
 use Rattle.cilk_reader.proofs.lexer.tokens_of.Goals as goal
 

@@ -1,6 +1,6 @@
-use Rattle.std.proofs.Common.{◌≡◌, true, None, sym, rules, tests, arith}
-use Rattle.cilk_tree.specs.declared.token.Token.TheVariants.{Name, Number, Word}
-use Rattle.cilk_tree.specs.Lexeme.{is_digit, IsLexeme}
+use Rattle.std.proofs.Common.{◌≡◌, None, sym, rules, arith}
+use Rattle.cilk_tree.specs.declared.token.Token.TheVariants.{Name, Word}
+use Rattle.cilk_tree.specs.Lexeme.{IsLexeme}
 use Rattle.cilk_reader.proofs.Lexemes.{number_refused, same_token}
 use Rattle.cilk_reader.proofs.lexer.word_token.Goals as goal
 

@@ -1,4 +1,4 @@
-use Rattle.std.proofs.Common.{rules, ◌∷◌, ◌<◌, inl, inr, ap, ◌∙◌, to_z-of_z, SFits, w64, arith}
+use Rattle.std.proofs.Common.{rules, ◌∷◌, ◌<◌, ap, ◌∙◌, to_z-of_z, SFits, w64, arith}
 use Rattle.std.proofs.lemmas.Result.{err_from_is_err_and}
 use Rattle.cilk_tree.specs.declared.token.Token.TheVariants.{Mark}
 use Rattle.cilk_reader.proofs.ParserSteps.{reads_on, refuses_on, refuses_many, reads_number, reads_name, reads_group, refuses_long, refuses_nothing, refuses_word, refuses_mark, refuses_deep, refuses_inner, refuses_unclosed_inner}
