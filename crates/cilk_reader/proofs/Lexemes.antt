@@ -11,7 +11,7 @@ use Rattle.std.proofs.lemmas.Option.{none-some, same_Some}
 use Rattle.cilk_tree.specs.declared.token.Keyword.{Keyword}
 use Rattle.cilk_tree.specs.declared.token.Keyword.TheVariants.{Cilk, CilkFor, Else, FetchAdd, For, If, Int, Print, Return, Spawn, Sync, Void, While}
 use Rattle.cilk_tree.specs.declared.token.Sign.{Sign}
-use Rattle.cilk_tree.specs.declared.token.Sign.TheVariants.{Plus, Assign, OpenParen, CloseParen, OpenBrace, CloseBrace, Semicolon}
+use Rattle.cilk_tree.specs.declared.token.Sign.TheVariants.{Plus, Minus, Star, Assign, OpenParen, CloseParen, OpenBrace, CloseBrace, Semicolon}
 use Rattle.cilk_tree.specs.declared.token.Token.{Token}
 use Rattle.cilk_tree.specs.declared.token.Token.TheVariants.{Name, Number, Word, Mark}
 use Rattle.cilk_tree.specs.Lexeme.{is_blank, is_digit, is_letter, is_word, IsName, IsLexeme, StartsNoWord, EndsBefore}
@@ -79,6 +79,8 @@ keyword_bytes While = (refl, refl)
 
 sign_bytes : (sign : Sign) → Begins is_mark (sign_text sign)
 sign_bytes Plus = refl
+sign_bytes Minus = refl
+sign_bytes Star = refl
 sign_bytes Assign = refl
 sign_bytes OpenParen = refl
 sign_bytes CloseParen = refl
@@ -162,6 +164,8 @@ keyword_injective word other same =
 
 sign_of_text : (sign : Sign) → find (λ s. bytes_eq (sign_text s) (sign_text sign)) signs ≡ Some sign
 sign_of_text Plus = refl
+sign_of_text Minus = refl
+sign_of_text Star = refl
 sign_of_text Assign = refl
 sign_of_text OpenParen = refl
 sign_of_text CloseParen = refl

@@ -1,18 +1,18 @@
 -- What the machine does at the tokens of a statement.
-use Rattle.std.proofs.Common.{Result, Ok, Err, MatchResult, Bor, ◌≡◌, ◌≢◌, ℕ, ℤ, ◌+◌, ◌≤◌, ◌<◌, ◌&&◌, nat_lt, Some, None, List, [], ◌∷◌, ◌++◌, length, sum_by, map, refl, ap, sym, ◌∙◌, arith}
+use Rattle.std.proofs.Common.{Result, Ok, Err, MatchResult, Bor, ◌≡◌, ◌≢◌, ℕ, ℤ, ◌+◌, ◌≤◌, ◌<◌, ◌&&◌, nat_lt, Some, None, List, [], ◌∷◌, ◌++◌, length, sum_by, refl, ap, sym, ◌∙◌, arith}
 use Rattle.std.proofs.lemmas.Bool.{lt-ltb, le-ltb}
 use Rattle.cilk_tree.specs.declared.token.Keyword.{Keyword}
 use Rattle.cilk_tree.specs.declared.token.Keyword.TheVariants as keyword
 use Rattle.cilk_tree.specs.declared.token.Sign.{Sign}
-use Rattle.cilk_tree.specs.declared.token.Sign.TheVariants.{Plus, Assign, OpenParen, CloseParen, CloseBrace, Semicolon}
+use Rattle.cilk_tree.specs.declared.token.Sign.TheVariants.{Plus, Minus, Star, Assign, OpenParen, CloseParen, CloseBrace, Semicolon}
 use Rattle.cilk_tree.specs.declared.token.Token.{Token}
 use Rattle.cilk_tree.specs.declared.token.Token.TheVariants.{Name, Number, Word, Mark}
 use Rattle.cilk_tree.specs.declared.tree.Expr.{Expr}
 use Rattle.cilk_tree.specs.declared.tree.Stmt.{Stmt}
 use Rattle.cilk_tree.specs.declared.tree.Stmt.TheVariants as stmt
 use Rattle.cilk_tree.specs.Spelling.{local_count}
-use Rattle.cilk_tree.specs.Syntax.{Expression, Statement, Declaration, Assignment, Printing, statement_tree}
-use Rattle.cilk_reader.specs.Machine.{AssignedTo, Printed, Place, Between, AfterInt, AfterDeclared, AfterName, AfterPrint, Wants, Has, AfterPrinted, AtEnd, place_if, step, run, StopsBelow, ReadsExpression, RefusesExpression, ReadsStatement, RefusesStatement, ReadsStatements, ReadsBody, RefusesBody}
+use Rattle.cilk_tree.specs.Syntax.{Expression, Statement, Declaration, Assignment, Printing}
+use Rattle.cilk_reader.specs.Machine.{AssignedTo, Printed, Place, Between, AfterInt, AfterDeclared, AfterName, AfterPrint, Wants, Has, AfterPrinted, AtEnd, place_if, step, run, StopsBelow, ReadsExpression, RefusesExpression, ReadsStatement, RefusesStatement, ReadsStatements, ReadsBody}
 use Rattle.cilk_reader.specs.declared.refusal.ReadRefusal.{ReadRefusal}
 use Rattle.cilk_reader.specs.declared.refusal.ReadRefusal.TheVariants.{NotYet}
 use Rattle.cilk_reader.proofs.ParserSteps.{on_step, on_refusal, refuses, awaits_declared, awaits_printed, short_true, short_false}
@@ -55,6 +55,8 @@ refuses_unended_value body name value (Name _ ∷ rest) stops not = refl
 refuses_unended_value body name value (Number _ ∷ rest) stops not = refl
 refuses_unended_value body name value (Word _ ∷ rest) stops not = refl
 refuses_unended_value body name value (Mark Plus ∷ rest) stops not = absurd (omega (arith, stops))
+refuses_unended_value body name value (Mark Minus ∷ rest) stops not = absurd (omega (arith, stops))
+refuses_unended_value body name value (Mark Star ∷ rest) stops not = absurd (omega (arith, stops))
 refuses_unended_value body name value (Mark Semicolon ∷ rest) stops not = absurd (not rest refl)
 refuses_unended_value body name value (Mark _ ∷ rest) stops not = refl
 
@@ -65,6 +67,8 @@ refuses_unclosed_value body value (Name _ ∷ rest) stops not = refl
 refuses_unclosed_value body value (Number _ ∷ rest) stops not = refl
 refuses_unclosed_value body value (Word _ ∷ rest) stops not = refl
 refuses_unclosed_value body value (Mark Plus ∷ rest) stops not = absurd (omega (arith, stops))
+refuses_unclosed_value body value (Mark Minus ∷ rest) stops not = absurd (omega (arith, stops))
+refuses_unclosed_value body value (Mark Star ∷ rest) stops not = absurd (omega (arith, stops))
 refuses_unclosed_value body value (Mark CloseParen ∷ rest) stops not = absurd (not rest refl)
 refuses_unclosed_value body value (Mark _ ∷ rest) stops not = refl
 
@@ -74,13 +78,13 @@ module _ (locals : ℕ) (tokens start : List Token) (name : List ℕ) (assigned 
   unfolding step
   to_value body = on_step (AfterName body name) (Wants (AssignedTo body name)) _ _ _ refl assigned
 
-  pub refuses_value : RefusesExpression 0 0 start → RefusesStatement (λ body. AfterName body name) locals tokens
-  refuses_value refused body f = to_value body ∙ refused (AssignedTo body name) refl refl
+  pub refuses_value : RefusesExpression 0 0 1 start → RefusesStatement (λ body. AfterName body name) locals tokens
+  refuses_value refused body f = to_value body ∙ refused (AssignedTo body name) refl refl refl
 
-  pub refuses_unended_assignment : (tree : Expr) (rest : List Token) (now : ℕ) → ReadsExpression 0 0 start tree rest now → StopsBelow 0 rest → ((more : List Token) → rest ≢ Mark Semicolon ∷ more) → RefusesStatement (λ body. AfterName body name) locals tokens
-  refuses_unended_assignment tree rest now read stops unended body f = to_value body ∙ read.leads (AssignedTo body name) refl refl ∙ refuses_unended_value body name read.syntax rest stops unended
+  pub refuses_unended_assignment : (tree : Expr) (rest : List Token) (now : ℕ) → ReadsExpression 0 0 1 start tree rest now → StopsBelow 0 rest → ((more : List Token) → rest ≢ Mark Semicolon ∷ more) → RefusesStatement (λ body. AfterName body name) locals tokens
+  refuses_unended_assignment tree rest now read stops unended body f = to_value body ∙ read.leads (AssignedTo body name) refl refl refl ∙ refuses_unended_value body name read.syntax rest stops unended
 
-  pub reads_assignment : (tree : Expr) (rest after : List Token) (now : ℕ) → locals ≤ 256 → ReadsExpression 0 0 start tree rest now → rest ≡ Mark Semicolon ∷ after → ReadsStatement (λ body. AfterName body name) locals tokens (stmt.Assign name tree) after locals
+  pub reads_assignment : (tree : Expr) (rest after : List Token) (now : ℕ) → locals ≤ 256 → ReadsExpression 0 0 1 start tree rest now → rest ≡ Mark Semicolon ∷ after → ReadsStatement (λ body. AfterName body name) locals tokens (stmt.Assign name tree) after locals
   unfolding step
   reads_assignment tree rest after now few read ended = record {
     syntax = Assignment name read.syntax;
@@ -88,7 +92,7 @@ module _ (locals : ℕ) (tokens start : List Token) (name : List ℕ) (assigned 
     counted = omega arith;
     within = few;
     shorter = let a : length tokens ≡ length (Mark Assign ∷ start) = ap length assigned in let b : length rest ≡ length (Mark Semicolon ∷ after) = ap length ended in let d : length rest < length start = read.shorter in omega arith;
-    leads = λ body f. to_value body ∙ read.leads (AssignedTo body name) refl refl ∙ on_step (Has (AssignedTo body name) read.syntax) (Between (body ++ Assignment name read.syntax ∷ [])) _ _ _ refl ended;
+    leads = λ body f. to_value body ∙ read.leads (AssignedTo body name) refl refl refl ∙ on_step (Has (AssignedTo body name) read.syntax) (Between (body ++ Assignment name read.syntax ∷ [])) _ _ _ refl ended;
   }
 
 -- `print(e);`
@@ -97,16 +101,16 @@ module _ (locals : ℕ) (tokens start : List Token) (opened : tokens ≡ Mark Op
   unfolding step
   to_printed body = on_step (AfterPrint body) (Wants (Printed body)) _ _ _ refl opened
 
-  pub refuses_printed : RefusesExpression 0 0 start → RefusesStatement AfterPrint locals tokens
-  refuses_printed refused body f = to_printed body ∙ refused (Printed body) refl refl
+  pub refuses_printed : RefusesExpression 0 0 1 start → RefusesStatement AfterPrint locals tokens
+  refuses_printed refused body f = to_printed body ∙ refused (Printed body) refl refl refl
 
-  pub refuses_unclosed : (tree : Expr) (rest : List Token) (now : ℕ) → ReadsExpression 0 0 start tree rest now → StopsBelow 0 rest → ((more : List Token) → rest ≢ Mark CloseParen ∷ more) → RefusesStatement AfterPrint locals tokens
-  refuses_unclosed tree rest now read stops unended body f = to_printed body ∙ read.leads (Printed body) refl refl ∙ refuses_unclosed_value body read.syntax rest stops unended
+  pub refuses_unclosed : (tree : Expr) (rest : List Token) (now : ℕ) → ReadsExpression 0 0 1 start tree rest now → StopsBelow 0 rest → ((more : List Token) → rest ≢ Mark CloseParen ∷ more) → RefusesStatement AfterPrint locals tokens
+  refuses_unclosed tree rest now read stops unended body f = to_printed body ∙ read.leads (Printed body) refl refl refl ∙ refuses_unclosed_value body read.syntax rest stops unended
 
-  module _ (tree : Expr) (rest after : List Token) (now : ℕ) (read : ReadsExpression 0 0 start tree rest now) (closed : rest ≡ Mark CloseParen ∷ after) where
+  module _ (tree : Expr) (rest after : List Token) (now : ℕ) (read : ReadsExpression 0 0 1 start tree rest now) (closed : rest ≡ Mark CloseParen ∷ after) where
     to_semicolon : (body : List Statement) → run (AfterPrint body) tokens ≡ run (AfterPrinted body read.syntax) after
     unfolding step
-    to_semicolon body = to_printed body ∙ read.leads (Printed body) refl refl ∙ on_step (Has (Printed body) read.syntax) (AfterPrinted body read.syntax) _ _ _ refl closed
+    to_semicolon body = to_printed body ∙ read.leads (Printed body) refl refl refl ∙ on_step (Has (Printed body) read.syntax) (AfterPrinted body read.syntax) _ _ _ refl closed
 
     pub refuses_unended_printing : ((more : List Token) → after ≢ Mark Semicolon ∷ more) → RefusesStatement AfterPrint locals tokens
     refuses_unended_printing unended body f = to_semicolon body ∙ refuses (awaits_printed body read.syntax) after unended

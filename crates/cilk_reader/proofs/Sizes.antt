@@ -1,5 +1,5 @@
 -- A text has at least as many bytes as tokens, and a program at least as many tokens as statements.
-use Rattle.std.proofs.Common.{◌≡◌, ℕ, ◌+◌, ◌<◌, ◌≤◌, List, [], ◌∷◌, ◌++◌, length, map, sym, ap, subst, arith, length-append}
+use Rattle.std.proofs.Common.{ℕ, ◌<◌, ◌≤◌, List, [], ◌∷◌, ◌++◌, length, map, sym, ap, subst, arith, length-append}
 use Rattle.std.specs.List.{flat_map, AllByRecursion}
 use Rattle.std.proofs.lemmas.List.{length-map}
 use Rattle.std.proofs.lemmas.Fmt.{decimal_nonempty}
@@ -36,6 +36,8 @@ keyword_some keyword.While = omega arith
 
 sign_some : (mark : Sign) → 0 < length (sign_text mark)
 sign_some sign.Plus = omega arith
+sign_some sign.Minus = omega arith
+sign_some sign.Star = omega arith
 sign_some sign.Assign = omega arith
 sign_some sign.OpenParen = omega arith
 sign_some sign.CloseParen = omega arith

@@ -7,7 +7,7 @@ use Rattle.std.proofs.lemmas.List.Sums.{AllPass-from_list_all}
 use Rattle.cilk_tree.specs.declared.token.Keyword.{Keyword}
 use Rattle.cilk_tree.specs.declared.token.Keyword.TheVariants.{Cilk, CilkFor, Else, FetchAdd, For, If, Int, Print, Return, Spawn, Sync, Void, While}
 use Rattle.cilk_tree.specs.declared.token.Sign.{Sign}
-use Rattle.cilk_tree.specs.declared.token.Sign.TheVariants.{Plus, Assign, OpenParen, CloseParen, OpenBrace, CloseBrace, Semicolon}
+use Rattle.cilk_tree.specs.declared.token.Sign.TheVariants.{Plus, Minus, Star, Assign, OpenParen, CloseParen, OpenBrace, CloseBrace, Semicolon}
 use Rattle.cilk_tree.specs.declared.token.Token.TheVariants.{Mark}
 use Rattle.cilk_tree.specs.Lexeme.{EndsBefore}
 use Rattle.cilk_tree.specs.Token.{keyword_text, sign_text}
@@ -16,7 +16,7 @@ abbrev pub keywords : List Keyword
 keywords = Cilk ∷ CilkFor ∷ Else ∷ FetchAdd ∷ For ∷ If ∷ Int ∷ Print ∷ Return ∷ Spawn ∷ Sync ∷ Void ∷ While ∷ []
 
 abbrev pub signs : List Sign
-signs = Plus ∷ Assign ∷ OpenParen ∷ CloseParen ∷ OpenBrace ∷ CloseBrace ∷ Semicolon ∷ []
+signs = Plus ∷ Minus ∷ Star ∷ Assign ∷ OpenParen ∷ CloseParen ∷ OpenBrace ∷ CloseBrace ∷ Semicolon ∷ []
 
 keyword_listed : (word : Keyword) → Contains keywords word
 keyword_listed Cilk = (0, omega arith, refl)
@@ -35,12 +35,14 @@ keyword_listed While = (12, omega arith, refl)
 
 sign_listed : (sign : Sign) → Contains signs sign
 sign_listed Plus = (0, omega arith, refl)
-sign_listed Assign = (1, omega arith, refl)
-sign_listed OpenParen = (2, omega arith, refl)
-sign_listed CloseParen = (3, omega arith, refl)
-sign_listed OpenBrace = (4, omega arith, refl)
-sign_listed CloseBrace = (5, omega arith, refl)
-sign_listed Semicolon = (6, omega arith, refl)
+sign_listed Minus = (1, omega arith, refl)
+sign_listed Star = (2, omega arith, refl)
+sign_listed Assign = (3, omega arith, refl)
+sign_listed OpenParen = (4, omega arith, refl)
+sign_listed CloseParen = (5, omega arith, refl)
+sign_listed OpenBrace = (6, omega arith, refl)
+sign_listed CloseBrace = (7, omega arith, refl)
+sign_listed Semicolon = (8, omega arith, refl)
 
 -- what holds of each item of a table holds of one that is listed there
 of_listed : {X : Type 0} (P : X → Type 0) (xs : List X) (x : X) → AllWithin P xs 0 (length xs) → Contains xs x → P x

@@ -4,7 +4,7 @@ use Rattle.std.specs.Prelude.{map, ◌≡◌, ℕ, ◌+◌, ◌≤◌, ◌<◌, 
 use Rattle.std.specs.Str.{bytes_eq}
 use Rattle.cilk_tree.specs.declared.token.Keyword.TheVariants.{Int, Print}
 use Rattle.cilk_tree.specs.declared.token.Sign.{Sign}
-use Rattle.cilk_tree.specs.declared.token.Sign.TheVariants.{Plus, Assign, OpenParen, CloseParen, OpenBrace, CloseBrace, Semicolon}
+use Rattle.cilk_tree.specs.declared.token.Sign.TheVariants.{Plus, Minus, Star, Assign, OpenParen, CloseParen, OpenBrace, CloseBrace, Semicolon}
 use Rattle.cilk_tree.specs.declared.token.Token.{Token}
 use Rattle.cilk_tree.specs.declared.token.Token.TheVariants.{Name, Number, Word, Mark}
 use Rattle.cilk_tree.specs.declared.tree.BinaryOp.{BinaryOp}
@@ -13,14 +13,15 @@ use Rattle.cilk_tree.specs.declared.tree.Expr.{Expr}
 use Rattle.cilk_tree.specs.declared.tree.Stmt.{Stmt}
 use Rattle.cilk_tree.specs.declared.tree.Program.{Program}
 use Rattle.cilk_tree.specs.Spelling.{operator_count, local_count}
-use Rattle.cilk_tree.specs.Syntax.{Expression, Numeral, Variable, Infix, Statement, Declaration, Assignment, Printing, operator_strength, expression_tree, statement_tree}
+use Rattle.cilk_tree.specs.Syntax.{Expression, Numeral, Variable, Group, Infix, Statement, Declaration, Assignment, Printing, operator_strength, expression_tree, statement_tree}
 
--- What is open round an expression: the statement that it stands in, with the statements before, and the operators
--- whose right operands are not read yet, the last one outermost.
+-- What is open round an expression: the statement that it stands in, with the statements before, the operators whose
+-- right operands are not read yet, and the parentheses that are not closed yet, the last one outermost.
 pub data Around : Type 0 where
   AssignedTo : (body : List Statement) (name : List ℕ) → Around
   Printed : (body : List Statement) → Around
   RightOf : (around : Around) (left : Expression) (operator : BinaryOp) → Around
+  InGroup : (around : Around) → Around
 
 -- Where the machine stands. `body` has the statements that were read.
 pub data Place : Type 0 where
@@ -42,6 +43,8 @@ pub data Place : Type 0 where
 -- the operator of a sign
 abbrev pub sign_operator : Sign → Option BinaryOp
 sign_operator Plus = Some op.Add
+sign_operator Minus = Some op.Sub
+sign_operator Star = Some op.Mul
 sign_operator _ = None
 
 -- how strongly the next expression has to hold together
@@ -49,12 +52,21 @@ abbrev pub least_strength : Around → ℕ
 least_strength (AssignedTo body name) = 0
 least_strength (Printed body) = 0
 least_strength (RightOf around left operator) = operator_strength operator + 1
+least_strength (InGroup around) = 0
 
--- how many operators of the same expression were read
+-- how many operators of the whole expression stand before
 abbrev pub operators_before : Around → ℕ
 operators_before (AssignedTo body name) = 0
 operators_before (Printed body) = 0
 operators_before (RightOf around left operator) = operators_before around + operator_count left + 1
+operators_before (InGroup around) = operators_before around
+
+-- the level of the tokens of the expression
+abbrev pub level_of : Around → ℕ
+level_of (AssignedTo body name) = 1
+level_of (Printed body) = 1
+level_of (RightOf around left operator) = level_of around
+level_of (InGroup around) = level_of around + 1
 
 -- The operator takes the operand, or where it binds no stronger than the one before, the whole that ends there.
 abbrev pub with_operator : Around → Expression → BinaryOp → Around
@@ -64,6 +76,7 @@ with_operator (RightOf around left before) operand operator =
     else with_operator around (Infix left before operand) operator
 with_operator (AssignedTo body name) operand operator = RightOf (AssignedTo body name) operand operator
 with_operator (Printed body) operand operator = RightOf (Printed body) operand operator
+with_operator (InGroup around) operand operator = RightOf (InGroup around) operand operator
 
 -- the sign ends the expression
 abbrev pub at_end_of : Around → Expression → Sign → Option Place
@@ -72,6 +85,8 @@ at_end_of (AssignedTo body name) operand Semicolon = Some (Between (body ++ Assi
 at_end_of (AssignedTo body name) operand _ = None
 at_end_of (Printed body) operand CloseParen = Some (AfterPrinted body operand)
 at_end_of (Printed body) operand _ = None
+at_end_of (InGroup around) operand CloseParen = Some (Has around (Group operand))
+at_end_of (InGroup around) operand _ = None
 
 -- the place, if the test is passed
 abbrev pub place_if : Bool → Place → Option Place
@@ -102,6 +117,7 @@ step (AfterName body name) (Mark Assign) = Some (Wants (AssignedTo body name))
 step (AfterPrint body) (Mark OpenParen) = Some (Wants (Printed body))
 step (Wants around) (Number value) = Some (Has around (Numeral value))
 step (Wants around) (Name name) = place_if (is_short name) (Has around (Variable name))
+step (Wants around) (Mark OpenParen) = place_if (nat_lt (level_of around) 64) (Wants (InGroup around))
 step (Has around operand) (Mark sign) = after_operand around operand sign (sign_operator sign)
 step (AfterPrinted body value) (Mark Semicolon) = Some (Between (body ++ Printing value ∷ []))
 step _ _ = None
@@ -135,19 +151,19 @@ pub record GoesOn (least : ℕ) (tokens : List Token) (operator : BinaryOp) (res
   pub known : sign_operator sign ≡ Some operator
   pub strong : least ≤ operator_strength operator
 
--- From the tokens on the machine reads an expression with this tree, up to the rest. `count` and `now` are how many
--- operators of the whole expression were read before and after.
-pub record ReadsExpression (least count : ℕ) (tokens : List Token) (tree : Expr) (rest : List Token) (now : ℕ) : Type 0 where
+-- From the tokens on the machine reads an expression of this level with this tree, up to the rest. `count` and `now` are
+-- how many operators of the whole expression were read before and after.
+pub record ReadsExpression (least count level : ℕ) (tokens : List Token) (tree : Expr) (rest : List Token) (now : ℕ) : Type 0 where
   pub syntax : Expression
   pub same : tree ≡ expression_tree syntax
   pub counted : now ≡ count + operator_count syntax
   pub within : now ≤ 256
   pub shorter : length rest < length tokens
-  pub leads : (around : Around) → least_strength around ≡ least → operators_before around ≡ count → run (Wants around) tokens ≡ run (Has around syntax) rest
+  pub leads : (around : Around) → least_strength around ≡ least → operators_before around ≡ count → level_of around ≡ level → run (Wants around) tokens ≡ run (Has around syntax) rest
 
 -- no expression can be read from here
-abbrev pub RefusesExpression : ℕ → ℕ → List Token → Type 0
-RefusesExpression least count tokens = (around : Around) → least_strength around ≡ least → operators_before around ≡ count → run (Wants around) tokens ≡ None
+abbrev pub RefusesExpression : ℕ → ℕ → ℕ → List Token → Type 0
+RefusesExpression least count level tokens = (around : Around) → least_strength around ≡ least → operators_before around ≡ count → level_of around ≡ level → run (Wants around) tokens ≡ None
 
 -- From the tokens on the machine reads a statement with this tree, up to the rest. `locals` and `now` are how many
 -- locals the body has before and after.

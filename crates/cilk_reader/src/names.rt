@@ -80,7 +80,7 @@ fn takes_expression(names: &[&[u8]], expr: &Expr) -> bool
 fn takes_operator(operator: BinaryOp) -> bool
     ensures { result ≡ is_serial_operator operator }
 {
-    matches!(operator, BinaryOp::Add)
+    matches!(operator, BinaryOp::Add | BinaryOp::Sub | BinaryOp::Mul)
 }
 
 fn contains(names: &[&[u8]], name: &[u8]) -> bool

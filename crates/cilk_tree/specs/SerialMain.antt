@@ -21,6 +21,8 @@ is_among names name = list_any (λ other. bytes_eq other name) names
 -- the operators that the walk takes so far
 abbrev pub is_serial_operator : BinaryOp → Bool
 is_serial_operator op.Add = true
+is_serial_operator op.Sub = true
+is_serial_operator op.Mul = true
 is_serial_operator _ = false
 
 -- one step of `reads_only`, where the operands are replaced by their own answers

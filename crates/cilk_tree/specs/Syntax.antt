@@ -4,7 +4,7 @@ use Rattle.std.specs.List.{flat_map}
 use Rattle.std.specs.Prelude.{map}
 use Rattle.cilk_tree.specs.declared.token.Keyword.TheVariants.{Int, Print}
 use Rattle.cilk_tree.specs.declared.token.Sign.{Sign}
-use Rattle.cilk_tree.specs.declared.token.Sign.TheVariants.{Plus, Assign, OpenParen, CloseParen, OpenBrace, CloseBrace, Semicolon}
+use Rattle.cilk_tree.specs.declared.token.Sign.TheVariants.{Plus, Minus, Star, Assign, OpenParen, CloseParen, OpenBrace, CloseBrace, Semicolon}
 use Rattle.cilk_tree.specs.declared.tree.BinaryOp.{BinaryOp}
 use Rattle.cilk_tree.specs.declared.tree.BinaryOp.TheVariants as op
 use Rattle.cilk_tree.specs.declared.tree.Expr.{Expr}
@@ -15,10 +15,11 @@ use Rattle.cilk_tree.specs.declared.tree.Program.{Program}
 use Rattle.cilk_tree.specs.declared.token.Token.{Token}
 use Rattle.cilk_tree.specs.declared.token.Token.TheVariants.{Name, Number, Word, Mark}
 
--- An expression as it is written: a number, a name, or two operands round an operator.
+-- An expression as it is written: a number, a name, one in parentheses, or two operands round an operator.
 pub data Expression : Type 0 where
   Numeral : (value : ℤ) → Expression
   Variable : (name : List ℕ) → Expression
+  Group : (inner : Expression) → Expression
   Infix : (left : Expression) (operator : BinaryOp) (right : Expression) → Expression
 
 -- A statement as it is written: `int x;`, `x = e;` or `print(e);`
@@ -30,6 +31,8 @@ pub data Statement : Type 0 where
 -- the sign of an operator, where it is one that is read today
 abbrev pub operator_sign : BinaryOp → Option Sign
 operator_sign op.Add = Some Plus
+operator_sign op.Sub = Some Minus
+operator_sign op.Mul = Some Star
 operator_sign _ = None
 
 -- how strongly an operator binds its operands
@@ -53,6 +56,7 @@ operator_strength op.Rem = 6
 abbrev pub strength : Expression → ℕ
 strength (Numeral value) = 8
 strength (Variable name) = 8
+strength (Group inner) = 8
 strength (Infix left operator right) = operator_strength operator
 
 -- Each operator is read today, and its operands hold together as strongly as they must: the left one no weaker than
@@ -60,6 +64,7 @@ strength (Infix left operator right) = operator_strength operator
 abbrev pub IsGrouped : Expression → Type 0
 IsGrouped (Numeral value) = Unit {0}
 IsGrouped (Variable name) = Unit {0}
+IsGrouped (Group inner) = IsGrouped inner
 IsGrouped (Infix left operator right) = IsSome (operator_sign operator) × (operator_strength operator ≤ strength left) × (operator_strength operator < strength right) × IsGrouped left × IsGrouped right
 
 abbrev pub IsGroupedStatement : Statement → Type 0
@@ -75,6 +80,7 @@ sign_tokens (Some sign) = Mark sign ∷ []
 abbrev pub expression_tokens : Expression → List Token
 expression_tokens (Numeral value) = Number value ∷ []
 expression_tokens (Variable name) = Name name ∷ []
+expression_tokens (Group inner) = Mark OpenParen ∷ expression_tokens inner ++ Mark CloseParen ∷ []
 expression_tokens (Infix left operator right) = expression_tokens left ++ sign_tokens (operator_sign operator) ++ expression_tokens right
 
 abbrev pub statement_tokens : Statement → List Token
@@ -90,6 +96,7 @@ program_tokens body = Word Int ∷ Name (codes "main") ∷ Mark OpenParen ∷ Ma
 abbrev pub expression_tree : Expression → Expr
 expression_tree (Numeral value) = expr.Number value
 expression_tree (Variable name) = expr.Local name
+expression_tree (Group inner) = expression_tree inner
 expression_tree (Infix left operator right) = expr.Binary operator (expression_tree left) (expression_tree right)
 
 abbrev pub statement_tree : Statement → Stmt

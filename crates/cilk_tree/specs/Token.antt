@@ -3,7 +3,7 @@ use Rattle.std.specs.Prelude.{ℕ, List, codes}
 use Rattle.cilk_tree.specs.declared.token.Keyword.{Keyword}
 use Rattle.cilk_tree.specs.declared.token.Keyword.TheVariants.{Cilk, CilkFor, Else, FetchAdd, For, If, Int, Print, Return, Spawn, Sync, Void, While}
 use Rattle.cilk_tree.specs.declared.token.Sign.{Sign}
-use Rattle.cilk_tree.specs.declared.token.Sign.TheVariants.{Plus, Assign, OpenParen, CloseParen, OpenBrace, CloseBrace, Semicolon}
+use Rattle.cilk_tree.specs.declared.token.Sign.TheVariants.{Plus, Minus, Star, Assign, OpenParen, CloseParen, OpenBrace, CloseBrace, Semicolon}
 
 -- how a reserved word is written
 abbrev pub keyword_text : Keyword → List ℕ
@@ -24,6 +24,8 @@ keyword_text While = codes "while"
 -- how a sign is written
 abbrev pub sign_text : Sign → List ℕ
 sign_text Plus = codes "+"
+sign_text Minus = codes "-"
+sign_text Star = codes "*"
 sign_text Assign = codes "="
 sign_text OpenParen = codes "("
 sign_text CloseParen = codes ")"

@@ -74,6 +74,8 @@ impl Keyword {
 #[derive(Clone, Copy, Debug, PartialEq, Eq)]
 pub enum Sign {
     Plus,
+    Minus,
+    Star,
     Assign,
     OpenParen,
     CloseParen,
@@ -84,8 +86,10 @@ pub enum Sign {
 
 impl Sign {
     /// All the signs, a longer one before a shorter one.
-    pub const ALL: [Sign; 7] = [
+    pub const ALL: [Sign; 9] = [
         Sign::Plus,
+        Sign::Minus,
+        Sign::Star,
         Sign::Assign,
         Sign::OpenParen,
         Sign::CloseParen,
@@ -100,6 +104,8 @@ impl Sign {
     {
         match self {
             Sign::Plus => b"+",
+            Sign::Minus => b"-",
+            Sign::Star => b"*",
             Sign::Assign => b"=",
             Sign::OpenParen => b"(",
             Sign::CloseParen => b")",

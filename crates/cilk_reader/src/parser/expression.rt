@@ -2,7 +2,7 @@ ghost use Rattle.std.specs.Prelude.{◌≡◌, ◌≤◌, ℕ, MatchOption, Matc
 ghost use Rattle.cilk_tree.specs.Syntax.{operator_strength};
 ghost use Rattle.cilk_reader.specs.Machine.{sign_operator, StopsBelow, GoesOn, ReadsExpression, RefusesExpression};
 
-use crate::parser::tokens::{next, short_name};
+use crate::parser::tokens::{after_sign, next, short_name};
 use crate::refusal::ReadRefusal;
 use cilk_tree::{BinaryOp, Expr, Sign, Token};
 use sqlite_items::Boxed;
@@ -11,25 +11,37 @@ use std::alloc::{AllocError, Global};
 /// How many operators an expression may have.
 const MOST_OPERATORS: usize = 256;
 
+/// The deepest level that a token may have.
+const DEEPEST_LEVEL: usize = 64;
+
 /// Reads an expression whose operators bind at least as strongly as `least`, up to where it cannot go on. `count` is
 /// how many operators of the whole expression were read before; the last part of the answer is how many are read now.
+/// `level` is the level of its tokens.
+#[cycle(expression)]
 pub(super) fn expression(
     alloc: Global,
     tokens: &[Token],
     least: usize,
     count: usize,
+    level: usize,
 ) -> Result<(Expr, &[Token], usize), ReadRefusal>
-    requires { count ≤ 256 }
-    ensures reads { MatchResult result (λ parts. ReadsExpression least count tokens.now parts.0 parts.1.now parts.2) (λ refusal. refusal ≡ ReadRefusal.NotYet → RefusesExpression least count tokens.now) }
+    requires few { count ≤ 256 }
+    requires shallow { level ≤ 64 }
+    ensures reads { MatchResult result (λ parts. ReadsExpression least count level tokens.now parts.0 parts.1.now parts.2) (λ refusal. refusal ≡ ReadRefusal.NotYet → RefusesExpression least count level tokens.now) }
     ensures stops { IfOk result (λ parts. StopsBelow least parts.1.now) }
 {
-    let (mut left, mut rest) = operand(alloc, tokens)?;
-    let mut now = count;
+    let (mut left, mut rest, mut now) = operand(alloc, tokens, count, level)?;
     while let Some((operator, after)) = operator_at(rest, least) {
         if now == MOST_OPERATORS {
             return Err(ReadRefusal::NotYet);
         }
-        let (right, behind, sum) = expression(alloc, after, strength(operator) + 1, now + 1)?;
+        let (right, behind, sum) = expression(
+            alloc,
+            after,
+            strength(operator) + 1,
+            now + 1,
+            level,
+        )?;
         left = binary(alloc, operator, left, right)?;
         rest = behind;
         now = sum;
@@ -37,21 +49,40 @@ pub(super) fn expression(
     Ok((left, rest, now))
 }
 
-/// Reads a number or a name.
-fn operand(alloc: Global, tokens: &[Token]) -> Result<(Expr, &[Token]), ReadRefusal>
-    ensures { (count : ℕ) → count ≤ 256 → (least : ℕ) →
-        MatchResult result (λ parts. ReadsExpression least count tokens.now parts.0 parts.1.now count) (λ refusal. refusal ≡ ReadRefusal.NotYet → RefusesExpression least count tokens.now) }
+/// Reads a number, a name, or an expression in parentheses. `count`, `level` and the last part of the answer are those
+/// of `expression`.
+#[cycle(expression)]
+fn operand(
+    alloc: Global,
+    tokens: &[Token],
+    count: usize,
+    level: usize,
+) -> Result<(Expr, &[Token], usize), ReadRefusal>
+    requires few { count ≤ 256 }
+    requires shallow { level ≤ 64 }
+    ensures { (least : ℕ) →
+        MatchResult result (λ parts. ReadsExpression least count level tokens.now parts.0 parts.1.now parts.2) (λ refusal. refusal ≡ ReadRefusal.NotYet → RefusesExpression least count level tokens.now) }
 {
     let Some((first, rest)) = next(tokens) else {
         return Err(ReadRefusal::NotYet);
     };
     match first {
-        Token::Number(value) => Ok((Expr::Number(*value), rest)),
+        Token::Number(value) => Ok((Expr::Number(*value), rest, count)),
         Token::Name(name) => {
             let name = short_name(alloc, name)?;
-            Ok((Expr::Local(name), rest))
+            Ok((Expr::Local(name), rest, count))
         }
-        Token::Word(_) | Token::Mark(_) => Err(ReadRefusal::NotYet),
+        Token::Mark(sign) => match sign {
+            Sign::OpenParen if level < DEEPEST_LEVEL => {
+                let (inner, rest, now) = expression(alloc, rest, 0, count, level + 1)?;
+                let Some(rest) = after_sign(rest, Sign::CloseParen) else {
+                    return Err(ReadRefusal::NotYet);
+                };
+                Ok((inner, rest, now))
+            }
+            _ => Err(ReadRefusal::NotYet),
+        },
+        Token::Word(_) => Err(ReadRefusal::NotYet),
     }
 }
 
@@ -72,6 +103,8 @@ fn operator_of(sign: Sign) -> Option<BinaryOp>
 {
     match sign {
         Sign::Plus => Some(BinaryOp::Add),
+        Sign::Minus => Some(BinaryOp::Sub),
+        Sign::Star => Some(BinaryOp::Mul),
         _ => None,
     }
 }

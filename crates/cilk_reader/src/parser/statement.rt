@@ -13,6 +13,9 @@ use std::alloc::Global;
 /// How many locals a body may declare.
 const MOST_LOCALS: usize = 256;
 
+/// The level of the statements of a body and of their expressions.
+const BODY_LEVEL: usize = 1;
+
 /// Reads statements up to the brace that ends the body, and that brace.
 pub(super) fn body_of(
     alloc: Global,
@@ -96,7 +99,7 @@ fn printing(
     let Some(rest) = after_sign(tokens, Sign::OpenParen) else {
         return Err(ReadRefusal::NotYet);
     };
-    let (value, rest, _) = expression(alloc, rest, 0, 0)?;
+    let (value, rest, _) = expression(alloc, rest, 0, 0, BODY_LEVEL)?;
     let Some(rest) = after_sign(rest, Sign::CloseParen) else {
         return Err(ReadRefusal::NotYet);
     };
@@ -120,7 +123,7 @@ fn assignment(
     let Some(rest) = after_sign(tokens, Sign::Assign) else {
         return Err(ReadRefusal::NotYet);
     };
-    let (value, rest, _) = expression(alloc, rest, 0, 0)?;
+    let (value, rest, _) = expression(alloc, rest, 0, 0, BODY_LEVEL)?;
     let Some(rest) = after_sign(rest, Sign::Semicolon) else {
         return Err(ReadRefusal::NotYet);
     };

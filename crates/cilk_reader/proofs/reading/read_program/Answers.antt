@@ -1,7 +1,7 @@
-use Rattle.std.proofs.Common.{◌≡◌, ◌≤◌, Ok, Err, true, false, length, sym, ap, subst, ◌∙◌, refl}
+use Rattle.std.proofs.Common.{◌≡◌, true, false, sym, ap, subst, ◌∙◌}
 use Rattle.std.proofs.lemmas.Result.{err_from_is_err_and}
 use Rattle.cilk_tree.specs.Lexeme.{Lexes}
-use Rattle.cilk_tree.specs.SerialMain.{is_serial_source, SpellsSerialMain}
+use Rattle.cilk_tree.specs.SerialMain.{is_serial_source}
 use Rattle.cilk_tree.specs.Spelling.{IsProgram}
 use Rattle.cilk_reader.proofs.Sizes.{statements-le-bytes}
 use Rattle.cilk_reader.proofs.reading.read_program.Goals as goal
