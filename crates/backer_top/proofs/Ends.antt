@@ -99,35 +99,54 @@ due_end text program accepted only status finished trapped WriteFault is = absur
 due_end text program accepted only status finished trapped Memory is = absurd is
 
 -- the program trapped, or memory ran out as it ran
-pub serial_stopped : (texts : Option Texts) (file : List ℕ) (read_failed write_failed : Type 0) (written : List ℕ → Type 0) (text : List ℕ) (program : Program) (status : Status)
-    → IsSource texts file read_failed text (Ok program) → StopsWith program status → IsSerial texts file read_failed write_failed written text status
-serial_stopped texts file read_failed write_failed written text program (Trap kind node) source stops =
+pub serial_stopped : (texts : Option Texts) (file : List ℕ) (read_failed write_failed : Type 0) (written cut_short : List ℕ → Type 0) (text : List ℕ) (program : Program) (status : Status)
+    → IsSource texts file read_failed text (Ok program) → StopsWith program status → IsSerial texts file read_failed write_failed written cut_short text status
+serial_stopped texts file read_failed write_failed written cut_short text program (Trap kind node) source stops =
     let accepted = source.read.0 in
     record {
       told = source.told;
       cause = (program, accepted, stops.0, stops.1);
       due = due_end text program accepted source.only (Trap kind node) (λ finished. cc) (λ other trapped. cc);
       accepted = λ _ _ _ _. tt;
+      unwritten = λ unwritten. cc;
       output = λ done. cc;
     }
-serial_stopped texts file read_failed write_failed written text program Memory source stops =
-    record { told = source.told; cause = tt; due = λ _ _. tt; accepted = λ _ _ _ _. tt; output = λ done. cc }
-serial_stopped texts file read_failed write_failed written text program Done source stops = absurd stops
-serial_stopped texts file read_failed write_failed written text program Words source stops = absurd stops
-serial_stopped texts file read_failed write_failed written text program (Source refusal) source stops = absurd stops
-serial_stopped texts file read_failed write_failed written text program ReadFault source stops = absurd stops
-serial_stopped texts file read_failed write_failed written text program WriteFault source stops = absurd stops
+serial_stopped texts file read_failed write_failed written cut_short text program Memory source stops =
+    record { told = source.told; cause = tt; due = λ _ _. tt; accepted = λ _ _ _ _. tt; unwritten = λ unwritten. cc;
+      output = λ done. cc }
+serial_stopped texts file read_failed write_failed written cut_short text program Done source stops = absurd stops
+serial_stopped texts file read_failed write_failed written cut_short text program Words source stops = absurd stops
+serial_stopped texts file read_failed write_failed written cut_short text program (Source refusal) source stops = absurd stops
+serial_stopped texts file read_failed write_failed written cut_short text program ReadFault source stops = absurd stops
+serial_stopped texts file read_failed write_failed written cut_short text program WriteFault source stops = absurd stops
 
 -- the program finished, and what it prints was written
-pub serial_done : (texts : Option Texts) (file : List ℕ) (read_failed write_failed : Type 0) (written : List ℕ → Type 0) (text : List ℕ) (program : Program)
+pub serial_done : (texts : Option Texts) (file : List ℕ) (read_failed write_failed : Type 0) (written cut_short : List ℕ → Type 0) (text : List ℕ) (program : Program)
     → IsSource texts file read_failed text (Ok program) → (meaning program).end ≡ Finished → written (lines (meaning program).output)
-    → IsSerial texts file read_failed write_failed written text Done
-serial_done texts file read_failed write_failed written text program source finished put =
+    → IsSerial texts file read_failed write_failed written cut_short text Done
+serial_done texts file read_failed write_failed written cut_short text program source finished put =
     let accepted = source.read.0 in
     record {
       told = source.told;
       cause = (program, accepted, finished);
       due = due_end text program accepted source.only Done (λ _. refl) (λ kind trapped. cc);
       accepted = λ _ _ _ _. tt;
+      unwritten = λ unwritten. cc;
       output = λ _ other spelled. subst (λ p. written (lines (meaning p).output)) (source.only other spelled) put;
+    }
+
+-- the program finished, and writing what it prints failed
+pub serial_unwritten :
+    (texts : Option Texts) (file : List ℕ) (read_failed write_failed : Type 0) (written cut_short : List ℕ → Type 0) (text : List ℕ) (program : Program)
+    → IsSource texts file read_failed text (Ok program) → (meaning program).end ≡ Finished → write_failed → cut_short (lines (meaning program).output)
+    → IsSerial texts file read_failed write_failed written cut_short text WriteFault
+serial_unwritten texts file read_failed write_failed written cut_short text program source finished failed short =
+    let accepted = source.read.0 in
+    record {
+      told = source.told;
+      cause = (failed, (program, accepted, finished));
+      due = λ due is. (failed, due_end text program accepted source.only Done (λ _. refl) (λ kind trapped. cc) due is);
+      accepted = λ _ unfailed _ _. unfailed failed;
+      unwritten = λ _ other spelled. subst (λ p. cut_short (lines (meaning p).output)) (source.only other spelled) short;
+      output = λ done. cc;
     }

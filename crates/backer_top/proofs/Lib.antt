@@ -2,3 +2,4 @@ pub mod Ends
 pub mod Pieces
 pub mod Slots
 pub mod Taken
+pub mod Told

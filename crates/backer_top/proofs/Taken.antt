@@ -1,5 +1,5 @@
 -- A program that the walk takes comes to no part that it does not take, and spends no more ticks than it has statements.
-use Rattle.std.proofs.Common.{◌≡◌, ◌≢◌, ℕ, zero, suc, ◌+◌, ◌<◌, ◌≤◌, ℤ, pos, ◌+ℤ◌, Bool, true, false, ◌&&◌, Result, Ok, Err, List, [], ◌∷◌, ◌++◌, length, refl, sym, ◌∙◌, subst, arith, cond}
+use Rattle.std.proofs.Common.{◌≡◌, ◌≢◌, ℕ, zero, suc, ◌+◌, ◌<◌, ◌≤◌, ℤ, pos, ◌+ℤ◌, ◌-ℤ◌, ◌*ℤ◌, Bool, true, false, ◌&&◌, Result, Ok, Err, List, [], ◌∷◌, ◌++◌, length, refl, sym, ◌∙◌, subst, arith, cond}
 use Rattle.cilk_tree.specs.declared.tree.BinaryOp.{BinaryOp}
 use Rattle.cilk_tree.specs.declared.tree.BinaryOp.TheVariants as op
 use Rattle.cilk_tree.specs.declared.tree.Expr.{Expr, roll-Expr, map-Expr, fold-roll-Expr, ind-Expr}
@@ -39,8 +39,8 @@ operated_taken op.Lt x y taken = absurd (let f : false ≡ true = taken in cc)
 operated_taken op.Le x y taken = absurd (let f : false ≡ true = taken in cc)
 operated_taken op.Gt x y taken = absurd (let f : false ≡ true = taken in cc)
 operated_taken op.Ge x y taken = absurd (let f : false ≡ true = taken in cc)
-operated_taken op.Sub x y taken = absurd (let f : false ≡ true = taken in cc)
-operated_taken op.Mul x y taken = absurd (let f : false ≡ true = taken in cc)
+operated_taken op.Sub x y taken = exact_taken (x -ℤ y)
+operated_taken op.Mul x y taken = exact_taken (x *ℤ y)
 operated_taken op.Div x y taken = absurd (let f : false ≡ true = taken in cc)
 operated_taken op.Rem x y taken = absurd (let f : false ≡ true = taken in cc)
 

@@ -1,6 +1,6 @@
 -- The serial elision of a program of the form that is taken today: what it prints and how it ends, within a number of
 -- ticks. One tick is one print.
-use Rattle.std.specs.Prelude.{ℕ, zero, suc, ◌^◌, ℤ, pos, negsuc, ◌+ℤ◌, Bool, if◌then◌else◌, nat_lt, Result, Ok, Err, List, [], ◌∷◌}
+use Rattle.std.specs.Prelude.{ℕ, zero, suc, ◌^◌, ℤ, pos, negsuc, ◌+ℤ◌, ◌-ℤ◌, ◌*ℤ◌, Bool, if◌then◌else◌, nat_lt, Result, Ok, Err, List, [], ◌∷◌}
 use Rattle.std.specs.Str.{bytes_eq}
 use Rattle.cilk_tree.specs.declared.tree.BinaryOp.{BinaryOp}
 use Rattle.cilk_tree.specs.declared.tree.BinaryOp.TheVariants as op
@@ -40,6 +40,8 @@ exact value = if fits value then Ok value else Err (Trap Overflow)
 
 abbrev pub operated : BinaryOp → ℤ → ℤ → Result ℤ Stop
 operated op.Add x y = exact (x +ℤ y)
+operated op.Sub x y = exact (x -ℤ y)
+operated op.Mul x y = exact (x *ℤ y)
 operated _ x y = Err Untaken
 
 -- the left operand comes first, so its trap does

@@ -1,5 +1,5 @@
 -- What is put on the sinks.
-use Rattle.std.specs.Prelude.{◌≡◌, ℕ, ◌<◌, ◌≤◌, ℤ, Option, Some, IfSome, List, [], ◌∷◌, ◌++◌, length}
+use Rattle.std.specs.Prelude.{◌≡◌, ℕ, ◌<◌, ◌≤◌, ℤ, Option, Some, IfSome, List, [], ◌∷◌, ◌++◌, length, take}
 use Rattle.std.specs.Fmt.{signed_decimal}
 use Rattle.std.specs.List.{flat_map}
 use Rattle.outside.specs.Shelf.{joined}
@@ -22,6 +22,19 @@ abbrev pub Puts : {S : Type 0} → (S → List ℕ → S → Type 0) → S → L
 Puts {S} took old [] new = new ≡ old
 Puts {S} took old (piece ∷ pieces) new = (mid : S) × took old piece mid × Puts took mid pieces new
 
+-- A put failed before all bytes were put: whole pieces came before it, and nothing after it. What stands on the sink is a
+-- front of the bytes.
+pub record IsCutShort {S : Type 0} (held : S → Option (List ℕ)) (took failed : S → List ℕ → S → Type 0) (old new : S) (bytes : List ℕ) : Type 0 where
+  pub part : IfSome (held old) (λ before. (kept : ℕ) × (held new ≡ Some (before ++ take kept bytes)))
+  pub pieces : List (List ℕ)
+  pub piece : List ℕ
+  pub rest : List ℕ
+  pub last : S
+  pub cut : joined pieces ++ piece ++ rest ≡ bytes
+  pub sizes : ArePieces (pieces ++ piece ∷ [])
+  pub puts : Puts took old pieces last
+  pub broke : failed last piece new
+
 -- The bytes are put on the sink, in pieces and whole.
 pub record IsWritten {S : Type 0} (held : S → Option (List ℕ)) (took : S → List ℕ → S → Type 0) (old new : S) (bytes : List ℕ) : Type 0 where
   pub whole : IfSome (held old) (λ before. held new ≡ Some (before ++ bytes))
@@ -29,3 +42,13 @@ pub record IsWritten {S : Type 0} (held : S → Option (List ℕ)) (took : S →
   pub cut : joined pieces ≡ bytes
   pub sizes : ArePieces pieces
   pub puts : Puts took old pieces new
+
+-- one put of the line, which was taken whole
+pub record IsTold {S : Type 0} (held : S → Option (List ℕ)) (took : S → List ℕ → S → Type 0) (old new : S) (line : List ℕ) : Type 0 where
+  pub whole : IfSome (held old) (λ before. held new ≡ Some (before ++ line))
+  pub put : took old line new
+
+-- one put of the line, which failed, and a front of the line stands there
+pub record IsHalfTold {S : Type 0} (held : S → Option (List ℕ)) (failed : S → List ℕ → S → Type 0) (old new : S) (line : List ℕ) : Type 0 where
+  pub part : IfSome (held old) (λ before. (kept : ℕ) × (held new ≡ Some (before ++ take kept line)))
+  pub put : failed old line new

@@ -98,10 +98,12 @@ StopsWith program ReadFault = ⊥
 StopsWith program WriteFault = ⊥
 
 -- How `serial` on a file ended, where the shelf gave this text.
-pub record IsSerial (texts : Option Texts) (file : List ℕ) (read_failed write_failed : Type 0) (written : List ℕ → Type 0) (text : List ℕ) (status : Status) : Type 0 where
+pub record IsSerial (texts : Option Texts) (file : List ℕ) (read_failed write_failed : Type 0) (written cut_short : List ℕ → Type 0) (text : List ℕ) (status : Status) : Type 0 where
   pub told : IsTextOf texts file text
   pub cause : HasCause text read_failed write_failed status
   pub due : (due : Status) → IsDue text due → Answers due read_failed write_failed status
   pub accepted : (read_failed → ⊥) → (write_failed → ⊥) → (program : Program) → Accepts text program → IsOfAccepted status
   -- at Done the lines of what the elision prints are put on `out`, and nothing else
+  -- after a failure to write a front of them stands there
+  pub unwritten : status ≡ WriteFault → (program : Program) → Accepts text program → cut_short (lines (meaning program).output)
   pub output : status ≡ Done → (program : Program) → Accepts text program → written (lines (meaning program).output)

@@ -32,9 +32,9 @@ pub enum Status {
 
 impl Status {
     ghost use Rattle.std.specs.Prelude.{◌≡◌};
-    ghost use Rattle.backer_top.specs.Status.{status_number};
+    ghost use Rattle.backer_top.specs.Status.{status_number, error_line, IsOnNode0};
 
-    /// The number that the program ends with.
+    /// The status' number.
     pub fn number(&self) -> u8
         ensures { result ≡ status_number self.now }
     {
@@ -50,7 +50,10 @@ impl Status {
     }
 
     /// The line that tells the status on `err`, none at Done.
-    pub(crate) fn line(self) -> &'static [u8] {
+    pub(crate) fn line(&self) -> &'static [u8]
+        requires { IsOnNode0 self.now }
+        ensures { result.now ≡ error_line self.now }
+    {
         match self {
             Status::Done => b"",
             Status::Words => b"backer: words refused\n",
@@ -71,4 +74,18 @@ impl Status {
 #[derive(Clone, Copy, Debug, PartialEq, Eq)]
 pub struct Ended {
     pub status: Status,
+    /// Whether the put on `err` failed.
+    pub mute: bool,
+}
+
+impl Ended {
+    ghost use Rattle.std.specs.Prelude.{◌≡◌, if◌then◌else◌};
+    ghost use Rattle.backer_top.specs.Status.{status_number};
+
+    /// The number that the program ends with: that of the status, or 4 where its line could not be put on `err`.
+    pub fn number(&self) -> u8
+        ensures { result ≡ (if self.now.mute then 4 else status_number self.now.status) }
+    {
+        if self.mute { 4 } else { self.status.number() }
+    }
 }

@@ -1,9 +1,10 @@
-ghost use Rattle.std.specs.Prelude.{◌≡◌, ◌≢◌, ◌↔◌, ◌≤◌, List, ℕ, None, Some, map, length, string_bytes, IfOk, IfErr, OnErr, MatchResult};
+ghost use Rattle.std.specs.Prelude.{◌≡◌, ◌≢◌, ◌↔◌, ◌≤◌, List, ℕ, true, false, None, Some, map, length, string_bytes, IfOk, IfErr, OnErr, MatchResult};
 ghost use Rattle.cilk_tree.specs.SerialMain.{IsSerialMain};
 ghost use Rattle.outside.specs.Device.{Rose};
 ghost use Rattle.backer_top.specs.Command.{file_of};
 ghost use Rattle.backer_top.specs.Elision.{main_body};
-ghost use Rattle.backer_top.specs.Output.{IsWritten, lines};
+ghost use Rattle.backer_top.specs.Output.{IsCutShort, IsHalfTold, IsTold, IsWritten};
+ghost use Rattle.backer_top.specs.Status.{IsOnNode0, error_line};
 ghost use Rattle.backer_top.specs.Serial.{IsSerial, IsSource, Prints, StopsWith};
 
 use crate::lines::lines_of;
@@ -39,25 +40,31 @@ pub fn backer<L: Shelf, O: Sink, E: Sink>(
     ensures serial { (file : List ℕ) → file_of (map string_bytes words.now) ≡ Some file →
         ((text : List ℕ) × IsSerial (L.texts shelf.old) file
         (Rose (L.faults shelf.old file) (L.faults shelf.new file)) (Rose (O.faults out.old) (O.faults out.new))
-        (IsWritten O.held O.took out.old out.new) text result.status) }
+        (IsWritten O.held O.took out.old out.new) (IsCutShort O.held O.took O.failed out.old out.new) text result.status) }
     ensures nothing_written { result.status ≢ Status.Done → result.status ≢ Status.WriteFault → out.new ≡ out.old }
+
+    // At Done nothing is put on `err`. At any other status its line is put there, once and whole, or mute is true:
+    // then that one put failed, and a front of the line stands there.
+    ensures quiet { result.status ≡ Status.Done → (err.new ≡ err.old) × (result.mute ≡ false) }
+    ensures told { result.status ≢ Status.Done → result.mute ≡ false → IsTold E.held E.took err.old err.new (error_line result.status) }
+    ensures mute { result.mute ≡ true → (result.status ≢ Status.Done) × Rose (E.faults err.old) (E.faults err.new)
+        × IsHalfTold E.held E.failed err.old err.new (error_line result.status) }
 {
     let status = match file_word(words) {
         Some(file) => serial(alloc, file, shelf, out),
         None => Status::Words,
     };
-    if status != Status::Done {
-        let _ = err.put(status.line());
-    }
-    Ended { status }
+    let mute = status != Status::Done && err.put(status.line()).is_err();
+    Ended { status, mute }
 }
 
 /// Reads the file, runs the program that it spells, and puts what it prints on `out`.
 fn serial<L: Shelf, O: Sink>(alloc: Global, file: &str, shelf: &mut L, out: &mut O) -> Status
     ensures serial { (text : List ℕ) × IsSerial (L.texts shelf.old) file.now
         (Rose (L.faults shelf.old file.now) (L.faults shelf.new file.now)) (Rose (O.faults out.old) (O.faults out.new))
-        (IsWritten O.held O.took out.old out.new) text result }
+        (IsWritten O.held O.took out.old out.new) (IsCutShort O.held O.took O.failed out.old out.new) text result }
     ensures nothing_written { result ≢ Status.Done → result ≢ Status.WriteFault → out.new ≡ out.old }
+    ensures node { IsOnNode0 result }
 {
     let program = match source(alloc, file, shelf) {
         Ok(program) => program,

@@ -46,14 +46,16 @@ impl End {
     }
 }
 
+const OVERFLOW: Stop = Stop::Trap(TrapKind::Overflow);
+
 /// What the operator gives for two values.
 fn operate(operator: BinaryOp, left: i64, right: i64) -> Result<i64, Stop>
     ensures { result ≡ operated operator left right }
 {
     match operator {
-        BinaryOp::Add => left
-            .checked_add(right)
-            .ok_or(Stop::Trap(TrapKind::Overflow)),
+        BinaryOp::Add => left.checked_add(right).ok_or(OVERFLOW),
+        BinaryOp::Sub => left.checked_sub(right).ok_or(OVERFLOW),
+        BinaryOp::Mul => left.checked_mul(right).ok_or(OVERFLOW),
         _ => Err(Stop::Untaken),
     }
 }

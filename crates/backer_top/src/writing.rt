@@ -1,6 +1,6 @@
 ghost use Rattle.std.specs.Prelude.{◌≤◌, OnOk, OnErr};
 ghost use Rattle.outside.specs.Device.{Rose};
-ghost use Rattle.backer_top.specs.Output.{IsWritten};
+ghost use Rattle.backer_top.specs.Output.{IsCutShort, IsWritten};
 
 use outside::{Failed, Sink};
 
@@ -11,6 +11,7 @@ const PIECE: usize = 4096;
 pub(crate) fn write_all<S: Sink>(sink: &mut S, bytes: &[u8]) -> Result<(), Failed>
     ensures faults { S.faults sink.old ≤ S.faults sink.new }
     ensures cause { OnErr result (Rose (S.faults sink.old) (S.faults sink.new)) }
+    ensures cut_short { OnErr result (IsCutShort S.held S.took S.failed sink.old sink.new bytes.now) }
     ensures written { OnOk result (IsWritten S.held S.took sink.old sink.new bytes.now) }
 {
     let mut rest = bytes;
