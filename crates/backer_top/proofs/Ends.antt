@@ -112,8 +112,14 @@ serial_stopped texts file read_failed write_failed written cut_short text progra
       output = λ done. cc;
     }
 serial_stopped texts file read_failed write_failed written cut_short text program Memory source stops =
-    record { told = source.told; cause = tt; due = λ _ _. tt; accepted = λ _ _ _ _. tt; unwritten = λ unwritten. cc;
-      output = λ done. cc }
+    record {
+      told = source.told;
+      cause = tt;
+      due = λ _ _. tt;
+      accepted = λ _ _ _ _. tt;
+      unwritten = λ unwritten. cc;
+      output = λ done. cc;
+    }
 serial_stopped texts file read_failed write_failed written cut_short text program Done source stops = absurd stops
 serial_stopped texts file read_failed write_failed written cut_short text program Words source stops = absurd stops
 serial_stopped texts file read_failed write_failed written cut_short text program (Source refusal) source stops = absurd stops

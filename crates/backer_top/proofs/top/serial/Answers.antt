@@ -20,6 +20,8 @@ returns-in-Ok-write_all-clause-serial g c =
 pub returns-clause-serial : goal.returns-clause-serial
 returns-clause-serial g c =
     let source = c.in-Ok.ensures in
-    let prints = c.in-Ok-outcome.ensures in
-    (source.0, serial_unwritten (g.L.Shelf.texts c.args.shelf.now) c.args.file.now _ _ _ _ source.0 c.in-Ok.program source.1 prints.0 c.in-Err-write_all.ensures.cause
-        (subst (λ bytes. IsCutShort g.O.Sink.held g.O.Sink.took g.O.Sink.failed c.args.out.now c.write_all.new.sink bytes) (c.as_slice.ensures.value ∙ prints.1) c.in-Err-write_all.ensures.cut_short))
+    let prints = c.in-Ok-outcome.ensures in (
+      source.0,
+      serial_unwritten (g.L.Shelf.texts c.args.shelf.now) c.args.file.now _ _ _ _ source.0 c.in-Ok.program source.1 prints.0 c.in-Err-write_all.ensures.cause
+          (subst (λ bytes. IsCutShort g.O.Sink.held g.O.Sink.took g.O.Sink.failed c.args.out.now c.write_all.new.sink bytes) (c.as_slice.ensures.value ∙ prints.1) c.in-Err-write_all.ensures.cut_short),
+    )
