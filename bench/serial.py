@@ -19,13 +19,14 @@ def statements(limit):
     lines, size = [], 0
     for number in range(10**9):
         a, b, c = number % LOCALS, number * 7 % LOCALS, number * 13 % LOCALS
-        if number % 4 == 3:
-            line = f"print(x{a} + x{b} * 3 - {number % 1000});"
+        if number % 4 == 0:
+            line = f"x{a} = {number % 1000} * {number % 89} - ({number % 7} + 5);"
+        elif number % 4 == 1:
+            line = f"x0 = x0 + x{b} - {number % 97};"
+        elif number % 4 == 2:
+            line = f"x{c} = (x{b} - 3) - {number % 50} * 2;"
         else:
-            line = f"x{a} = (x{b} - x{c}) + {number % 97} * 2;"
-        # Values are cut back now and then, so that no sum passes 64 bits.
-        if number % 16 == 0:
-            line = f"x{a} = {number % 5};"
+            line = f"print(x{a} + x{b} * 3 - (x{c} - 1));"
         size += len(line) + 1
         if size > limit:
             return lines
