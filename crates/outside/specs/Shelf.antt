@@ -1,5 +1,5 @@
 -- What a shelf tells, and runs of calls on it.
-use Rattle.std.specs.Prelude.{◌≡◌, ℕ, ◌+◌, ◌≤◌, ◌↔◌, ◌⊎◌, List, [], ◌∷◌, ◌++◌, length, take, drop}
+use Rattle.std.specs.Prelude.{◌≡◌, ℕ, ◌+◌, ◌<◌, ◌≤◌, ◌↔◌, ◌⊎◌, List, [], ◌∷◌, ◌++◌, length, take, drop}
 use Rattle.std.specs.Ordering.{nat_cmp}
 use Rattle.std.specs.Cmp.Lexicographic.{slice_cmp}
 use Rattle.std.specs.FinMap.{FinMap}
@@ -22,3 +22,8 @@ Reads {S} gave name old at (piece ∷ pieces) new = (mid : S) × gave old name a
 abbrev pub joined : List (List ℕ) → List ℕ
 joined [] = []
 joined (piece ∷ pieces) = piece ++ joined pieces
+
+-- none of the pieces is empty
+abbrev pub AreSome : List (List ℕ) → Type 0
+AreSome [] = Unit {0}
+AreSome (piece ∷ pieces) = (0 < length piece) × AreSome pieces

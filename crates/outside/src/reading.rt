@@ -1,7 +1,7 @@
 ghost use Rattle.std.specs.Prelude.{◌≡◌, ℕ, ◌+◌, ◌<◌, ◌≤◌, List, [], ◌∷◌, ◌++◌, Err, Some, length, IfOk, IsErrOf, IfSome, IsSomeAnd};
 ghost use Rattle.std.specs.FinMap as map;
 ghost use Rattle.outside.specs.Device.{Rose};
-ghost use Rattle.outside.specs.Shelf.{Reads, joined};
+ghost use Rattle.outside.specs.Shelf.{AreSome, Reads, joined};
 
 use crate::Failed;
 use crate::shelf::Shelf;
@@ -42,15 +42,19 @@ pub fn read_text<L: Shelf>(
         IsSomeAnd (map.get held name.now) (λ text. limit < length text)) }
     ensures fault { result ≡ Err TextRefusal.Fault → Rose (L.faults shelf.old name.now) (L.faults shelf.new name.now) }
 
-    // The calls, at most limit + 2 of them, and what they gave.
-    ensures whole_calls { IfOk result (λ text. (pieces : List (List ℕ)) × (text.items ≡ joined pieces) × (length pieces ≤ limit)
-        × Reads L.gave name.now shelf.old 0 (pieces ++ [] ∷ []) shelf.new) }
-    ensures too_long_calls { result ≡ Err TextRefusal.TooLong → ((pieces : List (List ℕ)) × (limit < length (joined pieces))
-        × (length pieces ≤ limit + 1) × Reads L.gave name.now shelf.old 0 pieces shelf.new) }
-    ensures fault_calls { result ≡ Err TextRefusal.Fault → ((pieces : List (List ℕ)) × (last : L) × (length pieces ≤ limit)
+    // The calls, at most limit + 2 of them, and what they gave: each but the last of Ok gave bytes, and none was made
+    // once the limit was passed.
+    ensures whole_calls { IfOk result (λ text. (pieces : List (List ℕ)) × (text.items ≡ joined pieces) × AreSome pieces
+        × (length pieces ≤ limit) × Reads L.gave name.now shelf.old 0 (pieces ++ [] ∷ []) shelf.new) }
+    ensures too_long_calls { result ≡ Err TextRefusal.TooLong → ((pieces : List (List ℕ)) × (last : List ℕ) × AreSome (pieces ++ last ∷ [])
+        × (length (joined pieces) ≤ limit) × (limit < length (joined (pieces ++ last ∷ []))) × (length pieces ≤ limit)
+        × Reads L.gave name.now shelf.old 0 (pieces ++ last ∷ []) shelf.new) }
+    ensures fault_calls { result ≡ Err TextRefusal.Fault → ((pieces : List (List ℕ)) × (last : L) × AreSome pieces
+        × (length (joined pieces) ≤ limit) × (length pieces ≤ limit)
         × Reads L.gave name.now shelf.old 0 pieces last × L.failed last name.now (length (joined pieces)) 4096 shelf.new) }
-    ensures memory_calls { result ≡ Err TextRefusal.Memory → ((pieces : List (List ℕ)) × (length pieces ≤ limit + 1)
-        × Reads L.gave name.now shelf.old 0 pieces shelf.new) }
+    ensures memory_calls { result ≡ Err TextRefusal.Memory → ((pieces : List (List ℕ)) × (last : List ℕ) × AreSome (pieces ++ last ∷ [])
+        × (length (joined pieces) ≤ limit) × (length pieces ≤ limit)
+        × Reads L.gave name.now shelf.old 0 (pieces ++ last ∷ []) shelf.new) }
 {
     let mut text = Vec::new(alloc);
     let mut piece = [0; PIECE];
