@@ -2,7 +2,7 @@
 use Rattle.std.proofs.Common.{◌≡◌, ℕ, ◌+◌, ◌<◌, ◌≤◌, ◌⊎◌, List, [], ◌∷◌, ◌++◌, Option, Some, None, IfSome, IsSomeAnd, length, take, drop, refl, sym, ap, ◌∙◌, subst, inl, inr, ⊎_elim, append_assoc, append-nil, length-append, arith}
 use Rattle.std.proofs.lemmas.List.{take_all, length-take}
 use Rattle.std.specs.FinMap as map
-use Rattle.outside.specs.Shelf.{Texts, GivesFrom, Reads, joined}
+use Rattle.outside.specs.Shelf.{Texts, AreSome, GivesFrom, Reads, joined}
 
 pub joined-append : (pieces : List (List ℕ)) (piece : List ℕ) → joined (pieces ++ piece ∷ []) ≡ joined pieces ++ piece
 joined-append [] piece = append-nil piece
@@ -18,10 +18,34 @@ Reads-append {S} gave name old at (first ∷ pieces) mid piece new (next, given,
     let place : at + length (first ++ joined pieces) ≡ at + length first + length (joined pieces) = omega (arith, length-append first (joined pieces)) in
     (next, given, Reads-append gave name next (at + length first) pieces mid piece new reads (subst (λ k. gave mid name k 4096 piece new) place last))
 
+pub AreSome-append : (pieces : List (List ℕ)) (piece : List ℕ) → AreSome pieces → 0 < length piece → AreSome (pieces ++ piece ∷ [])
+AreSome-append [] piece before some = (some, tt)
+AreSome-append (first ∷ pieces) piece (first_some, before) some = (first_some, AreSome-append pieces piece before some)
+
+-- No call was made once the limit was passed.
+abbrev pub StopsAt : ℕ → List (List ℕ) → Type 0
+StopsAt limit pieces = (pieces ≡ []) ⊎ ((before : List (List ℕ)) × (last : List ℕ) × (pieces ≡ before ++ last ∷ []) × (length (joined before) ≤ limit) × (length before ≤ limit))
+
 -- The calls that gave what was read so far.
 abbrev pub CallsSoFar : {S : Type 0} → (S → List ℕ → ℕ → ℕ → List ℕ → S → Type 0) → List ℕ → ℕ → S → List ℕ → S → Type 0
-CallsSoFar gave name limit old items new = (pieces : List (List ℕ)) × (items ≡ joined pieces) × (length pieces ≤ length items) × (length pieces ≤ limit + 1)
+CallsSoFar gave name limit old items new = (pieces : List (List ℕ)) × (items ≡ joined pieces) × AreSome pieces × (length pieces ≤ length items) × StopsAt limit pieces
     × Reads gave name old 0 pieces new
+
+pub CallsSoFar-longer : {S : Type 0} (gave : S → List ℕ → ℕ → ℕ → List ℕ → S → Type 0) (name : List ℕ) (limit : ℕ) (old : S) (items : List ℕ) (new : S)
+    → CallsSoFar gave name limit old items new → limit < length items
+    → (pieces : List (List ℕ)) × (last : List ℕ) × AreSome (pieces ++ last ∷ []) × (length (joined pieces) ≤ limit) × (limit < length (joined (pieces ++ last ∷ []))) × (length pieces ≤ limit)
+    × Reads gave name old 0 (pieces ++ last ∷ []) new
+CallsSoFar-longer gave name limit old items new (pieces, is, some, few, inl none, reads) longer = absurd (omega (arith, ap length is, ap (λ x. length (joined x)) none))
+CallsSoFar-longer gave name limit old items new (pieces, is, some, few, inr (before, last, ends, short, bounded), reads) longer =
+    (before, last, subst AreSome ends some, short, omega (arith, ap length is, ap (λ x. length (joined x)) ends), bounded, subst (λ x. Reads gave name old 0 x new) ends reads)
+
+pub CallsSoFar-fault : {S : Type 0} (gave : S → List ℕ → ℕ → ℕ → List ℕ → S → Type 0) (failed : S → List ℕ → ℕ → ℕ → S → Type 0) (name : List ℕ) (limit : ℕ) (old mid new : S) (items : List ℕ) (at room : ℕ)
+    → at ≡ length items → room ≡ 4096 → failed mid name at room new → CallsSoFar gave name limit old items mid → at ≤ limit
+    → (pieces : List (List ℕ)) × (last : S) × AreSome pieces × (length (joined pieces) ≤ limit) × (length pieces ≤ limit)
+    × Reads gave name old 0 pieces last × failed last name (length (joined pieces)) 4096 new
+CallsSoFar-fault gave failed name limit old mid new items at room at_end full fails (pieces, is, some, few, stops, reads) short =
+    let at_full : failed mid name at 4096 new = subst (λ k. failed mid name at k new) full fails in
+    (pieces, mid, some, omega (arith, ap length is), omega arith, reads, subst (λ k. failed mid name k 4096 new) (at_end ∙ ap length is) at_full)
 
 -- A further call at the place reached, and what follows from it.
 module _ {S : Type 0} (gave : S → List ℕ → ℕ → ℕ → List ℕ → S → Type 0) (name : List ℕ) (limit : ℕ) (old mid new : S) (items given : List ℕ) (at room : ℕ)
@@ -33,17 +57,24 @@ module _ {S : Type 0} (gave : S → List ℕ → ℕ → ℕ → List ℕ → S 
       Reads-append gave name old 0 pieces mid given new reads (subst (λ k. gave mid name k 4096 given new) place at_full)
 
   pub CallsSoFar-append : CallsSoFar gave name limit old items mid → at ≤ limit → 0 < length given → CallsSoFar gave name limit old (items ++ given) new
-  CallsSoFar-append (pieces, is, few, bounded, reads) short some =
-      (pieces ++ given ∷ [], ap (λ x. x ++ given) is ∙ sym (joined-append pieces given), omega (arith, length-append pieces (given ∷ []), length-append items given), omega (arith, length-append pieces (given ∷ [])), Reads-next pieces is reads)
+  CallsSoFar-append (pieces, is, before, few, stops, reads) short some = (
+    pieces ++ given ∷ [],
+    ap (λ x. x ++ given) is ∙ sym (joined-append pieces given),
+    AreSome-append pieces given before some,
+    omega (arith, length-append pieces (given ∷ []), length-append items given),
+    inr (pieces, given, refl, omega (arith, ap length is), omega arith),
+    Reads-next pieces is reads,
+  )
 
-  pub CallsSoFar-last : CallsSoFar gave name limit old items mid → at ≤ limit → (pieces : List (List ℕ)) × (length pieces ≤ limit + 1) × Reads gave name old 0 pieces new
-  CallsSoFar-last (pieces, is, few, bounded, reads) short =
-      (pieces ++ given ∷ [], omega (arith, length-append pieces (given ∷ [])), Reads-next pieces is reads)
+  pub CallsSoFar-last : CallsSoFar gave name limit old items mid → at ≤ limit → 0 < length given
+      → (pieces : List (List ℕ)) × (last : List ℕ) × AreSome (pieces ++ last ∷ []) × (length (joined pieces) ≤ limit) × (length pieces ≤ limit) × Reads gave name old 0 (pieces ++ last ∷ []) new
+  CallsSoFar-last (pieces, is, before, few, stops, reads) short some =
+      (pieces, given, AreSome-append pieces given before some, omega (arith, ap length is), omega arith, Reads-next pieces is reads)
 
   pub CallsSoFar-whole : CallsSoFar gave name limit old items mid → at ≤ limit → given ≡ []
-      → (pieces : List (List ℕ)) × (items ≡ joined pieces) × (length pieces ≤ limit) × Reads gave name old 0 (pieces ++ [] ∷ []) new
-  CallsSoFar-whole (pieces, is, few, bounded, reads) short none =
-      (pieces, is, omega arith, subst (λ x. Reads gave name old 0 (pieces ++ x ∷ []) new) none (Reads-next pieces is reads))
+      → (pieces : List (List ℕ)) × (items ≡ joined pieces) × AreSome pieces × (length pieces ≤ limit) × Reads gave name old 0 (pieces ++ [] ∷ []) new
+  CallsSoFar-whole (pieces, is, before, few, stops, reads) short none =
+      (pieces, is, before, omega arith, subst (λ x. Reads gave name old 0 (pieces ++ x ∷ []) new) none (Reads-next pieces is reads))
 
 -- What was read so far is a front part of the told text.
 abbrev pub ReadSoFar : Option Texts → List ℕ → List ℕ → Type 0

@@ -1,6 +1,6 @@
 use Rattle.std.proofs.Common.{◌≡◌, ℕ, ◌<◌, List, ◌++◌, length, arith, take, ap, sym, ◌∙◌, subst}
 use Rattle.std.proofs.lemmas.List.{length-take}
-use Rattle.outside.proofs.Joining.{ReadSoFar, CallsSoFar, CallsSoFar-append, CallsSoFar-last, CallsSoFar-whole, ReadSoFar-append, ReadSoFar-whole}
+use Rattle.outside.proofs.Joining.{ReadSoFar, CallsSoFar, CallsSoFar-append, CallsSoFar-fault, CallsSoFar-last, CallsSoFar-longer, CallsSoFar-whole, ReadSoFar-append, ReadSoFar-whole}
 use Rattle.outside.proofs.reading.read_text.Goals as goal
 
 pub returns-then-count-eq0-clause-whole : goal.returns-then-count-eq0-clause-whole
@@ -19,7 +19,7 @@ pub returns-then-is_err-clause-memory_calls : goal.returns-then-is_err-clause-me
 returns-then-is_err-clause-memory_calls g c _ =
     CallsSoFar-last g.L.Shelf.gave c.args.name.now c.args.limit c.args.shelf.now c.loop-piece.shelf c.read_at.new.self c.loop-piece.text.items (take c.in-Ok.count c.read_at.new.into)
     c.len-in-loop-piece.result (length c.loop-piece.piece) (omega (arith, c.len-in-loop-piece.ensures)) (omega (arith, c.len-in-loop-piece.array_long)) c.in-Ok.ensures.gave
-    c.loop-piece.invariant.calls (omega (arith, c.len-in-loop-piece.ensures))
+    c.loop-piece.invariant.calls (omega (arith, c.len-in-loop-piece.ensures)) (omega (arith, length-take c.in-Ok.count c.read_at.new.into, c.read_at.auto.into, c.in-Ok.ensures.within))
 
 pub loop-piece-preserved : goal.loop-piece-preserved
 loop-piece-preserved g c =
@@ -41,5 +41,10 @@ loop-piece-preserved g c =
 
 pub returns-clause-too_long_calls : goal.returns-clause-too_long_calls
 returns-clause-too_long_calls g c _ =
-    let calls = c.loop-piece.invariant.calls in
-    (calls.0, omega (arith, ap length calls.1, c.len.ensures), calls.3, calls.4)
+    CallsSoFar-longer g.L.Shelf.gave c.args.name.now c.args.limit c.args.shelf.now c.loop-piece.text.items c.loop-piece.shelf c.loop-piece.invariant.calls (omega (arith, c.len.ensures))
+
+pub returns-in-Err-clause-fault_calls : goal.returns-in-Err-clause-fault_calls
+returns-in-Err-clause-fault_calls g c _ =
+    CallsSoFar-fault g.L.Shelf.gave g.L.Shelf.failed c.args.name.now c.args.limit c.args.shelf.now c.loop-piece.shelf c.read_at.new.self c.loop-piece.text.items
+    c.len-in-loop-piece.result (length c.loop-piece.piece) (omega (arith, c.len-in-loop-piece.ensures)) (omega (arith, c.len-in-loop-piece.array_long)) c.in-Err.ensures.failed
+    c.loop-piece.invariant.calls (omega (arith, c.len-in-loop-piece.ensures))
