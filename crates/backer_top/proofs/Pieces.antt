@@ -1,7 +1,7 @@
 -- How a text is written piece after piece.
-use Rattle.std.proofs.Common.{◌≡◌, ℕ, ◌+◌, ◌<◌, ◌≤◌, Option, Some, None, IfSome, List, [], ◌∷◌, ◌++◌, length, take, min, append_assoc, length-append, append-nil, refl, sym, ap, ◌∙◌, subst, arith}
-use Rattle.std.proofs.Math.Seq.{take-append-add}
-use Rattle.std.proofs.lemmas.List.{take-append-le, take_min}
+use Rattle.std.proofs.Common.{◌≡◌, ℕ, zero, suc, ◌+◌, ◌<◌, ◌≤◌, Option, Some, None, IfSome, List, [], ◌∷◌, ◌++◌, length, take, drop, append_assoc, length-append, append-nil, refl, sym, ap, ◌∙◌, subst, arith, inl, inr}
+use Rattle.std.proofs.lemmas.Bool.{cases_lt}
+use Rattle.std.proofs.lemmas.List.{length-drop, length-take-le, take-append-drop}
 use Rattle.outside.specs.Shelf.{joined}
 use Rattle.backer_top.specs.Output.{IsCutShort, IsWritten, ArePieces, Puts}
 
@@ -57,61 +57,87 @@ IsWritten-nothing held took sink [] none = record {
 }
 IsWritten-nothing held took sink (byte ∷ bytes) none = absurd (omega arith)
 
--- a front of the first part is a front of the whole
-take_within : (piece later : List ℕ) (kept : ℕ) → take (min kept (length piece)) (piece ++ later) ≡ take kept piece
-take_within piece later kept =
-    take-append-le (min kept (length piece)) piece later (omega arith) ∙ take_min kept piece
-
 sizes_before : (piece : List ℕ) (pieces : List (List ℕ)) → length piece ≡ 4096 → ArePieces pieces → 0 < length pieces → ArePieces (piece ∷ pieces)
 sizes_before piece [] whole sizes some = absurd (omega arith)
 sizes_before piece (next ∷ pieces) whole sizes some = (whole, sizes)
 
--- a sink that told what it held tells it with the piece, and then with a front of what comes later
-part_on : {S : Type 0} (held : S → Option (List ℕ)) (old mid new : S) (piece later bytes : List ℕ) → bytes ≡ piece ++ later
-    → IfSome (held old) (λ before. held mid ≡ Some (before ++ piece)) → IfSome (held mid) (λ before. (kept : ℕ) × (held new ≡ Some (before ++ take kept later)))
-    → IfSome (held old) (λ before. (kept : ℕ) × (held new ≡ Some (before ++ take kept bytes)))
-part_on held old mid new piece later bytes cut first rest =
-    elim (held old) as (λ o. IfSome o (λ before. held mid ≡ Some (before ++ piece)) → IfSome o (λ before. (kept : ℕ) × (held new ≡ Some (before ++ take kept bytes)))) [
-      | None ↦ λ _. tt
-      | Some before ↦ λ told.
-          let after = subst (λ o. IfSome o (λ b. (kept : ℕ) × (held new ≡ Some (b ++ take kept later)))) told rest in
-          let front : take (length piece + after.0) bytes ≡ piece ++ take after.0 later = ap (take (length piece + after.0)) cut ∙ take-append-add piece later after.0 in
-          (length piece + after.0, after.1 ∙ ap Some (append_assoc before piece (take after.0 later) ∙ ap (λ b. before ++ b) (sym front)))
-    ] first
+-- what bytes are cut into: pieces, and at least one where there are bytes
+pub record IsCutInto (bytes : List ℕ) (pieces : List (List ℕ)) : Type 0 where
+  pub cut : joined pieces ≡ bytes
+  pub sizes : ArePieces pieces
+  pub some : 0 < length bytes → 0 < length pieces
 
--- a whole piece is put, and the rest is cut short after it
+-- bytes with a whole piece before them are cut after it
+pub cut_after : (piece bytes : List ℕ) (pieces : List (List ℕ)) → length piece ≡ 4096 → 0 < length bytes → IsCutInto bytes pieces → IsCutInto (piece ++ bytes) (piece ∷ pieces)
+cut_after piece bytes pieces whole more is = record {
+  cut = ap (λ b. piece ++ b) is.cut;
+  sizes = sizes_before piece pieces whole is.sizes (is.some more);
+  some = λ _. omega arith;
+}
+
+one_piece : (bytes : List ℕ) → length bytes ≤ 4096 → (pieces : List (List ℕ)) × IsCutInto bytes pieces
+one_piece [] small = ([], record { cut = refl; sizes = tt; some = λ more. more })
+one_piece (byte ∷ bytes) small = ((byte ∷ bytes) ∷ [], record { cut = append-nil (byte ∷ bytes); sizes = (omega arith, small); some = λ _. omega arith })
+
+-- all bytes can be cut into pieces; `fuel` bounds how many bytes there are
+pub cut_up : (fuel : ℕ) (bytes : List ℕ) → length bytes ≤ fuel → (pieces : List (List ℕ)) × IsCutInto bytes pieces
+cut_up zero [] few = ([], record { cut = refl; sizes = tt; some = λ more. more })
+cut_up zero (byte ∷ bytes) few = absurd (omega arith)
+cut_up (suc fuel) bytes few =
+    elim (cases_lt 4096 (length bytes)) [
+      | inl large ↦
+          let whole : length (take 4096 bytes) ≡ 4096 = length-take-le 4096 bytes (omega arith) in
+          let left : length (drop 4096 bytes) + 4096 ≡ length bytes = omega (arith, length-drop 4096 bytes) in
+          let later = cut_up fuel (drop 4096 bytes) (omega arith) in
+          (take 4096 bytes ∷ later.0, subst (λ b. IsCutInto b (take 4096 bytes ∷ later.0)) (take-append-drop 4096 bytes) (cut_after (take 4096 bytes) (drop 4096 bytes) later.0 whole (omega arith) later.1))
+      | inr small ↦ one_piece bytes small
+    ]
+
+-- a whole piece is taken, and the rest is cut short after it
+part_on : {S : Type 0} (held : S → Option (List ℕ)) (old mid new : S) (first piece : List ℕ) (pieces : List (List ℕ))
+    → IfSome (held old) (λ before. held mid ≡ Some (before ++ first))
+    → IfSome (held mid) (λ before. (kept : ℕ) × (held new ≡ Some (before ++ joined pieces ++ take kept piece)))
+    → IfSome (held old) (λ before. (kept : ℕ) × (held new ≡ Some (before ++ joined (first ∷ pieces) ++ take kept piece)))
+part_on held old mid new first piece pieces told rest =
+    elim (held old) as (λ o. IfSome o (λ before. held mid ≡ Some (before ++ first)) → IfSome o (λ before. (kept : ℕ) × (held new ≡ Some (before ++ joined (first ∷ pieces) ++ take kept piece)))) [
+      | None ↦ λ _. tt
+      | Some before ↦ λ after.
+          let more = subst (λ o. IfSome o (λ b. (kept : ℕ) × (held new ≡ Some (b ++ joined pieces ++ take kept piece)))) after rest in
+          (more.0, more.1 ∙ ap (λ b. Some (b ++ take more.0 piece)) (append_assoc before first (joined pieces)))
+    ] told
+
 pub IsCutShort-more : {S : Type 0} (held : S → Option (List ℕ)) (took failed : S → List ℕ → S → Type 0) (old mid new : S) (piece later bytes : List ℕ)
     → bytes ≡ piece ++ later → length piece ≡ 4096
     → IfSome (held old) (λ before. held mid ≡ Some (before ++ piece)) → took old piece mid
     → IsCutShort held took failed mid new later → IsCutShort held took failed old new bytes
 IsCutShort-more held took failed old mid new piece later bytes cut whole told put short = record {
-  part = part_on held old mid new piece later bytes cut told short.part;
   pieces = piece ∷ short.pieces;
   piece = short.piece;
-  rest = short.rest;
+  later = short.later;
   last = short.last;
-  cut = ap (λ b. b ++ short.rest) (append_assoc piece (joined short.pieces) short.piece) ∙ append_assoc piece (joined short.pieces ++ short.piece) short.rest ∙ ap (λ b. piece ++ b) short.cut ∙ sym cut;
-  sizes = sizes_before piece (short.pieces ++ short.piece ∷ []) whole short.sizes (omega (arith, length-append short.pieces (short.piece ∷ [])));
+  cut = ap (λ b. piece ++ b) short.cut ∙ sym cut;
+  sizes = sizes_before piece (short.pieces ++ short.piece ∷ short.later) whole short.sizes (omega (arith, length-append short.pieces (short.piece ∷ short.later)));
   puts = (mid, put, short.puts);
   broke = short.broke;
+  part = part_on held old mid new piece short.piece short.pieces told short.part;
 }
 
--- the very next put fails
-pub IsCutShort-now : {S : Type 0} (held : S → Option (List ℕ)) (took failed : S → List ℕ → S → Type 0) (old new : S) (piece later bytes : List ℕ)
-    → bytes ≡ piece ++ later → 0 < length piece → length piece ≤ 4096
+-- the very next put fails, of a piece that is whole or the last
+pub IsCutShort-now : {S : Type 0} (held : S → Option (List ℕ)) (took failed : S → List ℕ → S → Type 0) (old new : S) (piece bytes : List ℕ) (later : List (List ℕ))
+    → joined (piece ∷ later) ≡ bytes → ArePieces (piece ∷ later)
     → IfSome (held old) (λ before. (kept : ℕ) × (held new ≡ Some (before ++ take kept piece))) → failed old piece new
     → IsCutShort held took failed old new bytes
-IsCutShort-now held took failed old new piece later bytes cut some fits told broke = record {
-  part = elim (held old) as (λ o. IfSome o (λ before. (kept : ℕ) × (held new ≡ Some (before ++ take kept piece))) → IfSome o (λ before. (kept : ℕ) × (held new ≡ Some (before ++ take kept bytes)))) [
-    | None ↦ λ _. tt
-    | Some before ↦ λ part. (min part.0 (length piece), part.1 ∙ ap (λ b. Some (before ++ b)) (sym (ap (take (min part.0 (length piece))) cut ∙ take_within piece later part.0)))
-  ] told;
+IsCutShort-now held took failed old new piece bytes later cut sizes told broke = record {
   pieces = [];
   piece = piece;
-  rest = later;
+  later = later;
   last = old;
-  cut = sym cut;
-  sizes = (some, fits);
+  cut = cut;
+  sizes = sizes;
   puts = refl;
   broke = broke;
+  part = elim (held old) as (λ o. IfSome o (λ before. (kept : ℕ) × (held new ≡ Some (before ++ take kept piece))) → IfSome o (λ before. (kept : ℕ) × (held new ≡ Some (before ++ [] ++ take kept piece)))) [
+    | None ↦ λ _. tt
+    | Some before ↦ λ part. (part.0, part.1 ∙ ap (λ b. Some (b ++ take part.0 piece)) (sym (append-nil before)))
+  ] told;
 }

@@ -22,18 +22,18 @@ abbrev pub Puts : {S : Type 0} → (S → List ℕ → S → Type 0) → S → L
 Puts {S} took old [] new = new ≡ old
 Puts {S} took old (piece ∷ pieces) new = (mid : S) × took old piece mid × Puts took mid pieces new
 
--- A put failed before all bytes were put: whole pieces came before it, and nothing after it. What stands on the sink is a
--- front of the bytes.
+-- A put failed before all bytes were put: of the pieces that the bytes are cut into, those before it were taken whole, a
+-- front of it may have been kept, and none after it was put.
 pub record IsCutShort {S : Type 0} (held : S → Option (List ℕ)) (took failed : S → List ℕ → S → Type 0) (old new : S) (bytes : List ℕ) : Type 0 where
-  pub part : IfSome (held old) (λ before. (kept : ℕ) × (held new ≡ Some (before ++ take kept bytes)))
   pub pieces : List (List ℕ)
   pub piece : List ℕ
-  pub rest : List ℕ
+  pub later : List (List ℕ)
   pub last : S
-  pub cut : joined pieces ++ piece ++ rest ≡ bytes
-  pub sizes : ArePieces (pieces ++ piece ∷ [])
+  pub cut : joined (pieces ++ piece ∷ later) ≡ bytes
+  pub sizes : ArePieces (pieces ++ piece ∷ later)
   pub puts : Puts took old pieces last
   pub broke : failed last piece new
+  pub part : IfSome (held old) (λ before. (kept : ℕ) × (held new ≡ Some (before ++ joined pieces ++ take kept piece)))
 
 -- The bytes are put on the sink, in pieces and whole.
 pub record IsWritten {S : Type 0} (held : S → Option (List ℕ)) (took : S → List ℕ → S → Type 0) (old new : S) (bytes : List ℕ) : Type 0 where

@@ -1,9 +1,9 @@
 -- How `serial FILE` may end.
-use Rattle.std.specs.Prelude.{◌≡◌, ℕ, ◌<◌, ◌≤◌, Option, IfSome, Result, IfOk, IfErr, List, length}
+use Rattle.std.specs.Prelude.{◌≡◌, ℕ, ◌<◌, ◌≤◌, Option, Some, IfSome, IfNone, Result, IfOk, IfErr, MatchResult, List, [], ◌∷◌, ◌++◌, length}
 use Rattle.std.specs.FinMap as map
 use Rattle.cilk_tree.specs.declared.tree.Program.{Program}
 use Rattle.cilk_tree.specs.SerialMain.{SpellsSerialMain}
-use Rattle.outside.specs.Shelf.{Texts}
+use Rattle.outside.specs.Shelf.{AreSome, Reads, Texts, joined}
 use Rattle.backer_top.specs.declared.status.SourceRefusal.TheVariants.{TooLong, NotYet}
 use Rattle.backer_top.specs.declared.status.Status.{Status}
 use Rattle.backer_top.specs.declared.status.Status.TheVariants.{Done, Words, Source, ReadFault, WriteFault, Trap, Memory}
@@ -12,9 +12,49 @@ use Rattle.backer_top.specs.declared.walk.Run.{Run}
 use Rattle.backer_top.specs.Elision.{elision, main_body}
 use Rattle.backer_top.specs.Output.{lines}
 
--- where the shelf tells the name's text, this is it
+-- where the shelf tells its texts, this is the name's
+abbrev pub IsHeld : Option Texts → List ℕ → List ℕ → Type 0
+IsHeld texts name text = IfSome texts (λ held. map.get held name ≡ Some text)
+
+-- where the shelf tells a text of the name, this is it
 abbrev pub IsTextOf : Option Texts → List ℕ → List ℕ → Type 0
 IsTextOf texts name text = IfSome texts (λ held. IfSome (map.get held name) (λ told. text ≡ told))
+
+-- Where the shelf tells its texts, the file's is this one; where reading failed or memory ran out, the file may have none.
+abbrev pub IsTold : Option Texts → List ℕ → List ℕ → Status → Type 0
+IsTold texts file text ReadFault = IsTextOf texts file text
+IsTold texts file text Memory = IsTextOf texts file text
+IsTold texts file text status = IsHeld texts file text
+
+-- The calls on the shelf gave the whole text: pieces of it, and then nothing.
+pub record GaveWhole {S : Type 0} (gave : S → List ℕ → ℕ → ℕ → List ℕ → S → Type 0) (file : List ℕ) (old new : S) (text : List ℕ) : Type 0 where
+  pub pieces : List (List ℕ)
+  pub some : AreSome pieces
+  pub calls : Reads gave file old 0 (pieces ++ [] ∷ []) new
+  pub same : text ≡ joined pieces
+
+-- The calls gave more bytes than a source may have. Where no text is told, the text is what they gave.
+pub record GaveTooMuch {S : Type 0} (texts : Option Texts) (gave : S → List ℕ → ℕ → ℕ → List ℕ → S → Type 0) (file : List ℕ) (old new : S) (text : List ℕ) : Type 0 where
+  pub pieces : List (List ℕ)
+  pub some : AreSome pieces
+  pub calls : Reads gave file old 0 pieces new
+  pub long : 1048576 < length (joined pieces)
+  pub same : IfNone texts (text ≡ joined pieces)
+
+-- A call failed, after others that gave bytes.
+pub record GaveUp {S : Type 0} (gave : S → List ℕ → ℕ → ℕ → List ℕ → S → Type 0) (failed : S → List ℕ → ℕ → ℕ → S → Type 0) (file : List ℕ) (old new : S) : Type 0 where
+  pub pieces : List (List ℕ)
+  pub last : S
+  pub some : AreSome pieces
+  pub calls : Reads gave file old 0 pieces last
+  pub broke : failed last file (length (joined pieces)) 4096 new
+
+-- what the calls on the shelf gave, by how the command ended
+abbrev pub HasCalls : {S : Type 0} → Option Texts → (S → List ℕ → ℕ → ℕ → List ℕ → S → Type 0) → (S → List ℕ → ℕ → ℕ → S → Type 0) → List ℕ → S → S → List ℕ → Status → Type 0
+HasCalls texts gave failed file old new text (Source TooLong) = GaveTooMuch texts gave file old new text
+HasCalls texts gave failed file old new text ReadFault = GaveUp gave failed file old new
+HasCalls texts gave failed file old new text Memory = (pieces : List (List ℕ)) × Reads gave file old 0 pieces new
+HasCalls texts gave failed file old new text status = GaveWhole gave file old new text
 
 -- The text is within the limit, and spells this program, which the walk takes.
 abbrev pub Accepts : List ℕ → Program → Type 0
@@ -40,44 +80,33 @@ abbrev pub HasCause : List ℕ → (read_failed write_failed : Type 0) → Statu
 HasCause text read_failed write_failed ReadFault = read_failed
 HasCause text read_failed write_failed WriteFault = write_failed × IsDue text Done
 HasCause text read_failed write_failed Memory = Unit {0}
-HasCause text read_failed write_failed Done = IsDue text Done
-HasCause text read_failed write_failed (Trap kind node) = IsDue text (Trap kind node)
-HasCause text read_failed write_failed (Source refusal) = IsDue text (Source refusal)
-HasCause text read_failed write_failed Words = ⊥
+HasCause text read_failed write_failed status = IsDue text status
 
 -- What is due is answered, unless a device failed or memory ran out.
 abbrev pub Answers : Status → (read_failed write_failed : Type 0) → Status → Type 0
 Answers due read_failed write_failed ReadFault = read_failed
 Answers due read_failed write_failed WriteFault = write_failed × (due ≡ Done)
 Answers due read_failed write_failed Memory = Unit {0}
-Answers due read_failed write_failed Done = due ≡ Done
-Answers due read_failed write_failed (Trap kind node) = due ≡ Trap kind node
-Answers due read_failed write_failed (Source refusal) = due ≡ Source refusal
-Answers due read_failed write_failed Words = ⊥
+Answers due read_failed write_failed status = due ≡ status
 
 -- a status that an accepted text may have where no device fails
 abbrev pub IsOfAccepted : Status → Type 0
 IsOfAccepted Done = Unit {0}
 IsOfAccepted (Trap kind node) = Unit {0}
 IsOfAccepted Memory = Unit {0}
-IsOfAccepted Words = ⊥
-IsOfAccepted (Source refusal) = ⊥
-IsOfAccepted ReadFault = ⊥
-IsOfAccepted WriteFault = ⊥
+IsOfAccepted _ = ⊥
 
 -- why a source is not read
 abbrev pub IsRefusal : List ℕ → (read_failed : Type 0) → Status → Type 0
 IsRefusal text read_failed (Source refusal) = IsDue text (Source refusal)
 IsRefusal text read_failed ReadFault = read_failed
 IsRefusal text read_failed Memory = Unit {0}
-IsRefusal text read_failed Done = ⊥
-IsRefusal text read_failed Words = ⊥
-IsRefusal text read_failed WriteFault = ⊥
-IsRefusal text read_failed (Trap kind node) = ⊥
+IsRefusal text read_failed _ = ⊥
 
 -- How reading a source ended, where the shelf gave this text.
-pub record IsSource (texts : Option Texts) (file : List ℕ) (read_failed : Type 0) (text : List ℕ) (result : Result Program Status) : Type 0 where
-  pub told : IsTextOf texts file text
+pub record IsSource {S : Type 0} (texts : Option Texts) (gave : S → List ℕ → ℕ → ℕ → List ℕ → S → Type 0) (failed : S → List ℕ → ℕ → ℕ → S → Type 0) (file : List ℕ) (old new : S) (read_failed : Type 0) (text : List ℕ) (result : Result Program Status) : Type 0 where
+  pub told : MatchResult result (λ _. IsHeld texts file text) (IsTold texts file text)
+  pub calls : MatchResult result (λ _. GaveWhole gave file old new text) (HasCalls texts gave failed file old new text)
   pub read : IfOk result (λ program. Accepts text program × (length (main_body program.functions) ≤ 1048576))
   pub only : (program : Program) → Accepts text program → IfOk result (λ read. read ≡ program)
   pub refused : IfErr result (λ status. IsRefusal text read_failed status)
@@ -91,19 +120,17 @@ Prints program text = ((meaning program).end ≡ Finished) × (text ≡ lines (m
 abbrev pub StopsWith : Program → Status → Type 0
 StopsWith program (Trap kind node) = ((meaning program).end ≡ Trapped kind) × (node ≡ 0)
 StopsWith program Memory = Unit {0}
-StopsWith program Done = ⊥
-StopsWith program Words = ⊥
-StopsWith program (Source refusal) = ⊥
-StopsWith program ReadFault = ⊥
-StopsWith program WriteFault = ⊥
+StopsWith program _ = ⊥
 
 -- How `serial` on a file ended, where the shelf gave this text.
-pub record IsSerial (texts : Option Texts) (file : List ℕ) (read_failed write_failed : Type 0) (written cut_short : List ℕ → Type 0) (text : List ℕ) (status : Status) : Type 0 where
-  pub told : IsTextOf texts file text
+pub record IsSerial {S : Type 0} (texts : Option Texts) (gave : S → List ℕ → ℕ → ℕ → List ℕ → S → Type 0) (failed : S → List ℕ → ℕ → ℕ → S → Type 0) (file : List ℕ) (old new : S)
+    (read_failed write_failed : Type 0) (written cut_short : List ℕ → Type 0) (text : List ℕ) (status : Status) : Type 0 where
+  pub told : IsTold texts file text status
+  pub calls : HasCalls texts gave failed file old new text status
   pub cause : HasCause text read_failed write_failed status
   pub due : (due : Status) → IsDue text due → Answers due read_failed write_failed status
   pub accepted : (read_failed → ⊥) → (write_failed → ⊥) → (program : Program) → Accepts text program → IsOfAccepted status
   -- at Done the lines of what the elision prints are put on `out`, and nothing else
-  -- after a failure to write a front of them stands there
-  pub unwritten : status ≡ WriteFault → (program : Program) → Accepts text program → cut_short (lines (meaning program).output)
   pub output : status ≡ Done → (program : Program) → Accepts text program → written (lines (meaning program).output)
+  -- after a failure to write they are cut short there
+  pub unwritten : status ≡ WriteFault → (program : Program) → Accepts text program → cut_short (lines (meaning program).output)

@@ -38,10 +38,16 @@ pub fn backer<L: Shelf, O: Sink, E: Sink>(
 
     // One text serves all that is said of the run.
     ensures serial { (file : List ℕ) → file_of (map string_bytes words.now) ≡ Some file →
-        ((text : List ℕ) × IsSerial (L.texts shelf.old) file
+        ((text : List ℕ) × IsSerial (L.texts shelf.old) L.gave L.failed file shelf.old shelf.new
         (Rose (L.faults shelf.old file) (L.faults shelf.new file)) (Rose (O.faults out.old) (O.faults out.new))
         (IsWritten O.held O.took out.old out.new) (IsCutShort O.held O.took O.failed out.old out.new) text result.status) }
     ensures nothing_written { result.status ≢ Status.Done → result.status ≢ Status.WriteFault → out.new ≡ out.old }
+
+    // The shelf tells the same texts, and no count of faults falls.
+    ensures texts { L.texts shelf.new ≡ L.texts shelf.old }
+    ensures shelf_faults { (name : List ℕ) → L.faults shelf.old name ≤ L.faults shelf.new name }
+    ensures out_faults { O.faults out.old ≤ O.faults out.new }
+    ensures err_faults { E.faults err.old ≤ E.faults err.new }
 
     // At Done nothing is put on `err`. At any other status its line is put there, once and whole, or mute is true:
     // then that one put failed, and a front of the line stands there.
@@ -60,11 +66,14 @@ pub fn backer<L: Shelf, O: Sink, E: Sink>(
 
 /// Reads the file, runs the program that it spells, and puts what it prints on `out`.
 fn serial<L: Shelf, O: Sink>(alloc: Global, file: &str, shelf: &mut L, out: &mut O) -> Status
-    ensures serial { (text : List ℕ) × IsSerial (L.texts shelf.old) file.now
+    ensures serial { (text : List ℕ) × IsSerial (L.texts shelf.old) L.gave L.failed file.now shelf.old shelf.new
         (Rose (L.faults shelf.old file.now) (L.faults shelf.new file.now)) (Rose (O.faults out.old) (O.faults out.new))
         (IsWritten O.held O.took out.old out.new) (IsCutShort O.held O.took O.failed out.old out.new) text result }
     ensures nothing_written { result ≢ Status.Done → result ≢ Status.WriteFault → out.new ≡ out.old }
     ensures node { IsOnNode0 result }
+    ensures texts { L.texts shelf.new ≡ L.texts shelf.old }
+    ensures shelf_faults { (name : List ℕ) → L.faults shelf.old name ≤ L.faults shelf.new name }
+    ensures out_faults { O.faults out.old ≤ O.faults out.new }
 {
     let program = match source(alloc, file, shelf) {
         Ok(program) => program,
@@ -82,8 +91,10 @@ fn serial<L: Shelf, O: Sink>(alloc: Global, file: &str, shelf: &mut L, out: &mut
 
 /// The program that the file spells.
 fn source<L: Shelf>(alloc: Global, file: &str, shelf: &mut L) -> Result<Program, Status>
-    ensures { (text : List ℕ) × IsSource (L.texts shelf.old) file.now
+    ensures source { (text : List ℕ) × IsSource (L.texts shelf.old) L.gave L.failed file.now shelf.old shelf.new
         (Rose (L.faults shelf.old file.now) (L.faults shelf.new file.now)) text result }
+    ensures texts { L.texts shelf.new ≡ L.texts shelf.old }
+    ensures shelf_faults { (name : List ℕ) → L.faults shelf.old name ≤ L.faults shelf.new name }
 {
     let text = match read_text(alloc, shelf, file, SOURCE_LIMIT) {
         Ok(text) => text,

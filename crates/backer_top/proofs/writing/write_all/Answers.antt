@@ -2,7 +2,7 @@ use Rattle.std.proofs.Common.{◌≡◌, ◌<◌, [], ◌++◌, length, take, ar
 use Rattle.std.proofs.lemmas.List.{take-append-drop}
 use Rattle.std.proofs.lemmas.Result.{err_from_is_err_and}
 use Rattle.std.proofs.lemmas.Bool.Decides.{nat_tests}
-use Rattle.backer_top.proofs.Pieces.{IsCutShort-more, IsCutShort-now, IsWritten-more, IsWritten-last, IsWritten-nothing}
+use Rattle.backer_top.proofs.Pieces.{cut_up, cut_after, IsCutShort-more, IsCutShort-now, IsWritten-more, IsWritten-last, IsWritten-nothing}
 use Rattle.backer_top.proofs.writing.write_all.Goals as goal
 
 pub loop-rest-preserved : goal.loop-rest-preserved
@@ -39,7 +39,9 @@ returns-in_err-put-clause-cut_short g c =
     let piece = c.split_at.result.0.now in
     let later = c.split_at.result.1.now in
     let cut : rest ≡ piece ++ later = sym (ap (λ b. b ++ later) c.split_at.ensures.front ∙ ap (λ b. take 4096 rest ++ b) c.split_at.ensures.back ∙ take-append-drop 4096 rest) in
-    let short = c.loop-rest.invariant.breaks c.put.new.self (IsCutShort-now sink.held sink.took sink.failed c.loop-rest.sink c.put.new.self piece later rest cut (omega (arith, c.split_at.ensures.front_len)) (omega (arith, c.split_at.ensures.front_len)) c.in_err-put.ensures.part c.in_err-put.ensures.failed) in
+    let parts = cut_up (length later) later (omega arith) in
+    let after = cut_after piece later parts.0 c.split_at.ensures.front_len (omega (arith, c.split_at.ensures.back_len, c.loop-rest-test.true)) parts.1 in
+    let short = c.loop-rest.invariant.breaks c.put.new.self (IsCutShort-now sink.held sink.took sink.failed c.loop-rest.sink c.put.new.self piece rest parts.0 (after.cut ∙ sym cut) after.sizes c.in_err-put.ensures.part c.in_err-put.ensures.failed) in
     let from = err_from_is_err_and c.from_residual.result c.from_residual.ensures.1 in
     rw from.1 short
 
@@ -48,6 +50,6 @@ returns-in_err-put-2-clause-cut_short g c =
     let sink = g.S.Sink in
     let rest = c.loop-rest.rest.now in
     let some : 0 < length rest = grind (arith, nat_tests) in
-    let short = c.loop-rest.invariant.breaks c.put-then-not-is_empty.new.self (IsCutShort-now sink.held sink.took sink.failed c.loop-rest.sink c.put-then-not-is_empty.new.self rest [] rest (sym (append-nil rest)) some c.loop-rest-test.false c.in_err-put-2.ensures.part c.in_err-put-2.ensures.failed) in
+    let short = c.loop-rest.invariant.breaks c.put-then-not-is_empty.new.self (IsCutShort-now sink.held sink.took sink.failed c.loop-rest.sink c.put-then-not-is_empty.new.self rest rest [] (append-nil rest) (some, c.loop-rest-test.false) c.in_err-put-2.ensures.part c.in_err-put-2.ensures.failed) in
     let from = err_from_is_err_and c.from_residual-in_err-put-2.result c.from_residual-in_err-put-2.ensures.1 in
     rw from.1 short
