@@ -2,7 +2,7 @@ ghost use Rattle.std.specs.Prelude.{◌≡◌, ℕ, ◌+◌, ◌-◌, ◌<◌, �
 ghost use Rattle.std.specs.FinMap as finite;
 ghost use Rattle.std.specs.List.{Contains};
 ghost use Rattle.std.specs.Option.{option_map};
-ghost use Rattle.outside.specs.Device.{Rose, one_more};
+ghost use Rattle.outside.specs.Device.{Rose};
 ghost use Rattle.outside.specs.MemShelf.{ShelfState, held, place, fault_count, with_call, with_fault};
 ghost use Rattle.outside.specs.Shelf.{GivesFrom};
 
@@ -125,9 +125,10 @@ impl Shelf for MemShelf {
 
     ghost faults = { fault_count };
 
-    ghost gave = { λ s _ _ _ _ t. t.calls ≡ one_more s.calls };
+    ghost gave = { λ s name at room given t. (t ≡ with_call s)
+        × IsSomeAnd (finite.get (held s) name) (λ text. given ≡ take (min room (length text - at)) (drop at text)) };
 
-    ghost failed = { λ s _ _ _ t. t.calls ≡ one_more s.calls };
+    ghost failed = { λ s name _ _ t. t ≡ with_fault (with_call s) (place s name) };
 
     fn read_at(&mut self, name: &str, at: u64, into: &mut [u8]) -> Result<usize, Failed>
         ensures texts { Some (held self.new) ≡ Some (held self.old) }
@@ -136,8 +137,9 @@ impl Shelf for MemShelf {
         ensures within { IfOk result (λ count. count ≤ length into.old) }
         ensures told { IfOk result (λ count. IfSome (Some (held self.old)) (λ texts.
             IsSomeAnd (finite.get texts name.now) (λ text. GivesFrom text at (length into.old) (take count into.new)))) }
-        ensures gave { IfOk result (λ _. self.new.calls ≡ one_more self.old.calls) }
-        ensures failed { OnErr result (self.new.calls ≡ one_more self.old.calls) }
+        ensures gave { IfOk result (λ count. (self.new ≡ with_call self.old)
+            × IsSomeAnd (finite.get (held self.old) name.now) (λ text. take count into.new ≡ take (min (length into.old) (length text - at)) (drop at text))) }
+        ensures failed { OnErr result (self.new ≡ with_fault (with_call self.old) (place self.old name.now)) }
 
         // It fails exactly at the calls with the given numbers and at names that are not held.
         ensures fails { IsErr result ↔ (Contains self.old.failing self.new.calls ⊎ (finite.get (held self.old) name.now ≡ None)) }

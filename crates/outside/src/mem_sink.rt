@@ -107,9 +107,13 @@ impl Sink for MemSink {
 
     ghost faults = { λ s. s.faults };
 
-    ghost took = { λ s _ t. t.puts ≡ one_more s.puts };
+    ghost took = { λ s piece t. t ≡ record s { bytes = s.bytes ++ piece; puts = one_more s.puts } };
 
-    ghost failed = { λ s _ t. t.puts ≡ one_more s.puts };
+    ghost failed = { λ s piece t. t ≡ record s {
+      bytes = if has_room s piece then s.bytes ++ wanted s piece else s.bytes;
+      puts = one_more s.puts;
+      faults = one_more s.faults;
+    } };
 
     fn put(&mut self, piece: &[u8]) -> Result<(), Failed>
         ensures faults { self.old.faults ≤ self.new.faults }
@@ -117,8 +121,12 @@ impl Sink for MemSink {
         ensures whole { OnOk result (IfSome (Some self.old.bytes) (λ before. Some self.new.bytes ≡ Some (before ++ piece.now))) }
         ensures part { OnErr result (IfSome (Some self.old.bytes) (λ before.
             (kept : ℕ) × (Some self.new.bytes ≡ Some (before ++ take kept piece.now)))) }
-        ensures took { OnOk result (self.new.puts ≡ one_more self.old.puts) }
-        ensures failed { OnErr result (self.new.puts ≡ one_more self.old.puts) }
+        ensures took { OnOk result (self.new ≡ record self.old { bytes = self.old.bytes ++ piece.now; puts = one_more self.old.puts }) }
+        ensures failed { OnErr result (self.new ≡ record self.old {
+          bytes = if has_room self.old piece.now then self.old.bytes ++ wanted self.old piece.now else self.old.bytes;
+          puts = one_more self.old.puts;
+          faults = one_more self.old.faults;
+        }) }
 
         // It fails exactly at the puts with the given numbers, and where there is no room for what it is to keep.
         ensures fails { IsErr result ↔ (IsSome (planned self.old) ⊎ IsFalse (has_room self.old piece.now)) }
