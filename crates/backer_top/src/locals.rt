@@ -1,4 +1,4 @@
-ghost use Rattle.std.specs.Prelude.{◌≡◌, [], OnOk, IfOk};
+ghost use Rattle.std.specs.Prelude.{◌≡◌, [], OnOk};
 ghost use Rattle.backer_top.specs.Elision.{assigned};
 
 use cilk_tree::Name;
@@ -50,19 +50,8 @@ impl Locals {
                 return Ok(());
             }
         }
-        let name = name_of(alloc, name)?;
+        let name = Name::from_slice(alloc, name)?;
         self.slots.push(Local { name, value })?;
         Ok(())
     }
-}
-
-/// A name with these bytes.
-fn name_of(alloc: Global, bytes: &[u8]) -> Result<Name, AllocError>
-    ensures { IfOk result (λ name. name ≡ bytes.now) }
-{
-    let mut name = Name::new(alloc);
-    for byte in bytes {
-        name.push(*byte)?;
-    }
-    Ok(name)
 }
