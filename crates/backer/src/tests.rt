@@ -1,9 +1,10 @@
 //! The rows of the program's behaviour, over a shelf and sinks in memory.
 use backer_top::{Ended, SourceRefusal, Status, TrapKind, backer};
 use cilk_reader::{ReadRefusal, read_program};
-use cilk_tree::Stmt;
+use cilk_tree::print_program;
 use outside::{MemShelf, MemSink};
 use std::alloc::{AllocError, Global};
+use std::process::Abort;
 use std::test::Fail;
 
 /// What a call of the program left.
@@ -124,13 +125,20 @@ fn sources(rt: HostRuntime) -> Result<(), Fail> {
             OVERFLOW,
             "",
         ),
+        (
+            "int main(void) { int x, y = 2; /* two */ x += y; x++; print(x * y); } // six",
+            Status::Done,
+            "6\n",
+        ),
         ("int main() { print(y); }", NOT_YET, ""),
         ("int main() { int x; int x; }", NOT_YET, ""),
         ("int main() { int main; }", NOT_YET, ""),
-        ("int main() { print(007); }", NOT_YET, ""),
-        ("int main() { print(1 + ); }", NOT_YET, ""),
-        ("int main() { print((1); }", NOT_YET, ""),
-        ("int main() { print(9223372036854775808); }", NOT_YET, ""),
+        ("int a[1]; int main() { }", NOT_YET, ""),
+        ("cilk int main() { }", NOT_YET, ""),
+        ("int main() { } int f() { }", NOT_YET, ""),
+        ("int main() { sync; }", NOT_YET, ""),
+        ("int main() { print(-1); }", NOT_YET, ""),
+        ("int main() { print(4 / 2); }", NOT_YET, ""),
     ];
     for (source, status, out) in rows {
         let left = run_source(rt.alloc(), source, NOTHING)?;
@@ -147,44 +155,500 @@ fn sources(rt: HostRuntime) -> Result<(), Fail> {
     Ok(())
 }
 
+/// A source that is refused: a text, a part that is repeated so many times, a text up to where the refusal stands, and
+/// what follows.
+#[derive(Clone, Copy)]
+struct Refused {
+    before: &'static str,
+    part: &'static str,
+    count: usize,
+    behind: &'static str,
+    after: &'static str,
+    kind: u16,
+}
+
+/// One without a part that is repeated.
+const fn wrong(before: &'static str, after: &'static str, kind: u16) -> Refused {
+    repeated(before, "", 0, "", after, kind)
+}
+
+const fn repeated(
+    before: &'static str,
+    part: &'static str,
+    count: usize,
+    behind: &'static str,
+    after: &'static str,
+    kind: u16,
+) -> Refused {
+    Refused {
+        before,
+        part,
+        count,
+        behind,
+        after,
+        kind,
+    }
+}
+
+/// Compares the answer on the source with what is written, and its line on `err`.
+fn assert_refused(rt: &impl Abort, alloc: Global, row: Refused) -> Result<(), Fail> {
+    let mut source = repeating(alloc, row.before, row.part, row.count, row.behind)?;
+    let offset = source.len() as u64;
+    source.push_str(row.after)?;
+    let left = run_source(alloc, source.as_str(), NOTHING)?;
+    let kind = row.kind;
+    assert_eq!(rt;
+        left.ended.status,
+        Status::Source(SourceRefusal::Read { kind, offset }),
+        "{}",
+        row.before
+    );
+    let line = format!(in alloc; "backer: source refused: {kind} at byte {offset}\n")?;
+    assert_eq!(rt; left.err.held(), line.as_bytes(), "{}", row.before);
+    assert_eq!(rt; left.out.puts(), 0, "{}", row.before);
+    Ok(())
+}
+
 #[test]
-fn limits(rt: HostRuntime) -> Result<(), Fail> {
+fn refused_tokens(rt: HostRuntime) -> Result<(), Fail> {
+    let rows = [
+        wrong("int main() { /* x", "", 103),
+        wrong("int main() { /*/", "", 103),
+        wrong("int main() { print(", "10000000000000000000); }", 102),
+        wrong("int main() { print(", "9223372036854775808); }", 102),
+        wrong("int main() { print(", "0x1); }", 102),
+        wrong("int main() { print(", "007); }", 102),
+        wrong("int main() { print(1 ", "& 1); }", 101),
+        wrong("int main() { print(1 ", "| 1); }", 101),
+        wrong("", "#include", 101),
+        wrong("int main() { x", "$ = 1; }", 101),
+    ];
+    for row in rows {
+        assert_refused(&rt, rt.alloc(), row)?;
+    }
+    let mut bytes = b"int main() { ".to_vec(rt.alloc())?;
+    bytes.push(255)?;
+    bytes.extend_from_slice(b" }")?;
+    let left = run(rt.alloc(), &["serial", "f"], bytes, NOTHING)?;
+    assert_eq!(rt;
+        left.ended.status,
+        Status::Source(SourceRefusal::Read {
+            kind: 101,
+            offset: 13
+        })
+    );
+    Ok(())
+}
+
+#[test]
+fn refused_structure(rt: HostRuntime) -> Result<(), Fail> {
+    let rows = [
+        wrong("int main() { print(", "--1); }", 103),
+        wrong("int main() { print(1 + ", "); }", 103),
+        wrong("int main() { print((1)", "; }", 103),
+        wrong("int main() { x = 1 ", "}", 103),
+        wrong("int main() { if (1) ", "int x; }", 103),
+        wrong("int main() { ", "else ; }", 103),
+        wrong("int main() { if (1) ; else ; ", "else ; }", 103),
+        wrong("int main() { a[1] ", "+= 1; }", 103),
+        wrong("int main() { x = spawn ", "1; }", 103),
+        wrong("int main() { print(f", "(1)); }", 103),
+        wrong("int main() { x ", "== 1; }", 103),
+        wrong("int main() { for (int i = 0", ") ; }", 103),
+        wrong("int main() { for (f", "(); ; ) ; }", 103),
+        wrong("int a[", "-1];", 103),
+        wrong("int a", ";", 103),
+        wrong("void a", "[1];", 103),
+        wrong("int f(int a, ", ") { }", 103),
+        wrong("int f(void", ", int a) { }", 103),
+        wrong("cilk ", "f() { }", 103),
+        wrong("int main() { } ", "}", 103),
+        wrong("int ", "if() { }", 103),
+        wrong("int main() { x = ", "fetch_add(a[0], 1); }", 103),
+        wrong("int main() { ", "cilk_for (int i = 0; i < 1; i++) ; }", 103),
+    ];
+    for row in rows {
+        assert_refused(&rt, rt.alloc(), row)?;
+    }
+    Ok(())
+}
+
+#[test]
+fn refused_at_the_end(rt: HostRuntime) -> Result<(), Fail> {
+    let rows = [
+        "int",
+        "int main",
+        "int main(",
+        "int main()",
+        "int main() {",
+        "int main() { x",
+        "int main() { x =",
+        "int main() { x = 1",
+        "int main() { x = y",
+        "int main() { x = f(",
+        "int main() { x = f(1,",
+        "int main() { x = spawn",
+        "int main() { a[",
+        "int main() { a[1]",
+        "int main() { x++",
+        "int main() { x +=",
+        "int main() { if (1)",
+        "int main() { if (1) ;",
+        "int main() { if (1) ; else",
+        "int main() { while",
+        "int main() { for (;;",
+        "int main() { print(1)",
+        "int main() { return",
+        "int main() { sync",
+        "int main() { int x,",
+        "int main() { print(-",
+        "int main() { print(!",
+        "int main() { print(1 <",
+        "int a[1]",
+        "int a[1],",
+        "cilk",
+        "void f(int a",
+        "int main() { // x",
+        "int main() { /* x */",
+    ];
+    for row in rows {
+        assert_refused(&rt, rt.alloc(), wrong(row, "", 103))?;
+    }
+    Ok(())
+}
+
+#[test]
+fn refused_levels(rt: HostRuntime) -> Result<(), Fail> {
+    let rows = [
+        repeated("int main() { print(", "(", 64, "", "1", 104),
+        repeated("int main() { print(", "- ", 64, "", "1); }", 104),
+        repeated("int main() { print(", "a[", 64, "", "1", 104),
+        repeated("int main() {", "{", 64, "", "x = 1;", 104),
+        repeated("int main() {", "{", 64, "", ";", 104),
+        repeated("int main() {", "if (1) ", 64, "", ";", 104),
+        repeated("int main() {", "if (1) {", 64, "", "; }", 104),
+        repeated("int main() {", "while (1) ", 64, "", "x++; }", 104),
+        repeated("int main() {{", "for (;;) ", 31, "for (", ";;) ; }}", 104),
+        repeated(
+            "int main() {",
+            "{",
+            62,
+            "for (x = 1; x < 2; ",
+            "x++) ; }",
+            104,
+        ),
+        repeated("int main() {", "{", 62, "for (;;) ", "x++; }", 104),
+        repeated("int main() {", "{", 63, "x += ", "1; }", 104),
+        repeated("int main() {", "{", 63, "a[", "1] = 1; }", 104),
+        repeated("int main() {", "{", 63, "print(-", "1); }", 104),
+    ];
+    for row in rows {
+        assert_refused(&rt, rt.alloc(), row)?;
+    }
+    Ok(())
+}
+
+#[test]
+fn a_million_signs(rt: HostRuntime) -> Result<(), Fail> {
+    // A `--` is one token, which begins no operand.
+    for (sign, kind, offset) in [("(", 104, 83), ("!", 104, 83), ("-", 103, 19)] {
+        let source = repeating(rt.alloc(), "int main() { print(", sign, 1_000_000, "")?;
+        let left = run_source(rt.alloc(), source.as_str(), NOTHING)?;
+        assert_eq!(rt;
+            left.ended.status,
+            Status::Source(SourceRefusal::Read { kind, offset }),
+            "{sign}"
+        );
+    }
+    Ok(())
+}
+
+/// Whether the source is read.
+fn is_read(alloc: Global, source: &str) -> bool {
+    read_program(alloc, source.as_bytes()).is_ok()
+}
+
+#[test]
+fn levels_that_are_kept(rt: HostRuntime) -> Result<(), Fail> {
+    let rows = [
+        ("int main() { print(", "(", 63, "1", ")", "); }"),
+        ("int main() { print(", "- ", 63, "1", "", "); }"),
+        ("int main() { print(", "a[", 63, "1", "]", "); }"),
+        ("int main() {", "{", 63, "x = 1;", "}", "}"),
+        ("int main() {", "{", 62, "x += 1; a[1] = -1;", "}", "}"),
+        (
+            "int main() {",
+            "{",
+            61,
+            "for (x = 1; x < 2; x++) x++;",
+            "}",
+            "}",
+        ),
+        ("int main() {", "{", 62, "for (;;) { }", "}", "}"),
+    ];
+    for (before, opening, count, inside, closing, after) in rows {
+        let mut source = repeating(rt.alloc(), before, opening, count, inside)?;
+        source.push_str(repeating(rt.alloc(), "", closing, count, after)?.as_str())?;
+        assert!(rt; is_read(rt.alloc(), source.as_str()), "{before} {opening}");
+    }
+    Ok(())
+}
+
+/// Parts with a number each, from 0 on.
+fn numbered(alloc: Global, before: &str, count: usize, after: &str) -> Result<String, AllocError> {
+    let mut text = String::new(alloc);
+    for number in 0..count {
+        text.push_str(before)?;
+        text.push_str(format!(in alloc; "{number}")?.as_str())?;
+        text.push_str(after)?;
+    }
+    Ok(text)
+}
+
+/// A count: what stands before, each that is counted with what follows it, how many there may be, the one that is too
+/// many, and what stands behind.
+#[derive(Clone, Copy)]
+struct Counting {
+    before: &'static str,
+    opening: &'static str,
+    closing: &'static str,
+    most: usize,
+    more: &'static str,
+    after: &'static str,
+}
+
+#[test]
+fn counts(rt: HostRuntime) -> Result<(), Fail> {
+    let rows = [
+        Counting {
+            before: "int main() { print(0",
+            opening: "+",
+            closing: "",
+            most: 256,
+            more: "+1",
+            after: "); print(1 + 1); }",
+        },
+        Counting {
+            before: "int main() { x += 0",
+            opening: "+",
+            closing: "",
+            most: 255,
+            more: "+1",
+            after: "; }",
+        },
+        Counting {
+            before: "int main() { print(a[0",
+            opening: "+",
+            closing: "",
+            most: 255,
+            more: "+1",
+            after: "] + 1); }",
+        },
+        Counting {
+            before: "int f(int x",
+            opening: ", int y",
+            closing: "",
+            most: 15,
+            more: ", int z",
+            after: ") { } int g(int x) { }",
+        },
+        Counting {
+            before: "int main() { f(0",
+            opening: ", ",
+            closing: "",
+            most: 15,
+            more: ", -1",
+            after: "); f(1); }",
+        },
+        Counting {
+            before: "int f(int y) { int z;",
+            opening: "int x",
+            closing: ";",
+            most: 254,
+            more: "int w",
+            after: "; } int g() { int x; }",
+        },
+        Counting {
+            before: "",
+            opening: "int a",
+            closing: "[1];",
+            most: 1024,
+            more: "int b[1];",
+            after: "",
+        },
+        Counting {
+            before: "",
+            opening: "int f",
+            closing: "() { }",
+            most: 1024,
+            more: "int g() { }",
+            after: "",
+        },
+        Counting {
+            before: "",
+            opening: "void f",
+            closing: "() { }",
+            most: 1024,
+            more: "cilk int g() { }",
+            after: "",
+        },
+    ];
+    for row in rows {
+        let mut kept = String::from_str(rt.alloc(), row.before)?;
+        kept.push_str(numbered(rt.alloc(), row.opening, row.most, row.closing)?.as_str())?;
+        let mut past = kept.clone()?;
+        past.push_str(row.more)?;
+        past.push_str(row.after)?;
+        kept.push_str(row.after)?;
+        assert!(rt; is_read(rt.alloc(), kept.as_str()), "{}", row.before);
+        let is_past = matches!(
+            read_program(rt.alloc(), past.as_bytes()),
+            Err(ReadRefusal::At {
+                kind: 105,
+                offset: _
+            })
+        );
+        assert!(rt; is_past, "{}", row.before);
+    }
+    Ok(())
+}
+
+#[test]
+fn places_of_counts(rt: HostRuntime) -> Result<(), Fail> {
+    let arrays = numbered(rt.alloc(), "int a", 1024, "[1];")?;
+    let functions = numbered(rt.alloc(), "int f", 1024, "() { }")?;
+    let long = repeating(rt.alloc(), "", "x", 64, "")?;
+    let rows = [
+        (arrays.as_str(), "int ", "b[1];"),
+        (arrays.as_str(), "int c() { } int ", "b[1];"),
+        (functions.as_str(), "", "int g() { }"),
+        (functions.as_str(), "", "void g() { }"),
+        (functions.as_str(), "int c[1]; ", "cilk void g() { }"),
+        ("int main() { print(1); ", "int ", long.as_str()),
+        ("int main() { ", "print(", long.as_str()),
+        ("int ", "", long.as_str()),
+        ("int f(int ", "", long.as_str()),
+    ];
+    for (before, between, after) in rows {
+        let mut source = String::from_str(rt.alloc(), before)?;
+        source.push_str(between)?;
+        let place = source.len() as u64;
+        source.push_str(after)?;
+        let answer = match read_program(rt.alloc(), source.as_bytes()) {
+            Err(ReadRefusal::At { kind, offset }) => Some((kind, offset)),
+            _ => None,
+        };
+        assert_eq!(rt; answer, Some((105, place)), "{between} {after}");
+    }
+    // Past both limits `int NAME` is judged by the sign behind it; where none follows, that sign is unexpected.
+    let mut both = arrays.clone()?;
+    both.push_str(functions.as_str())?;
+    let whole = both.len() as u64;
+    for (tail, kind, further) in [("int g(", 105, 0), ("int g[", 105, 4), ("int g;", 103, 5)] {
+        let mut source = both.clone()?;
+        source.push_str(tail)?;
+        let answer = match read_program(rt.alloc(), source.as_bytes()) {
+            Err(ReadRefusal::At { kind, offset }) => Some((kind, offset)),
+            _ => None,
+        };
+        assert_eq!(rt; answer, Some((kind, whole + further)), "{tail}");
+    }
+    Ok(())
+}
+
+/// What the statement of `main` is in the canonical text, between the lines of the function.
+fn canonical(alloc: Global, statements: &str) -> Result<String, Fail> {
+    let mut source = String::from_str(alloc, "int main() { ")?;
+    source.push_str(statements)?;
+    source.push_str(" }")?;
+    let Ok(program) = read_program(alloc, source.as_bytes()) else {
+        return Ok(String::from_str(alloc, "refused")?);
+    };
+    let text = print_program(alloc, &program)?;
+    Ok(String::from_utf8(text).ok().ok_or("no text")?)
+}
+
+#[test]
+fn sugar(rt: HostRuntime) -> Result<(), Fail> {
+    let rows = [
+        ("int x, y = 1;", "  int x;\n  int y;\n  y = 1;\n"),
+        (
+            "int x = f(), y = spawn g(x);",
+            "  int x;\n  x = f();\n  int y;\n  y = spawn g(x);\n",
+        ),
+        ("x += 1; x -= y - 1;", "  x = x + 1;\n  x = x - (y - 1);\n"),
+        ("x++; x--;", "  x = x + 1;\n  x = x - 1;\n"),
+        ("; { ; }", "  {\n  }\n"),
+        ("f(); spawn f(1, 2);", "  f();\n  spawn f(1, 2);\n"),
+        ("for (;;) ;", "  {\n    while (1) {\n    }\n  }\n"),
+        (
+            "for (int i = 0, j; i < 2; ) x++;",
+            "  {\n    int i;\n    i = 0;\n    int j;\n    while (i < 2) {\n      x = x + 1;\n    }\n  }\n",
+        ),
+        (
+            "for (i = 0; ; a[i] = 1) { x++; }",
+            "  {\n    i = 0;\n    while (1) {\n      x = x + 1;\n      a[i] = 1;\n    }\n  }\n",
+        ),
+        (
+            "if (a) if (b) x++; else y++;",
+            "  if (a) {\n    if (b) {\n      x = x + 1;\n    } else {\n      y = y + 1;\n    }\n  }\n",
+        ),
+        (
+            "if (a) { if (b) x++; } else y++;",
+            "  if (a) {\n    if (b) {\n      x = x + 1;\n    }\n  } else {\n    y = y + 1;\n  }\n",
+        ),
+        (
+            "if (a) while (b) if (c) x++; else y++; else ;",
+            "  if (a) {\n    while (b) {\n      if (c) {\n        x = x + 1;\n      } else {\n        y = y + 1;\n      }\n    }\n  }\n",
+        ),
+        (
+            "return; return 1 || 2 && 3 == 4 < 5 + 6 * 7;",
+            "  return;\n  return 1 || 2 && 3 == 4 < 5 + 6 * 7;\n",
+        ),
+        (
+            "x = ((1 - 2) - (3 - 4)) * (5 * 6) % -(-7) - !(a[i] + 1) / 2;",
+            "  x = (1 - 2 - (3 - 4)) * (5 * 6) % - -7 - !(a[i] + 1) / 2;\n",
+        ),
+        ("x = (1 < 2) < (3 < 4);", "  x = 1 < 2 < (3 < 4);\n"),
+        ("x = (1 || 2) && (3 && 4);", "  x = (1 || 2) && (3 && 4);\n"),
+        ("sync; while (x) { }", "  sync;\n  while (x) {\n  }\n"),
+    ];
+    for (source, lines) in rows {
+        let text = canonical(rt.alloc(), source)?;
+        let mut wanted = String::from_str(rt.alloc(), "int main() {\n")?;
+        wanted.push_str(lines)?;
+        wanted.push_str("}\n")?;
+        assert_eq!(rt; text.as_str(), wanted.as_str(), "{source}");
+    }
+    Ok(())
+}
+
+#[test]
+fn canonical_programs(rt: HostRuntime) -> Result<(), Fail> {
     let rows = [
         (
-            "int main() { print(",
-            "(",
-            63,
-            "1",
-            ")",
-            "); }",
-            Status::Done,
+            "int a[2];int main(){int i;for(i=0;i<2;i++)a[i]=-(-i)+1;}",
+            "int a[2];\nint main() {\n  int i;\n  {\n    i = 0;\n    while (i < 2) {\n      a[i] = - -i + 1;\n      i = i + 1;\n    }\n  }\n}\n",
         ),
-        ("int main() { print(", "(", 64, "1", ")", "); }", NOT_YET),
         (
-            "int main() { print(1",
-            "+1",
-            256,
-            "",
-            "",
-            "); }",
-            Status::Done,
+            "cilk void f(void) { } int a[1], b[2]; void g(int x, int y) { } cilk int h(int n) { return n; } int c[3];",
+            "int a[1];\nint b[2];\nint c[3];\ncilk void f() {\n}\nvoid g(int x, int y) {\n}\ncilk int h(int n) {\n  return n;\n}\n",
         ),
-        ("int main() { print(1", "-1", 257, "", "", "); }", NOT_YET),
+        ("// nothing", ""),
+        ("/* a */ /**/ /***/", ""),
     ];
-    for (before, part, count, middle, closing, after, status) in rows {
-        let mut source = repeating(rt.alloc(), before, part, count, middle)?;
-        source.push_str(repeating(rt.alloc(), "", closing, count, after)?.as_str())?;
-        let left = run_source(rt.alloc(), source.as_str(), NOTHING)?;
-        assert_eq!(rt; left.ended.status, status, "{count} times {part}");
-    }
-    for (count, status) in [(256, Status::Done), (257, NOT_YET)] {
-        let mut source = String::from_str(rt.alloc(), "int main() {")?;
-        for number in 0..count {
-            source.push_str(format!(in rt.alloc(); " int x{number};")?.as_str())?;
-        }
-        source.push_str(" }")?;
-        let left = run_source(rt.alloc(), source.as_str(), NOTHING)?;
-        assert_eq!(rt; left.ended.status, status, "{count} locals");
+    for (source, wanted) in rows {
+        let Ok(program) = read_program(rt.alloc(), source.as_bytes()) else {
+            assert!(rt; false, "{source}");
+            continue;
+        };
+        let text = print_program(rt.alloc(), &program)?;
+        assert_eq!(rt; text.as_slice(), wanted.as_bytes(), "{source}");
+        let again = read_program(rt.alloc(), text.as_slice()).expect(&rt, "read again");
+        assert_eq!(rt;
+            print_program(rt.alloc(), &again)?.as_slice(),
+            wanted.as_bytes()
+        );
     }
     Ok(())
 }
@@ -322,25 +786,6 @@ fn a_source_that_is_too_long(rt: HostRuntime) -> Result<(), Fail> {
     assert_eq!(rt;
         left.err.held(),
         b"backer: source refused: too long\n".as_slice()
-    );
-    Ok(())
-}
-
-#[test]
-fn a_tree(rt: HostRuntime) -> Result<(), Fail> {
-    let program = read_program(rt.alloc(), b"int main() { int x; }").expect(&rt, "ample memory");
-    let main = program.functions.get(0).expect(&rt, "a function");
-    assert_eq!(rt; main.name.items(), b"main".as_slice());
-    let declares_x = match main.body.get(0) {
-        Some(Stmt::Declare(name)) => name.items() == b"x".as_slice(),
-        _ => false,
-    };
-    assert!(rt; declares_x);
-    assert!(rt;
-        matches!(
-            read_program(rt.alloc(), b"int x;"),
-            Err(ReadRefusal::NotYet)
-        )
     );
     Ok(())
 }

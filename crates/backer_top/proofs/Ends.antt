@@ -1,19 +1,25 @@
 -- How `serial` ends, by how its parts ended.
-use Rattle.std.proofs.Common.{◌≡◌, ℕ, ◌<◌, ◌≤◌, Option, Some, None, IfSome, IfNone, IsSomeAnd, Ok, Err, unwrap_or, List, [], ◌∷◌, ◌++◌, length, refl, sym, ap, ◌∙◌, subst, arith}
-use Rattle.std.specs.List.{AllByRecursion}
+use Rattle.std.proofs.Common.{◌≡◌, ◌⊎◌, inl, inr, ℕ, ◌*◌, ◌<◌, ◌≤◌, Result, Option, Some, None, IfSome, IfNone, IsSomeAnd, Ok, Err, unwrap_or, List, [], ◌∷◌, ◌++◌, length, refl, sym, ap, ◌∙◌, subst, arith}
 use Rattle.std.specs.FinMap as map
-use Rattle.cilk_tree.specs.declared.tree.Function.{Function}
 use Rattle.cilk_tree.specs.declared.tree.Program.{Program}
-use Rattle.cilk_tree.specs.SerialMain.{SpellsSerialMain}
+use Rattle.cilk_reader.specs.Refusals.{IsReason, IsRefusedAt}
+use Rattle.cilk_reader.specs.declared.refusal.ReadRefusal.{ReadRefusal}
+use Rattle.cilk_tree.specs.declared.kind.Kind.{Kind}
+use Rattle.cilk_tree.specs.Kind.{kind_number}
+use Rattle.cilk_tree.specs.Size.{program_size}
+use Rattle.cilk_tree.specs.Spelling.{IsRefusal, Spells}
+use Rattle.cilk_reader.specs.declared.refusal.ReadRefusal.TheVariants as read
+use Rattle.backer_top.specs.SerialMain.{IsSerialMain}
 use Rattle.outside.specs.Shelf.{AreSome, Reads, Texts, joined}
-use Rattle.backer_top.specs.declared.status.SourceRefusal.TheVariants.{TooLong, NotYet}
+use Rattle.backer_top.specs.declared.status.SourceRefusal.{SourceRefusal}
+use Rattle.backer_top.specs.declared.status.SourceRefusal.TheVariants.{TooLong, Read, NotYet}
 use Rattle.backer_top.specs.declared.status.Status.{Status}
 use Rattle.backer_top.specs.declared.status.TrapKind.{TrapKind}
 use Rattle.backer_top.specs.declared.status.Status.TheVariants.{Done, Words, Source, ReadFault, WriteFault, Trap, Memory}
 use Rattle.backer_top.specs.declared.walk.End.TheVariants.{Finished, Trapped}
-use Rattle.backer_top.specs.Elision.{main_body}
+use Rattle.backer_top.specs.Status.{IsToldAs}
 use Rattle.backer_top.specs.Output.{lines}
-use Rattle.backer_top.specs.Serial.{IsHeld, IsTextOf, GaveUp, GaveWhole, Accepts, meaning, IsDue, IsSource, StopsWith, IsSerial}
+use Rattle.backer_top.specs.Serial.{IsHeld, IsTextOf, GaveUp, GaveWhole, Accepts, meaning, IsDue, IsReading, IsSource, StopsWith, IsSerial}
 
 -- the told text, or another where none is told
 abbrev told_or : Option Texts → List ℕ → List ℕ → List ℕ
@@ -42,6 +48,7 @@ due_too_long : (text : List ℕ) → 1048576 < length text → (due : Status) �
 due_too_long text long Done is = absurd (omega (arith, is.1.0))
 due_too_long text long (Trap kind node) is = absurd (omega (arith, is.1.0))
 due_too_long text long (Source TooLong) is = refl
+due_too_long text long (Source (Read number offset)) is = absurd (omega (arith, is.0))
 due_too_long text long (Source NotYet) is = absurd (omega (arith, is.0))
 due_too_long text long Words is = absurd is
 due_too_long text long ReadFault is = absurd is
@@ -49,44 +56,113 @@ due_too_long text long WriteFault is = absurd is
 due_too_long text long Memory is = absurd is
 
 -- a source that was read calls for the end of its program's elision
-due_end : (text : List ℕ) (program : Program) → Accepts text program → ((other : Program) → Accepts text other → program ≡ other)
+due_end : (text : List ℕ) (program : Program) → ((refusal : SourceRefusal) → IsDue text (Source refusal) → ⊥) → ((other : Program) → Accepts text other → program ≡ other)
     → (status : Status) → (((meaning program).end ≡ Finished) → Done ≡ status) → ((kind : TrapKind) → (meaning program).end ≡ Trapped kind → Trap kind 0 ≡ status)
     → (due : Status) → IsDue text due → due ≡ status
-due_end text program accepted only status finished trapped Done is = finished (ap (λ p. (meaning p).end) (only is.0 is.1) ∙ is.2)
-due_end text program accepted only status finished trapped (Trap kind node) is =
+due_end text program unrefused only status finished trapped Done is = finished (ap (λ p. (meaning p).end) (only is.0 is.1) ∙ is.2)
+due_end text program unrefused only status finished trapped (Trap kind node) is =
     ap (λ n. Trap kind n) is.3 ∙ trapped kind (ap (λ p. (meaning p).end) (only is.0 is.1) ∙ is.2)
-due_end text program accepted only status finished trapped (Source TooLong) is = absurd (omega (arith, is, accepted.0))
-due_end text program accepted only status finished trapped (Source NotYet) is = absurd (is.1 program accepted.1)
-due_end text program accepted only status finished trapped Words is = absurd is
-due_end text program accepted only status finished trapped ReadFault is = absurd is
-due_end text program accepted only status finished trapped WriteFault is = absurd is
-due_end text program accepted only status finished trapped Memory is = absurd is
+due_end text program unrefused only status finished trapped (Source refusal) is = absurd (unrefused refusal is)
+due_end text program unrefused only status finished trapped Words is = absurd is
+due_end text program unrefused only status finished trapped ReadFault is = absurd is
+due_end text program unrefused only status finished trapped WriteFault is = absurd is
+due_end text program unrefused only status finished trapped Memory is = absurd is
 
-due_not_yet : (text : List ℕ) → length text ≤ 1048576 → ((program : Program) → SpellsSerialMain text program → ⊥) → (due : Status) → IsDue text due → due ≡ Source NotYet
-due_not_yet text short none Done is = absurd (none is.0 is.1.1)
-due_not_yet text short none (Trap kind node) is = absurd (none is.0 is.1.1)
-due_not_yet text short none (Source TooLong) is = absurd (omega (arith, is))
-due_not_yet text short none (Source NotYet) is = refl
-due_not_yet text short none Words is = absurd is
-due_not_yet text short none ReadFault is = absurd is
-due_not_yet text short none WriteFault is = absurd is
-due_not_yet text short none Memory is = absurd is
+-- a source that spells a program that is not taken
+due_not_yet : (text : List ℕ) (program : Program) → length text ≤ 1048576 → (IsSerialMain program → ⊥) → ((other : Program) → Spells text other → program ≡ other) → ((number offset : ℕ) → IsRefusedAt text number offset → ⊥)
+    → (due : Status) → IsDue text due → due ≡ Source NotYet
+due_not_yet text program short untaken only unrefused Done is = absurd (untaken (subst IsSerialMain (sym (only is.0 is.1.1.0)) is.1.1.1))
+due_not_yet text program short untaken only unrefused (Trap kind node) is = absurd (untaken (subst IsSerialMain (sym (only is.0 is.1.1.0)) is.1.1.1))
+due_not_yet text program short untaken only unrefused (Source TooLong) is = absurd (omega (arith, is))
+due_not_yet text program short untaken only unrefused (Source (Read number offset)) is = absurd (unrefused number offset is.1)
+due_not_yet text program short untaken only unrefused (Source NotYet) is = refl
+due_not_yet text program short untaken only unrefused Words is = absurd is
+due_not_yet text program short untaken only unrefused ReadFault is = absurd is
+due_not_yet text program short untaken only unrefused WriteFault is = absurd is
+due_not_yet text program short untaken only unrefused Memory is = absurd is
 
--- the body of the first function is as small as each function's
-main_small : (functions : List Function) (limit : ℕ) → AllByRecursion (λ function. length function.body ≤ limit) functions → length (main_body functions) ≤ limit
-main_small [] limit small = omega arith
-main_small (f ∷ functions) limit small = small.0
+-- a source that spells no program
+due_read : (text : List ℕ) (number offset : ℕ) → length text ≤ 1048576 → ((program : Program) → Spells text program → ⊥) → ((other other_offset : ℕ) → IsRefusedAt text other other_offset → (number ≡ other) × (offset ≡ other_offset))
+    → (due : Status) → IsDue text due → due ≡ Source (Read number offset)
+due_read text number offset short none once Done is = absurd (none is.0 is.1.1.0)
+due_read text number offset short none once (Trap kind node) is = absurd (none is.0 is.1.1.0)
+due_read text number offset short none once (Source TooLong) is = absurd (omega (arith, is))
+due_read text number offset short none once (Source (Read other other_offset)) is =
+    let same = once other other_offset is.1 in
+    ap (λ n. Source (Read n other_offset)) (sym same.0) ∙ ap (λ o. Source (Read number o)) (sym same.1)
+due_read text number offset short none once (Source NotYet) is = absurd (none is.1.0 is.1.1)
+due_read text number offset short none once Words is = absurd is
+due_read text number offset short none once ReadFault is = absurd is
+due_read text number offset short none once WriteFault is = absurd is
+due_read text number offset short none once Memory is = absurd is
+
+same_refusal : (number other offset place : ℕ) (kind : Kind) → other ≡ kind_number kind → (read.At number offset ≡ read.At (kind_number kind) place) ⊎ (read.At number offset ≡ read.Memory) → (number ≡ other) × (offset ≡ place)
+same_refusal number other offset place kind is (inl same) = (let e : number ≡ kind_number kind = cc in e ∙ sym is, cc)
+same_refusal number other offset place kind is (inr memory) = (cc, cc)
+
+-- ---- how a text within the limit was read
+
+module _ (text : List ℕ) (short : length text ≤ 1048576) where
+  module _ (program : Program) (spelled : Spells text program) (small : program_size program ≤ 2 * length text) (only : (other : Program) → Spells text other → program ≡ other)
+      (unrefused : (kind : Kind) (offset : ℕ) → IsRefusal text kind offset → ⊥) where
+    not_refused : (number offset : ℕ) → IsRefusedAt text number offset → ⊥
+    not_refused number offset refused = unrefused refused.0 offset refused.2
+
+    none_refused : IsSerialMain program → (refusal : SourceRefusal) → IsDue text (Source refusal) → ⊥
+    none_refused taken TooLong is = omega (arith, is)
+    none_refused taken (Read number offset) is = not_refused number offset is.1
+    none_refused taken NotYet is = is.1.2 (subst IsSerialMain (only is.1.0 is.1.1) taken)
+
+    pub reading_taken : IsSerialMain program → IsReading text (Ok program)
+    reading_taken taken = record {
+      read = ((short, (spelled, taken)), omega arith);
+      only = λ other accepted. only other accepted.1.0;
+      refused = tt;
+      due = λ _ _. tt;
+      unrefused = none_refused taken;
+    }
+
+    pub reading_untaken : (IsSerialMain program → ⊥) → IsReading text (Err (Source NotYet))
+    reading_untaken untaken = record {
+      read = tt;
+      only = λ other accepted. untaken (subst IsSerialMain (sym (only other accepted.1.0)) accepted.1.1);
+      refused = (short, (program, spelled, untaken));
+      due = due_not_yet text program short untaken only not_refused;
+      unrefused = λ _ _. tt;
+    }
+
+  reading_refused : (number offset : ℕ) → IsRefusedAt text number offset → ((program : Program) → Spells text program → read.At number offset ≡ read.Memory)
+      → ((kind : Kind) (place : ℕ) → IsRefusal text kind place → (read.At number offset ≡ read.At (kind_number kind) place) ⊎ (read.At number offset ≡ read.Memory)) → IsReading text (Err (Source (Read number offset)))
+  reading_refused number offset refused only exact =
+      let none = λ (program : Program) (spelled : Spells text program). let memory = only program spelled in let no : ⊥ = cc in no in
+      record {
+        read = tt;
+        only = λ program accepted. none program accepted.1.0;
+        refused = (short, refused);
+        due = due_read text number offset short none (λ other place again. same_refusal number other offset place again.0 again.1 (exact again.0 place again.2));
+        unrefused = λ _ _. tt;
+      }
+
+  -- the reader refused it so
+  pub reading_of_refusal : (refusal : ReadRefusal) (number offset : ℕ) → refusal ≡ read.At number offset → ((program : Program) → Spells text program → refusal ≡ read.Memory) → IsReason text refusal
+      → ((kind : Kind) (place : ℕ) → IsRefusal text kind place → (refusal ≡ read.At (kind_number kind) place) ⊎ (refusal ≡ read.Memory)) → IsReading text (Err (Source (Read number offset)))
+  reading_of_refusal refusal number offset is only reason exact =
+      reading_refused number offset (subst (IsReason text) is reason) (λ program spelled. sym is ∙ only program spelled)
+      (λ kind place refused. subst (λ r. (r ≡ read.At (kind_number kind) place) ⊎ (r ≡ read.Memory)) is (exact kind place refused))
+
+  pub reading_unread : IsReading text (Err Memory)
+  reading_unread = record { read = tt; only = λ _ _. tt; refused = tt; due = λ _ _. tt; unrefused = λ _ _. tt }
 
 module _ {S : Type 0} (texts : Option Texts) (gave : S → List ℕ → ℕ → ℕ → List ℕ → S → Type 0) (failed : S → List ℕ → ℕ → ℕ → S → Type 0) (file : List ℕ) (old new : S) (read_failed : Type 0) where
   -- the shelf failed
   pub source_failed : read_failed → GaveUp gave failed file old new → (text : List ℕ) × IsSource texts gave failed file old new read_failed text (Err ReadFault)
   source_failed fault calls =
-      (told_or texts file [], record { told = told_or_is texts file []; calls = calls; read = tt; only = λ _ _. tt; refused = fault; due = λ _ _. fault })
+      (told_or texts file [], record { told = told_or_is texts file []; calls = calls; read = tt; only = λ _ _. fault; refused = fault; due = λ _ _. fault; unrefused = λ _ _. tt })
 
   -- memory ran out before the text was known
   pub source_unread : (pieces : List (List ℕ)) → Reads gave file old 0 pieces new → (text : List ℕ) × IsSource texts gave failed file old new read_failed text (Err Memory)
   source_unread pieces calls =
-      (told_or texts file [], record { told = told_or_is texts file []; calls = (pieces, calls); read = tt; only = λ _ _. tt; refused = tt; due = λ _ _. tt })
+      (told_or texts file [], record { told = told_or_is texts file []; calls = (pieces, calls); read = tt; only = λ _ _. tt; refused = tt; due = λ _ _. tt; unrefused = λ _ _. tt })
 
   pub source_too_long : (pieces : List (List ℕ)) → AreSome pieces → Reads gave file old 0 pieces new → 1048576 < length (joined pieces)
       → IfSome texts (λ held. IsSomeAnd (map.get held file) (λ text. 1048576 < length text))
@@ -99,47 +175,43 @@ module _ {S : Type 0} (texts : Option Texts) (gave : S → List ℕ → ℕ → 
           told = more.1;
           calls = record { pieces = pieces; some = some; calls = calls; long = long; same = more.2 };
           read = tt;
-          only = λ _ _. tt;
+          only = λ program accepted. absurd (omega (arith, more.0, accepted.0));
           refused = more.0;
           due = due_too_long text more.0;
+          unrefused = λ _ _. tt;
         },
       )
 
   -- the text was read whole
-  pub source_read : (text : List ℕ) (program : Program) → length text ≤ 1048576
-      → IsHeld texts file text → GaveWhole gave file old new text
-      → SpellsSerialMain text program
-      → ((other : Program) → SpellsSerialMain text other → program ≡ other)
-      → AllByRecursion (λ function. length function.body ≤ length text) program.functions
-      → (given : List ℕ) × IsSource texts gave failed file old new read_failed given (Ok program)
-  source_read text program short told calls spelled only small =
-      let few = main_small program.functions (length text) small in (
-        text,
-        record {
-          told = told;
-          calls = calls;
-          read = ((short, spelled), omega arith);
-          only = λ other accepted. only other accepted.1;
-          refused = tt;
-          due = λ _ _. tt;
-        },
-      )
-
-  -- the text was read whole, and spells no program that is taken
-  pub source_not_yet : (text : List ℕ) → length text ≤ 1048576
-      → IsHeld texts file text → GaveWhole gave file old new text
-      → ((program : Program) → SpellsSerialMain text program → ⊥)
-      → (given : List ℕ) × IsSource texts gave failed file old new read_failed given (Err (Source NotYet))
-  source_not_yet text short told calls none =
-      (text, record { told = told; calls = calls; read = tt; only = λ _ _. tt; refused = (short, none); due = due_not_yet text short none })
+  pub source_read : (text : List ℕ) (result : Result Program Status) → length text ≤ 1048576 → IsHeld texts file text → GaveWhole gave file old new text → IsReading text result → IsSource texts gave failed file old new read_failed text result
+  source_read text (Ok program) short told calls reading = record { told = told; calls = calls; read = reading.read; only = reading.only; refused = tt; due = λ _ _. tt; unrefused = reading.unrefused }
+  source_read text (Err (Source TooLong)) short told calls reading = absurd (omega (arith, reading.refused))
+  source_read text (Err (Source (Read number offset))) short told calls reading = record { told = told; calls = calls; read = tt; only = λ program accepted. reading.only program accepted; refused = reading.refused; due = reading.due; unrefused = λ _ _. tt }
+  source_read text (Err (Source NotYet)) short told calls reading = record { told = told; calls = calls; read = tt; only = λ program accepted. reading.only program accepted; refused = reading.refused; due = reading.due; unrefused = λ _ _. tt }
+  source_read text (Err Memory) short told calls reading = record {
+    told = text_of_held texts file text told;
+    calls = (calls.pieces ++ [] ∷ [], calls.calls);
+    read = tt;
+    only = λ _ _. tt;
+    refused = tt;
+    due = λ _ _. tt;
+    unrefused = λ _ _. tt;
+  }
+  source_read text (Err Done) short told calls reading = absurd reading.refused
+  source_read text (Err Words) short told calls reading = absurd reading.refused
+  source_read text (Err ReadFault) short told calls reading = absurd reading.refused
+  source_read text (Err WriteFault) short told calls reading = absurd reading.refused
+  source_read text (Err (Trap kind node)) short told calls reading = absurd reading.refused
 
   module _ (write_failed : Type 0) (written cut_short : List ℕ → Type 0) (text : List ℕ) where
     -- the source was not read
     pub serial_unread : (status : Status) → IsSource texts gave failed file old new read_failed text (Err status) → IsSerial texts gave failed file old new read_failed write_failed written cut_short text status
     serial_unread (Source TooLong) source =
-        record { told = source.told; calls = source.calls; cause = source.refused; due = source.due; accepted = λ _ _ program accepted. absurd (omega (arith, source.refused, accepted.0)); output = λ done. cc; unwritten = λ unwritten. cc }
+        record { told = source.told; calls = source.calls; cause = source.refused; due = source.due; accepted = λ _ _ program accepted. source.only program accepted; output = λ done. cc; unwritten = λ unwritten. cc }
+    serial_unread (Source (Read number offset)) source =
+        record { told = source.told; calls = source.calls; cause = source.refused; due = source.due; accepted = λ _ _ program accepted. source.only program accepted; output = λ done. cc; unwritten = λ unwritten. cc }
     serial_unread (Source NotYet) source =
-        record { told = source.told; calls = source.calls; cause = source.refused; due = source.due; accepted = λ _ _ program accepted. absurd (source.refused.1 program accepted.1); output = λ done. cc; unwritten = λ unwritten. cc }
+        record { told = source.told; calls = source.calls; cause = source.refused; due = source.due; accepted = λ _ _ program accepted. source.only program accepted; output = λ done. cc; unwritten = λ unwritten. cc }
     serial_unread ReadFault source =
         record { told = source.told; calls = source.calls; cause = source.refused; due = source.due; accepted = λ unfailed _ program accepted. absurd (unfailed source.refused); output = λ done. cc; unwritten = λ unwritten. cc }
     serial_unread Memory source =
@@ -156,7 +228,7 @@ module _ {S : Type 0} (texts : Option Texts) (gave : S → List ℕ → ℕ → 
         told = source.told;
         calls = source.calls;
         cause = (program, source.read.0, stops.0, stops.1);
-        due = due_end text program source.read.0 source.only (Trap kind node) (λ finished. cc) (λ other trapped. cc);
+        due = due_end text program source.unrefused source.only (Trap kind node) (λ finished. cc) (λ other trapped. cc);
         accepted = λ _ _ _ _. tt;
         output = λ done. cc;
         unwritten = λ unwritten. cc;
@@ -182,7 +254,7 @@ module _ {S : Type 0} (texts : Option Texts) (gave : S → List ℕ → ℕ → 
         told = source.told;
         calls = source.calls;
         cause = (program, source.read.0, finished);
-        due = due_end text program source.read.0 source.only Done (λ _. refl) (λ kind trapped. cc);
+        due = due_end text program source.unrefused source.only Done (λ _. refl) (λ kind trapped. cc);
         accepted = λ _ _ _ _. tt;
         output = λ _ other spelled. subst (λ p. written (lines (meaning p).output)) (source.only other spelled) put;
         unwritten = λ unwritten. cc;
@@ -194,8 +266,29 @@ module _ {S : Type 0} (texts : Option Texts) (gave : S → List ℕ → ℕ → 
         told = source.told;
         calls = source.calls;
         cause = (fault, (program, source.read.0, finished));
-        due = λ due is. (fault, due_end text program source.read.0 source.only Done (λ _. refl) (λ kind trapped. cc) due is);
+        due = λ due is. (fault, due_end text program source.unrefused source.only Done (λ _. refl) (λ kind trapped. cc) due is);
         accepted = λ _ unfailed _ _. absurd (unfailed fault);
         output = λ done. cc;
         unwritten = λ _ other spelled. subst (λ p. cut_short (lines (meaning p).output)) (source.only other spelled) short;
       }
+
+    -- the status that is told for another
+    pub serial_told : (status told : Status) → IsToldAs status told → IsSerial texts gave failed file old new read_failed write_failed written cut_short text status → IsSerial texts gave failed file old new read_failed write_failed written cut_short text told
+    serial_told (Source (Read number offset)) told (inl same) serial = subst (IsSerial texts gave failed file old new read_failed write_failed written cut_short text) (sym same) serial
+    serial_told (Source (Read number offset)) told (inr memory) serial = subst (IsSerial texts gave failed file old new read_failed write_failed written cut_short text) (sym memory) (record {
+      told = text_of_held texts file text serial.told;
+      calls = (serial.calls.pieces ++ [] ∷ [], serial.calls.calls);
+      cause = tt;
+      due = λ _ _. tt;
+      accepted = λ _ _ _ _. tt;
+      output = λ done. cc;
+      unwritten = λ unwritten. cc;
+    })
+    serial_told (Source TooLong) told same serial = subst (IsSerial texts gave failed file old new read_failed write_failed written cut_short text) (sym same) serial
+    serial_told (Source NotYet) told same serial = subst (IsSerial texts gave failed file old new read_failed write_failed written cut_short text) (sym same) serial
+    serial_told Done told same serial = subst (IsSerial texts gave failed file old new read_failed write_failed written cut_short text) (sym same) serial
+    serial_told Words told same serial = subst (IsSerial texts gave failed file old new read_failed write_failed written cut_short text) (sym same) serial
+    serial_told ReadFault told same serial = subst (IsSerial texts gave failed file old new read_failed write_failed written cut_short text) (sym same) serial
+    serial_told WriteFault told same serial = subst (IsSerial texts gave failed file old new read_failed write_failed written cut_short text) (sym same) serial
+    serial_told (Trap kind node) told same serial = subst (IsSerial texts gave failed file old new read_failed write_failed written cut_short text) (sym same) serial
+    serial_told Memory told same serial = subst (IsSerial texts gave failed file old new read_failed write_failed written cut_short text) (sym same) serial

@@ -3,7 +3,7 @@ use Rattle.std.proofs.Common.{◌≡◌, ℕ, zero, suc, ◌+◌, ◌<◌, ◌�
 use Rattle.std.proofs.lemmas.Bool.{cases_lt}
 use Rattle.std.proofs.lemmas.List.{length-drop, length-take-le, take-append-drop}
 use Rattle.outside.specs.Shelf.{joined}
-use Rattle.backer_top.specs.Output.{IsCutShort, IsWritten, ArePieces, Puts}
+use Rattle.backer_top.specs.Output.{IsCutShort, IsWritten, ArePieces}
 
 -- a sink that told what it held tells it with the piece, and then with what comes later
 held_on : {S : Type 0} (held : S → Option (List ℕ)) (old mid new : S) (piece later bytes : List ℕ) → bytes ≡ piece ++ later

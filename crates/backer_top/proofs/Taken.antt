@@ -1,5 +1,6 @@
 -- A program that the walk takes comes to no part that it does not take, and spends no more ticks than it has statements.
-use Rattle.std.proofs.Common.{◌≡◌, ◌≢◌, ℕ, zero, suc, ◌+◌, ◌<◌, ◌≤◌, ℤ, pos, ◌+ℤ◌, ◌-ℤ◌, ◌*ℤ◌, Bool, true, false, ◌&&◌, Result, Ok, Err, List, [], ◌∷◌, ◌++◌, length, refl, sym, ◌∙◌, subst, arith, cond}
+use Rattle.std.proofs.Common.{◌≡◌, ◌≢◌, ℕ, zero, suc, ◌+◌, ◌<◌, ◌≤◌, ℤ, pos, ◌+ℤ◌, ◌-ℤ◌, ◌*ℤ◌, Bool, true, false, ◌&&◌, Result, Ok, Err, List, [], ◌∷◌, ◌++◌, sum_by, ◌*◌, refl, sym, ap, ◌∙◌, subst, arith, cond}
+use Rattle.std.proofs.lemmas.List.Sums.{sum_by-cons}
 use Rattle.cilk_tree.specs.declared.tree.BinaryOp.{BinaryOp}
 use Rattle.cilk_tree.specs.declared.tree.BinaryOp.TheVariants as op
 use Rattle.cilk_tree.specs.declared.tree.Expr.{Expr, roll-Expr, map-Expr, fold-roll-Expr, ind-Expr}
@@ -8,9 +9,12 @@ use Rattle.cilk_tree.specs.declared.tree.Expr.TheOpen.{Expr-F}
 use Rattle.cilk_tree.specs.declared.tree.Function.{Function}
 use Rattle.cilk_tree.specs.declared.tree.Program.{Program}
 use Rattle.cilk_tree.specs.declared.tree.Shared.{Shared}
-use Rattle.cilk_tree.specs.declared.tree.Stmt.{Stmt}
+use Rattle.cilk_tree.specs.declared.tree.Stmt.{Stmt, fold-Stmt, fold-roll-Stmt}
+use Rattle.cilk_tree.specs.declared.tree.Stmt.TheVariants.{rolls-Print}
+use Rattle.cilk_tree.specs.declared.tree.Stmt.TheOpen as step
+use Rattle.cilk_tree.specs.Size.{expression_size_here, expression_size, statement_size_here, statement_size, function_size, program_size}
 use Rattle.cilk_tree.specs.declared.tree.Stmt.TheVariants as stmt
-use Rattle.cilk_tree.specs.SerialMain.{is_among, is_serial_operator, reads_only_here, reads_only, is_serial_statement, is_serial_body, is_serial_source, IsSerialMain}
+use Rattle.backer_top.specs.SerialMain.{is_among, is_serial_operator, reads_only_here, reads_only, is_serial_statement, is_serial_body, is_serial_source, IsSerialMain}
 use Rattle.backer_top.specs.declared.status.TrapKind.TheVariants.{Overflow}
 use Rattle.backer_top.specs.declared.walk.Stop.{Stop}
 use Rattle.backer_top.specs.declared.walk.Stop.TheVariants.{Trap, Untaken}
@@ -82,19 +86,39 @@ printing_told : (ticks : ℕ) (value : ℤ) (next : ℕ → Run) → 0 < ticks �
 printing_told zero value next some later = absurd (omega arith)
 printing_told (suc left) value next some later = later left (omega arith)
 
-pub run_told : (names : List (List ℕ)) (body : List Stmt) (ticks : ℕ) (state : State) → is_serial_body names body ≡ true → length body ≤ ticks → IsTold (run ticks state body).end
+level_size : (y : Expr-F ((e : Expr) × (0 < expression_size e))) → 0 < expression_size (roll-Expr (map-Expr _ Expr (λ e. e.0) y))
+level_size (layer.Number value) = rw (fold-roll-Expr ℕ expression_size_here (layer.Number value)) (omega arith)
+level_size (layer.Local name) = rw (fold-roll-Expr ℕ expression_size_here (layer.Local name)) (omega arith)
+level_size (layer.Get name index) = rw (fold-roll-Expr ℕ expression_size_here (layer.Get name index.0)) (omega arith)
+level_size (layer.Unary operator operand) = rw (fold-roll-Expr ℕ expression_size_here (layer.Unary operator operand.0)) (omega arith)
+level_size (layer.Binary operator left right) = rw (fold-roll-Expr ℕ expression_size_here (layer.Binary operator left.0 right.0)) (omega arith)
+
+-- an expression has at least one part
+some_size : (e : Expr) → 0 < expression_size e
+some_size = ind-Expr (λ e. 0 < expression_size e) (λ x y is. subst (λ z. 0 < expression_size (roll-Expr z)) is (level_size y))
+
+print_size : (value : Expr) → 2 ≤ statement_size (stmt.Print value)
+print_size value = let some = some_size value in subst (λ n. 2 ≤ n) (sym (ap (fold-Stmt ℕ statement_size_here) (sym (rolls-Print value)) ∙ fold-roll-Stmt ℕ statement_size_here (step.Print value))) (omega (arith, some))
+
+main_size : (functions : List Function) → sum_by statement_size (main_body functions) ≤ sum_by function_size functions
+main_size [] = omega arith
+main_size (f ∷ functions) = omega (arith, sum_by-cons function_size f functions)
+
+pub run_told : (names : List (List ℕ)) (body : List Stmt) (ticks : ℕ) (state : State) → is_serial_body names body ≡ true → sum_by statement_size body ≤ 2 * ticks + 1 → IsTold (run ticks state body).end
 run_told names [] ticks state serial few = (λ e. cc, λ e. cc)
 run_told names (stmt.Declare name ∷ rest) ticks state serial few =
     let parts = both_true (is_serial_statement names (stmt.Declare name)) (is_serial_body (names ++ name ∷ []) rest) serial in
-    run_told (names ++ name ∷ []) rest ticks (assigned state name (pos 0)) parts.1 (omega arith)
+    run_told (names ++ name ∷ []) rest ticks (assigned state name (pos 0)) parts.1 (omega (arith, few, sum_by-cons statement_size (stmt.Declare name) rest))
 run_told names (stmt.Assign name value ∷ rest) ticks state serial few =
     let parts = both_true (is_serial_statement names (stmt.Assign name value)) (is_serial_body names rest) serial in
     let reads = (both_true (is_among names name) (reads_only names value) parts.0).1 in
-    given_told (value_of state value) _ (value_taken names state value reads) (λ v. run_told names rest ticks (assigned state name v) parts.1 (omega arith))
+    given_told (value_of state value) _ (value_taken names state value reads) (λ v. run_told names rest ticks (assigned state name v) parts.1 (omega (arith, few, sum_by-cons statement_size (stmt.Assign name value) rest)))
 run_told names (stmt.Print value ∷ rest) ticks state serial few =
     let parts = both_true (is_serial_statement names (stmt.Print value)) (is_serial_body names rest) serial in
+    let two = print_size value in
+    let size = sum_by-cons statement_size (stmt.Print value) rest in
     given_told (value_of state value) _ (value_taken names state value parts.0)
-    (λ v. printing_told ticks v _ (omega arith) (λ left e. run_told names rest left state parts.1 (omega arith)))
+    (λ v. printing_told ticks v _ (omega (arith, few, two, size)) (λ left e. run_told names rest left state parts.1 (omega (arith, few, two, size))))
 run_told names (stmt.Put name index value ∷ rest) ticks state serial few = absurd (let f : false ≡ true = serial in cc)
 run_told names (stmt.If' a b c d e ∷ rest) ticks state serial few = absurd (let f : false ≡ true = serial in cc)
 run_told names (stmt.While' a b c ∷ rest) ticks state serial few = absurd (let f : false ≡ true = serial in cc)
@@ -111,5 +135,5 @@ serial_body [] (f ∷ g ∷ others) serial = absurd (let f : false ≡ true = se
 serial_body (s ∷ shared) functions serial = absurd (let f : false ≡ true = serial in cc)
 
 -- the elision of a program that the walk takes finishes or traps
-pub elision_told : (program : Program) (ticks : ℕ) → IsSerialMain program → length (main_body program.functions) ≤ ticks → IsTold (elision program ticks).end
-elision_told program ticks serial few = run_told [] (main_body program.functions) ticks start (serial_body program.shared program.functions serial) few
+pub elision_told : (program : Program) (ticks : ℕ) → IsSerialMain program → program_size program ≤ 2 * ticks → IsTold (elision program ticks).end
+elision_told program ticks serial few = run_told [] (main_body program.functions) ticks start (serial_body program.shared program.functions serial) (omega (arith, main_size program.functions))

@@ -2,14 +2,18 @@
 use Rattle.std.specs.Prelude.{◌≡◌, ℕ, ◌<◌, ◌≤◌, Option, Some, IfSome, IfNone, Result, IfOk, IfErr, MatchResult, List, [], ◌∷◌, ◌++◌, length}
 use Rattle.std.specs.FinMap as map
 use Rattle.cilk_tree.specs.declared.tree.Program.{Program}
-use Rattle.cilk_tree.specs.SerialMain.{SpellsSerialMain}
+use Rattle.cilk_reader.specs.Refusals.{IsRefusedAt}
+use Rattle.cilk_tree.specs.Size.{program_size}
+use Rattle.cilk_tree.specs.Spelling.{Spells}
+use Rattle.backer_top.specs.SerialMain.{IsSerialMain, SpellsSerialMain}
 use Rattle.outside.specs.Shelf.{AreSome, Reads, Texts, joined}
-use Rattle.backer_top.specs.declared.status.SourceRefusal.TheVariants.{TooLong, NotYet}
+use Rattle.backer_top.specs.declared.status.SourceRefusal.{SourceRefusal}
+use Rattle.backer_top.specs.declared.status.SourceRefusal.TheVariants.{TooLong, Read, NotYet}
 use Rattle.backer_top.specs.declared.status.Status.{Status}
 use Rattle.backer_top.specs.declared.status.Status.TheVariants.{Done, Words, Source, ReadFault, WriteFault, Trap, Memory}
 use Rattle.backer_top.specs.declared.walk.End.TheVariants.{Finished, Trapped}
 use Rattle.backer_top.specs.declared.walk.Run.{Run}
-use Rattle.backer_top.specs.Elision.{elision, main_body}
+use Rattle.backer_top.specs.Elision.{elision}
 use Rattle.backer_top.specs.Output.{lines}
 
 -- where the shelf tells its texts, this is the name's
@@ -69,7 +73,8 @@ abbrev pub IsDue : List ℕ → Status → Type 0
 IsDue text Done = (program : Program) × Accepts text program × ((meaning program).end ≡ Finished)
 IsDue text (Trap kind node) = (program : Program) × Accepts text program × ((meaning program).end ≡ Trapped kind) × (node ≡ 0)
 IsDue text (Source TooLong) = 1048576 < length text
-IsDue text (Source NotYet) = (length text ≤ 1048576) × ((program : Program) → SpellsSerialMain text program → ⊥)
+IsDue text (Source (Read number offset)) = (length text ≤ 1048576) × IsRefusedAt text number offset
+IsDue text (Source NotYet) = (length text ≤ 1048576) × ((program : Program) × Spells text program × (IsSerialMain program → ⊥))
 IsDue text Words = ⊥
 IsDue text ReadFault = ⊥
 IsDue text WriteFault = ⊥
@@ -103,14 +108,29 @@ IsRefusal text read_failed ReadFault = read_failed
 IsRefusal text read_failed Memory = Unit {0}
 IsRefusal text read_failed _ = ⊥
 
+-- why a source is not read though its program is accepted
+abbrev pub IsUnread : (read_failed : Type 0) → Status → Type 0
+IsUnread read_failed ReadFault = read_failed
+IsUnread read_failed Memory = Unit {0}
+IsUnread read_failed _ = ⊥
+
+-- How reading a text within the limit ended.
+pub record IsReading (text : List ℕ) (result : Result Program Status) : Type 0 where
+  pub read : IfOk result (λ program. Accepts text program × (program_size program ≤ 4000000))
+  pub only : (program : Program) → Accepts text program → MatchResult result (λ read. read ≡ program) (IsUnread ⊥)
+  pub refused : IfErr result (λ status. IsRefusal text ⊥ status)
+  pub due : (due : Status) → IsDue text due → IfErr result (λ status. Answers due ⊥ ⊥ status)
+  pub unrefused : (refusal : SourceRefusal) → IsDue text (Source refusal) → IfOk result (λ _. ⊥)
+
 -- How reading a source ended, where the shelf gave this text.
 pub record IsSource {S : Type 0} (texts : Option Texts) (gave : S → List ℕ → ℕ → ℕ → List ℕ → S → Type 0) (failed : S → List ℕ → ℕ → ℕ → S → Type 0) (file : List ℕ) (old new : S) (read_failed : Type 0) (text : List ℕ) (result : Result Program Status) : Type 0 where
   pub told : MatchResult result (λ _. IsHeld texts file text) (IsTold texts file text)
   pub calls : MatchResult result (λ _. GaveWhole gave file old new text) (HasCalls texts gave failed file old new text)
-  pub read : IfOk result (λ program. Accepts text program × (length (main_body program.functions) ≤ 1048576))
-  pub only : (program : Program) → Accepts text program → IfOk result (λ read. read ≡ program)
+  pub read : IfOk result (λ program. Accepts text program × (program_size program ≤ 4000000))
+  pub only : (program : Program) → Accepts text program → MatchResult result (λ read. read ≡ program) (IsUnread read_failed)
   pub refused : IfErr result (λ status. IsRefusal text read_failed status)
   pub due : (due : Status) → IsDue text due → IfErr result (λ status. Answers due read_failed ⊥ status)
+  pub unrefused : (refusal : SourceRefusal) → IsDue text (Source refusal) → IfOk result (λ _. ⊥)
 
 -- the program finishes, and this is the text that it prints
 abbrev pub Prints : Program → List ℕ → Type 0

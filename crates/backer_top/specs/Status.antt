@@ -1,7 +1,7 @@
 -- The numbers and the lines of the statuses.
-use Rattle.std.specs.Prelude.{◌≡◌, ℕ, List, [], ◌∷◌, ◌++◌, codes}
+use Rattle.std.specs.Prelude.{◌≡◌, ◌⊎◌, ℕ, List, [], ◌∷◌, ◌++◌, codes}
 use Rattle.std.specs.Fmt.{decimal}
-use Rattle.backer_top.specs.declared.status.SourceRefusal.TheVariants.{TooLong, NotYet}
+use Rattle.backer_top.specs.declared.status.SourceRefusal.TheVariants.{TooLong, Read, NotYet}
 use Rattle.backer_top.specs.declared.status.TrapKind.{TrapKind}
 use Rattle.backer_top.specs.declared.status.TrapKind.TheVariants.{Overflow}
 use Rattle.backer_top.specs.declared.status.Status.{Status}
@@ -24,6 +24,7 @@ abbrev pub error_words : Status → List ℕ
 error_words Done = []
 error_words Words = codes "words refused"
 error_words (Source TooLong) = codes "source refused: too long"
+error_words (Source (Read kind offset)) = codes "source refused: " ++ decimal kind ++ codes " at byte " ++ decimal offset
 error_words (Source NotYet) = codes "source refused: not yet"
 error_words ReadFault = codes "read failed"
 error_words WriteFault = codes "write failed"
@@ -44,3 +45,20 @@ IsOnNode0 (Source refusal) = Unit {0}
 IsOnNode0 ReadFault = Unit {0}
 IsOnNode0 WriteFault = Unit {0}
 IsOnNode0 Memory = Unit {0}
+
+-- its line is written out in the program: a trap's is one of node 0, and where a source was not read it has numbers
+abbrev pub HasFixedLine : Status → Type 0
+HasFixedLine (Source (Read kind offset)) = ⊥
+HasFixedLine (Source TooLong) = Unit {0}
+HasFixedLine (Source NotYet) = Unit {0}
+HasFixedLine (Trap kind node) = node ≡ 0
+HasFixedLine Done = Unit {0}
+HasFixedLine Words = Unit {0}
+HasFixedLine ReadFault = Unit {0}
+HasFixedLine WriteFault = Unit {0}
+HasFixedLine Memory = Unit {0}
+
+-- The status that is answered for this one: itself, or Memory where no memory was there for a line with numbers.
+abbrev pub IsToldAs : Status → Status → Type 0
+IsToldAs (Source (Read kind offset)) told = (told ≡ Source (Read kind offset)) ⊎ (told ≡ Memory)
+IsToldAs status told = told ≡ status

@@ -3,6 +3,7 @@
 
 mod lines;
 mod locals;
+mod names;
 mod status;
 mod top;
 mod walk;

@@ -1,5 +1,9 @@
-ghost use Rattle.std.specs.Prelude.{◌≡◌, ◌++◌, IfOk, OnOk};
+ghost use Rattle.std.specs.Prelude.{◌≡◌, ◌++◌, codes, string_bytes, IfOk, OnOk};
 ghost use Rattle.backer_top.specs.Output.{line, lines};
+ghost use Rattle.std.specs.Fmt.{decimal};
+ghost use Rattle.backer_top.specs.Status.{error_line};
+ghost use Rattle.backer_top.specs.declared.status.SourceRefusal.TheVariants as SourceRefusal;
+ghost use Rattle.backer_top.specs.declared.status.Status.TheVariants as Status;
 
 use std::alloc::{AllocError, Global};
 
@@ -19,4 +23,11 @@ fn push_line(alloc: Global, text: &mut Vec<u8>, value: i64) -> Result<(), AllocE
 {
     let line = format!(in alloc; "{value}\n")?;
     text.extend_from_slice(line.as_bytes())
+}
+
+/// The line that tells of a source that was refused for a reason of this number at this offset.
+pub(crate) fn refusal_line(alloc: Global, kind: u16, offset: u64) -> Result<String, AllocError>
+    ensures { IfOk result (λ line. string_bytes line ≡ codes "backer: source refused: " ++ (decimal kind ++ (codes " at byte " ++ (decimal offset ++ codes "\n")))) }
+{
+    format!(in alloc; "backer: source refused: {kind} at byte {offset}\n")
 }

@@ -10,7 +10,9 @@ pub enum TrapKind {
 pub enum SourceRefusal {
     /// It has more than 1,048,576 bytes.
     TooLong,
-    /// It spells no program that is taken today.
+    /// It spells no program, for a reason of this number that shows at the byte of this offset.
+    Read { kind: u16, offset: u64 },
+    /// It spells a program that is not run yet.
     NotYet,
 }
 
@@ -32,7 +34,7 @@ pub enum Status {
 
 impl Status {
     ghost use Rattle.std.specs.Prelude.{◌≡◌};
-    ghost use Rattle.backer_top.specs.Status.{status_number, error_line, IsOnNode0};
+    ghost use Rattle.backer_top.specs.Status.{status_number, error_line, HasFixedLine};
 
     /// The status' number.
     pub fn number(&self) -> u8
@@ -49,15 +51,17 @@ impl Status {
         }
     }
 
-    /// The line that tells the status on `err`, none at Done.
+    /// The line that tells the status on `err`, none at Done. That of a source that was not read is made by
+    /// `refusal_line`.
     pub(crate) fn line(&self) -> &'static [u8]
-        requires { IsOnNode0 self.now }
+        requires { HasFixedLine self.now }
         ensures { result.now ≡ error_line self.now }
     {
         match self {
             Status::Done => b"",
             Status::Words => b"backer: words refused\n",
             Status::Source(SourceRefusal::TooLong) => b"backer: source refused: too long\n",
+            Status::Source(SourceRefusal::Read { kind: _, offset: _ }) => b"",
             Status::Source(SourceRefusal::NotYet) => b"backer: source refused: not yet\n",
             Status::ReadFault => b"backer: read failed\n",
             Status::WriteFault => b"backer: write failed\n",

@@ -2,8 +2,6 @@
 #![tactic(auto)]
 
 mod lexer;
-mod names;
-mod parser;
 mod reading;
 mod refusal;
 

@@ -1,5 +1,12 @@
+pub mod Canonical
+pub mod Counts
+pub mod Kind
+pub mod Lawful
+pub mod Levels
 pub mod Lexeme
-pub mod SerialMain
+pub mod Size
 pub mod Spelling
+pub mod Sugar
 pub mod Syntax
 pub mod Token
+pub mod Writable

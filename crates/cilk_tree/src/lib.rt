@@ -2,10 +2,18 @@
 //! spells what tree.
 #![tactic(auto)]
 
+mod count;
+mod ending;
+mod kind;
 mod name;
+mod printing;
 mod token;
 mod tree;
 
+pub use count::{Count, Counted};
+pub use ending::Ending;
+pub use kind::Kind;
 pub use name::Name;
-pub use token::{Keyword, Sign, Token};
+pub use printing::print_program;
+pub use token::{Keyword, Placed, Sign, Token};
 pub use tree::{BinaryOp, Expr, Function, Program, Shared, Stmt, UnaryOp};

@@ -12,6 +12,13 @@ pub enum Token {
     Mark(Sign),
 }
 
+/// A token of a text, and the offset of its first byte.
+#[derive(Debug, Drop)]
+pub struct Placed {
+    pub offset: u64,
+    pub token: Token,
+}
+
 /// The reserved words.
 #[derive(Clone, Copy, Debug, PartialEq, Eq)]
 pub enum Keyword {
@@ -70,31 +77,67 @@ impl Keyword {
     }
 }
 
-/// The signs that are read today.
+/// The signs.
 #[derive(Clone, Copy, Debug, PartialEq, Eq)]
 pub enum Sign {
     Plus,
     Minus,
     Star,
+    Slash,
+    Percent,
     Assign,
+    Equal,
+    NotEqual,
+    Less,
+    LessEqual,
+    Greater,
+    GreaterEqual,
+    AndAnd,
+    OrOr,
+    Bang,
+    PlusPlus,
+    MinusMinus,
+    PlusAssign,
+    MinusAssign,
     OpenParen,
     CloseParen,
+    OpenBracket,
+    CloseBracket,
     OpenBrace,
     CloseBrace,
+    Comma,
     Semicolon,
 }
 
 impl Sign {
     /// All the signs, a longer one before a shorter one.
-    pub const ALL: [Sign; 9] = [
+    pub const ALL: [Sign; 27] = [
+        Sign::Equal,
+        Sign::NotEqual,
+        Sign::LessEqual,
+        Sign::GreaterEqual,
+        Sign::AndAnd,
+        Sign::OrOr,
+        Sign::PlusPlus,
+        Sign::MinusMinus,
+        Sign::PlusAssign,
+        Sign::MinusAssign,
         Sign::Plus,
         Sign::Minus,
         Sign::Star,
+        Sign::Slash,
+        Sign::Percent,
         Sign::Assign,
+        Sign::Less,
+        Sign::Greater,
+        Sign::Bang,
         Sign::OpenParen,
         Sign::CloseParen,
+        Sign::OpenBracket,
+        Sign::CloseBracket,
         Sign::OpenBrace,
         Sign::CloseBrace,
+        Sign::Comma,
         Sign::Semicolon,
     ];
 
@@ -106,11 +149,29 @@ impl Sign {
             Sign::Plus => b"+",
             Sign::Minus => b"-",
             Sign::Star => b"*",
+            Sign::Slash => b"/",
+            Sign::Percent => b"%",
             Sign::Assign => b"=",
+            Sign::Equal => b"==",
+            Sign::NotEqual => b"!=",
+            Sign::Less => b"<",
+            Sign::LessEqual => b"<=",
+            Sign::Greater => b">",
+            Sign::GreaterEqual => b">=",
+            Sign::AndAnd => b"&&",
+            Sign::OrOr => b"||",
+            Sign::Bang => b"!",
+            Sign::PlusPlus => b"++",
+            Sign::MinusMinus => b"--",
+            Sign::PlusAssign => b"+=",
+            Sign::MinusAssign => b"-=",
             Sign::OpenParen => b"(",
             Sign::CloseParen => b")",
+            Sign::OpenBracket => b"[",
+            Sign::CloseBracket => b"]",
             Sign::OpenBrace => b"{",
             Sign::CloseBrace => b"}",
+            Sign::Comma => b",",
             Sign::Semicolon => b";",
         }
     }

@@ -1,4 +1,4 @@
-use Rattle.std.proofs.Common.{◌≡◌, sym, subst, ◌∙◌}
+use Rattle.std.proofs.Common.{subst, ◌∙◌}
 use Rattle.backer_top.specs.Output.{IsCutShort, IsWritten}
 use Rattle.backer_top.proofs.Ends.{serial_unread, serial_stopped, serial_done, serial_unwritten}
 use Rattle.backer_top.proofs.top.serial.Goals as goal

@@ -1,10 +1,8 @@
-use Rattle.std.proofs.Common.{◌≡◌, ◌≤◌, Err, ◌++◌, ◌∷◌, [], length, subst, ap, ◌∙◌, sym}
-use Rattle.std.specs.List.{AllByRecursion}
-use Rattle.cilk_tree.specs.SerialMain.{SpellsSerialMain}
+use Rattle.std.proofs.Common.{◌≡◌, Err, ◌++◌, ◌∷◌, [], subst, ap, ◌∙◌}
 use Rattle.outside.specs.declared.reading.TextRefusal.TheVariants as TextRefusal
-use Rattle.cilk_reader.specs.declared.refusal.ReadRefusal.TheVariants as ReadRefusal
 use Rattle.outside.specs.Device.{Rose}
-use Rattle.backer_top.proofs.Ends.{source_failed, source_unread, source_too_long, source_read, source_not_yet}
+use Rattle.backer_top.proofs.Ends.{source_failed, source_unread, source_too_long, source_read}
+use Rattle.backer_top.specs.Serial.{IsReading}
 use Rattle.backer_top.proofs.top.source.Goals as goal
 
 pub returns-in-Err-Fault-clause-source : goal.returns-in-Err-Fault-clause-source
@@ -35,35 +33,15 @@ returns-in-Err-Memory-clause-source g c =
     source_unread (shelf.texts c.args.shelf.now) shelf.gave shelf.failed file c.args.shelf.now c.read_text.new.shelf
     (Rose (shelf.faults c.args.shelf.now file) (shelf.faults c.read_text.new.shelf file)) (calls.0 ++ calls.1 ∷ []) calls.5
 
-pub returns-in-Ok-read_program-clause-source : goal.returns-in-Ok-read_program-clause-source
-returns-in-Ok-read_program-clause-source g c =
+pub returns-clause-source : goal.returns-clause-source
+returns-clause-source g c =
     let shelf = g.L.Shelf in
     let file = c.args.file.now in
-    let program = c.in-Ok-read_program.program in
-    let read = c.in-Ok-read_program.ensures in
-    let given = c.as_slice.ensures.value in
-    let calls = c.in-Ok.ensures.whole_calls in
-    source_read (shelf.texts c.args.shelf.now) shelf.gave shelf.failed file c.args.shelf.now c.read_text.new.shelf
-    (Rose (shelf.faults c.args.shelf.now file) (shelf.faults c.read_text.new.shelf file))
-    c.in-Ok.text.items program
-    c.in-Ok.ensures.within
-    c.in-Ok.ensures.whole
-    (record { pieces = calls.0; some = calls.2; calls = calls.4; same = calls.1 })
-    (subst (λ text. SpellsSerialMain text program) given read.found)
-    (λ other spelled. read.only other (subst (λ text. SpellsSerialMain text other) (sym given) spelled))
-    (subst (λ text. AllByRecursion (λ function. length function.body ≤ length text) program.functions) given read.small)
-
-pub returns-in-Err-NotYet-clause-source : goal.returns-in-Err-NotYet-clause-source
-returns-in-Err-NotYet-clause-source g c =
-    let shelf = g.L.Shelf in
-    let file = c.args.file.now in
-    let given = c.as_slice.ensures.value in
-    let calls = c.in-Ok.ensures.whole_calls in
-    let refused : c.read_program.result ≡ Err ReadRefusal.NotYet = c.in-Err-NotYet.is ∙ ap Err c.in-Err-NotYet.field-0-is in
-    source_not_yet (shelf.texts c.args.shelf.now) shelf.gave shelf.failed file c.args.shelf.now c.read_text.new.shelf
-    (Rose (shelf.faults c.args.shelf.now file) (shelf.faults c.read_text.new.shelf file))
-    c.in-Ok.text.items
-    c.in-Ok.ensures.within
-    c.in-Ok.ensures.whole
-    (record { pieces = calls.0; some = calls.2; calls = calls.4; same = calls.1 })
-    (λ program spelled. c.read_program.ensures.not_yet refused program (subst (λ text. SpellsSerialMain text program) (sym given) spelled))
+    let calls = c.in-Ok.ensures.whole_calls in (
+      c.in-Ok.text.items,
+      source_read (shelf.texts c.args.shelf.now) shelf.gave shelf.failed file c.args.shelf.now c.read_text.new.shelf
+          (Rose (shelf.faults c.args.shelf.now file) (shelf.faults c.read_text.new.shelf file))
+          c.in-Ok.text.items c.accepted.result c.in-Ok.ensures.within c.in-Ok.ensures.whole
+          (record { pieces = calls.0; some = calls.2; calls = calls.4; same = calls.1 })
+          (subst (λ text. IsReading text c.accepted.result) c.as_slice.ensures.value c.accepted.ensures),
+    )

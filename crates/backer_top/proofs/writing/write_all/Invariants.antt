@@ -1,4 +1,4 @@
-use Rattle.std.proofs.Common.{ℕ, ◌≤◌, length}
+use Rattle.std.proofs.Common.{◌≤◌, length}
 use Rattle.backer_top.specs.Output.{IsCutShort, IsWritten}
 use Rattle.backer_top.proofs.writing.write_all.Given as goal
 

@@ -1,0 +1,74 @@
+-- Conditions in parentheses.
+use Rattle.std.proofs.Common.{◌≡◌, ℕ, IsTrue, [], refl, ap, ◌∙◌, arith}
+use Rattle.cilk_tree.specs.declared.token.Sign.TheVariants.{OpenParen, CloseParen}
+use Rattle.cilk_tree.specs.declared.tree.Expr.{Expr}
+use Rattle.cilk_tree.specs.Levels.{mark}
+use Rattle.cilk_tree.specs.Syntax.{Expression}
+use Rattle.cilk_parser.specs.declared.opening.Opening.TheVariants.{Whole}
+use Rattle.cilk_parser.specs.declared.refusal.ParseRefusal.{ParseRefusal}
+use Rattle.cilk_parser.specs.Contexts.{Around, StatementIn, IfTaken, WhileBody, IfCondition, WhileCondition, Printed, statement_level}
+use Rattle.cilk_parser.specs.Parts.{Spot, from, HasRead, LacksSign, HasExpression, LacksExpression, HasCondition, LacksCondition, IsCondition, stops_below}
+use Rattle.cilk_parser.specs.Steps.{State, Wants, Awaits, AtBody, IfOpen, WhileOpen, PrintOpen, PrintEnd, step, step_only}
+use Rattle.cilk_parser.proofs.Stepping.{Expects, expects_only, from_steps, lacks_sign, passed_shorter, reads_sign, refuses_as}
+use Rattle.cilk_parser.proofs.Enclosed.{Encloses, closed_lacks, closed_reads}
+
+opens_it : (level : ℕ) (around : Around) (before : State) (after : Expression → State) → IsCondition level around before after → Expects (step before) OpenParen level (Wants around)
+opens_it level around before after is =
+    let only = expects_only OpenParen level (Wants around) in
+    record { here = is.opens _ ∙ only.here; only = λ token other. is.opens token ∙ only.only token other }
+
+encloses_it : (level : ℕ) (around : Around) (before : State) (after : Expression → State) → IsCondition level around before after → Encloses level Whole around level CloseParen after
+encloses_it level around before after is = record { fits = is.fits; closes = is.closes }
+
+pub condition_unopened : (level : ℕ) (old : Spot) (refusal : ParseRefusal) → LacksSign OpenParen level old refusal → LacksCondition level old refusal
+condition_unopened level old refusal lacks around before after is =
+    refuses_as refusal _ _ (from_steps before is.unfinished old) (lacks_sign (step before) OpenParen level (Wants around) (opens_it level around before after is) old refusal lacks)
+
+module _ (level : ℕ) (old middle : Spot) (opened : HasRead OpenParen level old middle) where
+  to_inner : (around : Around) (before : State) (after : Expression → State) → IsCondition level around before after → from before old ≡ from (Wants around) middle
+  to_inner around before after is = from_steps before is.unfinished old ∙ reads_sign (step before) OpenParen level (Wants around) (opens_it level around before after is) old middle opened
+
+  pub condition_lacks : (refusal : ParseRefusal) → LacksExpression 0 level Whole middle refusal → LacksCondition level old refusal
+  condition_lacks refusal lacks around before after is = refuses_as refusal _ _ (to_inner around before after is) (lacks around is.fits)
+
+  module _ (later : Spot) (tree : Expr) (read : HasExpression 0 level Whole middle later tree) (stops : IsTrue (stops_below 0 later.left)) where
+    pub condition_unclosed : (refusal : ParseRefusal) → LacksSign CloseParen level later refusal → LacksCondition level old refusal
+    condition_unclosed refusal lacks around before after is =
+        refuses_as refusal _ _ (to_inner around before after is) (closed_lacks level Whole around level CloseParen after (encloses_it level around before after is) middle later tree read stops refusal lacks)
+
+    pub condition_reads : (new : Spot) → HasRead CloseParen level later new → HasCondition level old new tree
+    condition_reads new closed = record {
+      syntax = read.syntax;
+      same = read.same;
+      shorter = let a = passed_shorter level [] old middle opened.passed in let b = passed_shorter level [] later new closed.passed in let c = read.shorter in omega arith;
+      leads = λ around before after is. to_inner around before after is ∙ closed_reads level Whole around level CloseParen after (encloses_it level around before after is) middle later tree read stops new closed;
+    }
+
+-- ---- where they stand
+
+pub condition_of_if : (level : ℕ) (outer : StatementIn) → statement_level outer ≡ level → IsCondition level (IfCondition outer) (Awaits (IfOpen outer)) (λ syntax. AtBody (IfTaken outer syntax))
+unfolding step
+condition_of_if level outer same = record {
+  fits = record { strong = refl; same_level = same; counted = refl };
+  opens = λ token. ap (λ l. step_only (mark l OpenParen) (Wants (IfCondition outer)) token) same;
+  closes = λ syntax token. ap (λ l. step_only (mark l CloseParen) (AtBody (IfTaken outer syntax)) token) same;
+  unfinished = refl;
+}
+
+pub condition_of_while : (level : ℕ) (outer : StatementIn) → statement_level outer ≡ level → IsCondition level (WhileCondition outer) (Awaits (WhileOpen outer)) (λ syntax. AtBody (WhileBody outer syntax))
+unfolding step
+condition_of_while level outer same = record {
+  fits = record { strong = refl; same_level = same; counted = refl };
+  opens = λ token. ap (λ l. step_only (mark l OpenParen) (Wants (WhileCondition outer)) token) same;
+  closes = λ syntax token. ap (λ l. step_only (mark l CloseParen) (AtBody (WhileBody outer syntax)) token) same;
+  unfinished = refl;
+}
+
+pub value_of_print : (level : ℕ) (outer : StatementIn) → statement_level outer ≡ level → IsCondition level (Printed outer) (Awaits (PrintOpen outer)) (λ syntax. Awaits (PrintEnd outer syntax))
+unfolding step
+value_of_print level outer same = record {
+  fits = record { strong = refl; same_level = same; counted = refl };
+  opens = λ token. ap (λ l. step_only (mark l OpenParen) (Wants (Printed outer)) token) same;
+  closes = λ syntax token. ap (λ l. step_only (mark l CloseParen) (Awaits (PrintEnd outer syntax)) token) same;
+  unfinished = refl;
+}

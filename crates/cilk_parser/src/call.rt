@@ -1,0 +1,67 @@
+ghost use Rattle.cilk_parser.specs.Parts.{HasArguments, HasCall, HasOpened, HasSpawn, LacksArguments, LacksCall, LacksOpened, LacksSpawn, is_name_before};
+ghost use Rattle.std.specs.Prelude.{◌≡◌, IsTrue, MatchResult};
+
+use crate::opening::Opening;
+use crate::reader::Reader;
+use crate::refusal::ParseRefusal;
+use cilk_tree::{Count, Counted, Expr, Name, Sign};
+use sqlite_items::Items;
+
+/// The name that is called or spawned, and the arguments.
+#[derive(Drop)]
+pub(crate) struct Call {
+    pub(crate) name: Name,
+    pub(crate) arguments: Items<Expr>,
+}
+
+impl<'a> Reader<'a> {
+    /// Reads arguments and the parenthesis behind them.
+    pub(crate) fn arguments(&mut self, level: u64) -> Result<Items<Expr>, ParseRefusal>
+        ensures { MatchResult result (λ trees. HasArguments level self.old self.new trees) (λ refusal. LacksArguments level self.old refusal) }
+    {
+        let mut arguments = Items::new(self.alloc());
+        if self.is_at(Sign::CloseParen) {
+            self.pass(level, &[])?;
+            return Ok(arguments);
+        }
+        loop {
+            let argument = self.expression(0, level, Opening::Argument)?;
+            arguments.push(argument)?;
+            if !self.is_at(Sign::Comma) {
+                self.sign(Sign::CloseParen, level)?;
+                return Ok(arguments);
+            }
+            self.pass(level, &[])?;
+        }
+    }
+
+    /// Reads the parenthesis behind the name that is called, and the arguments.
+    fn opened(&mut self, level: u64) -> Result<Items<Expr>, ParseRefusal>
+        ensures { MatchResult result (λ trees. HasOpened level self.old self.new trees) (λ refusal. LacksOpened level self.old refusal) }
+    {
+        if !self.is_at(Sign::OpenParen) {
+            return Err(self.unexpected());
+        }
+        self.pass(level, &[Count::Anew(Counted::Arguments)])?;
+        self.arguments(level)
+    }
+
+    /// Reads the name and the arguments behind `spawn`.
+    pub(crate) fn spawned(&mut self, level: u64) -> Result<Call, ParseRefusal>
+        ensures { MatchResult result (λ call. HasSpawn level self.old self.new call) (λ refusal. LacksSpawn level self.old refusal) }
+    {
+        let name = self.name(level, &[])?;
+        let arguments = self.opened(level)?;
+        Ok(Call { name, arguments })
+    }
+
+    /// Reads a call whose result is assigned.
+    pub(crate) fn called(&mut self, level: u64) -> Result<Call, ParseRefusal>
+        requires { IsTrue (is_name_before Sign.OpenParen self.old.left) }
+        ensures { MatchResult result (λ call. HasCall level self.old self.new call) (λ refusal. LacksCall level self.old refusal) }
+    {
+        let name = self.name(level, &[])?;
+        let arguments = self.opened(level)?;
+        Ok(Call { name, arguments })
+    }
+}

@@ -1,0 +1,278 @@
+ghost use Rattle.cilk_parser.specs.Parts.{HasOneBody, HasCondition, HasForCondition, HasForLast, HasForStart, HasInner, HasInners, HasStatement, LacksBody, LacksCondition, LacksForCondition, LacksForLast, LacksForStart, LacksInner, LacksInners, LacksStatement, is_sign};
+ghost use Rattle.cilk_parser.specs.Starts.{starts_statement};
+ghost use Rattle.cilk_tree.specs.Sugar.{if_there};
+ghost use Rattle.std.specs.Prelude.{◌≡◌, ◌++◌, ◌∷◌, [], false, IfOk, MatchResult};
+
+use crate::opening::Opening;
+use crate::reader::Reader;
+use crate::refusal::ParseRefusal;
+use crate::starts::StatementStart;
+use cilk_tree::{Count, Counted, Expr, Keyword, Sign, Stmt};
+use sqlite_items::Items;
+use std::alloc::AllocError;
+
+impl<'a> Reader<'a> {
+    /// Reads statements of this level up to a brace of the level `closing`, and that brace.
+    #[cycle(statement)]
+    pub(crate) fn inners(&mut self, level: u64, closing: u64) -> Result<Items<Stmt>, ParseRefusal>
+        ensures { MatchResult result (λ trees. HasInners level closing self.old self.new trees) (λ refusal. LacksInners level closing self.old refusal) }
+    {
+        let mut trees = Items::new(self.alloc());
+        while !self.is_at(Sign::CloseBrace) {
+            self.inner(level, &mut trees)?;
+        }
+        self.pass(closing, &[])?;
+        Ok(trees)
+    }
+
+    /// Reads a declaration, a block or another statement, and adds what it gives.
+    #[cycle(statement)]
+    fn inner(&mut self, level: u64, into: &mut Items<Stmt>) -> Result<(), ParseRefusal>
+        requires { is_sign Sign.CloseBrace self.old.left ≡ false }
+        ensures { MatchResult result (λ _. HasInner level self.old self.new into.old into.new) (λ refusal. LacksInner level self.old refusal) }
+    {
+        if self.is_at_word(Keyword::Int) {
+            self.pass(level, &[])?;
+            return self.declaration(level, into);
+        }
+        if !self.is_at(Sign::OpenBrace) {
+            return self.statement(level, into);
+        }
+        self.pass(level, &[])?;
+        let inside = self.inners(level + 1, level)?;
+        into.push(Stmt::Block(inside))?;
+        Ok(())
+    }
+
+    /// Reads what an `if`, an `else` or a loop holds, whose own level is `owner`.
+    #[cycle(statement)]
+    fn body(&mut self, level: u64, owner: u64) -> Result<Items<Stmt>, ParseRefusal>
+        ensures { MatchResult result (λ trees. HasOneBody level owner self.old self.new trees) (λ refusal. LacksBody level owner self.old refusal) }
+    {
+        if self.is_at(Sign::OpenBrace) {
+            self.pass(owner, &[])?;
+            return self.inners(level, owner);
+        }
+        let mut trees = Items::new(self.alloc());
+        self.statement(level, &mut trees)?;
+        Ok(trees)
+    }
+
+    /// Reads a statement that is no declaration and no block, and adds what it gives.
+    #[cycle(statement)]
+    fn statement(&mut self, level: u64, into: &mut Items<Stmt>) -> Result<(), ParseRefusal>
+        ensures { MatchResult result (λ _. HasStatement level self.old self.new into.old into.new) (λ refusal. LacksStatement level self.old refusal) }
+    {
+        match self.statement_start() {
+            StatementStart::Empty => self.pass(level, &[]),
+            StatementStart::Name => self.named(level, into),
+            StatementStart::Spawn => self.spawning(level, into),
+            StatementStart::Sync => self.syncing(level, into),
+            StatementStart::If => self.branch(level, into),
+            StatementStart::While => self.while_loop(level, into),
+            StatementStart::For => self.for_loop(level, into),
+            StatementStart::Print => self.printing(level, into),
+            StatementStart::Return => self.returning(level, into),
+            StatementStart::Other => Err(self.unexpected()),
+        }
+    }
+
+    /// Reads an `if`, with its `else` where one follows.
+    #[cycle(statement)]
+    fn branch(&mut self, level: u64, into: &mut Items<Stmt>) -> Result<(), ParseRefusal>
+        requires { starts_statement self.old.left ≡ StatementStart.If }
+        ensures { MatchResult result (λ _. HasStatement level self.old self.new into.old into.new) (λ refusal. LacksStatement level self.old refusal) }
+    {
+        self.pass(level, &[])?;
+        let condition = self.condition(level)?;
+        let taken = self.body(level + 1, level)?;
+        if !self.is_at_word(Keyword::Else) {
+            into.push(Stmt::If(condition, taken, Items::new(self.alloc())))?;
+            return Ok(());
+        }
+        self.pass(level, &[])?;
+        let otherwise = self.body(level + 1, level)?;
+        into.push(Stmt::If(condition, taken, otherwise))?;
+        Ok(())
+    }
+
+    /// Reads a `while`.
+    #[cycle(statement)]
+    fn while_loop(&mut self, level: u64, into: &mut Items<Stmt>) -> Result<(), ParseRefusal>
+        requires { starts_statement self.old.left ≡ StatementStart.While }
+        ensures { MatchResult result (λ _. HasStatement level self.old self.new into.old into.new) (λ refusal. LacksStatement level self.old refusal) }
+    {
+        self.pass(level, &[])?;
+        let condition = self.condition(level)?;
+        let body = self.body(level + 1, level)?;
+        into.push(Stmt::While(condition, body))?;
+        Ok(())
+    }
+
+    /// Reads a `for`.
+    #[cycle(statement)]
+    fn for_loop(&mut self, level: u64, into: &mut Items<Stmt>) -> Result<(), ParseRefusal>
+        requires { starts_statement self.old.left ≡ StatementStart.For }
+        ensures { MatchResult result (λ _. HasStatement level self.old self.new into.old into.new) (λ refusal. LacksStatement level self.old refusal) }
+    {
+        self.pass(level, &[])?;
+        self.sign(Sign::OpenParen, level)?;
+        let mut block = Items::new(self.alloc());
+        self.for_start(level + 1, &mut block)?;
+        let condition = self.for_condition(level + 1)?;
+        let last = self.for_last(level + 2, level)?;
+        let body = self.body(level + 2, level)?;
+        into.push(for_tree(block, condition, last, body)?)?;
+        Ok(())
+    }
+
+    /// Reads the first part of a `for` and the semicolon behind it.
+    fn for_start(&mut self, level: u64, into: &mut Items<Stmt>) -> Result<(), ParseRefusal>
+        ensures { MatchResult result (λ _. HasForStart level self.old self.new into.old into.new) (λ refusal. LacksForStart level self.old refusal) }
+    {
+        if self.is_at(Sign::Semicolon) {
+            return self.pass(level, &[]);
+        }
+        if self.is_at_word(Keyword::Int) {
+            self.pass(level, &[])?;
+            return self.declaration(level, into);
+        }
+        let name = self.name(level, &[])?;
+        let start = self.simple(level, name)?;
+        self.sign(Sign::Semicolon, level)?;
+        into.push(start)?;
+        Ok(())
+    }
+
+    /// Reads the condition of a `for`, which is 1 where it is left out, and the semicolon behind it.
+    fn for_condition(&mut self, level: u64) -> Result<Expr, ParseRefusal>
+        ensures { MatchResult result (λ tree. HasForCondition level self.old self.new tree) (λ refusal. LacksForCondition level self.old refusal) }
+    {
+        if self.is_at(Sign::Semicolon) {
+            self.pass(level, &[])?;
+            return Ok(Expr::Number(1));
+        }
+        let condition = self.expression(0, level, Opening::Whole)?;
+        self.sign(Sign::Semicolon, level)?;
+        Ok(condition)
+    }
+
+    /// Reads the last part of a `for`, where it has one, and the parenthesis behind it, which has the level `owner`.
+    fn for_last(&mut self, level: u64, owner: u64) -> Result<Option<Stmt>, ParseRefusal>
+        ensures { MatchResult result (λ tree. HasForLast level owner self.old self.new tree) (λ refusal. LacksForLast level owner self.old refusal) }
+    {
+        if self.is_at(Sign::CloseParen) {
+            self.pass(owner, &[])?;
+            return Ok(None);
+        }
+        let name = self.name(level, &[])?;
+        let last = self.simple(level, name)?;
+        self.sign(Sign::CloseParen, owner)?;
+        Ok(Some(last))
+    }
+
+    /// Reads an expression in parentheses that do not count as a level.
+    fn condition(&mut self, level: u64) -> Result<Expr, ParseRefusal>
+        ensures { MatchResult result (λ tree. HasCondition level self.old self.new tree) (λ refusal. LacksCondition level self.old refusal) }
+    {
+        self.sign(Sign::OpenParen, level)?;
+        let condition = self.expression(0, level, Opening::Whole)?;
+        self.sign(Sign::CloseParen, level)?;
+        Ok(condition)
+    }
+
+    /// Reads a statement that begins with a name: a call, an assignment, a step or a store.
+    fn named(&mut self, level: u64, into: &mut Items<Stmt>) -> Result<(), ParseRefusal>
+        requires { starts_statement self.old.left ≡ StatementStart.Name }
+        ensures { MatchResult result (λ _. HasStatement level self.old self.new into.old into.new) (λ refusal. LacksStatement level self.old refusal) }
+    {
+        let name = self.name(level, &[])?;
+        if !self.is_at(Sign::OpenParen) {
+            let simple = self.simple(level, name)?;
+            self.sign(Sign::Semicolon, level)?;
+            into.push(simple)?;
+            return Ok(());
+        }
+        self.pass(level, &[Count::Anew(Counted::Arguments)])?;
+        let arguments = self.arguments(level)?;
+        self.sign(Sign::Semicolon, level)?;
+        into.push(Stmt::Call(None, name, arguments))?;
+        Ok(())
+    }
+
+    /// Reads a spawn whose value is dropped.
+    fn spawning(&mut self, level: u64, into: &mut Items<Stmt>) -> Result<(), ParseRefusal>
+        requires { starts_statement self.old.left ≡ StatementStart.Spawn }
+        ensures { MatchResult result (λ _. HasStatement level self.old self.new into.old into.new) (λ refusal. LacksStatement level self.old refusal) }
+    {
+        self.pass(level, &[])?;
+        let call = self.spawned(level)?;
+        self.sign(Sign::Semicolon, level)?;
+        into.push(Stmt::Spawn(None, call.name, call.arguments))?;
+        Ok(())
+    }
+
+    /// Reads `sync;`
+    fn syncing(&mut self, level: u64, into: &mut Items<Stmt>) -> Result<(), ParseRefusal>
+        requires { starts_statement self.old.left ≡ StatementStart.Sync }
+        ensures { MatchResult result (λ _. HasStatement level self.old self.new into.old into.new) (λ refusal. LacksStatement level self.old refusal) }
+    {
+        self.pass(level, &[])?;
+        self.sign(Sign::Semicolon, level)?;
+        into.push(Stmt::Sync)?;
+        Ok(())
+    }
+
+    /// Reads a `print`.
+    fn printing(&mut self, level: u64, into: &mut Items<Stmt>) -> Result<(), ParseRefusal>
+        requires { starts_statement self.old.left ≡ StatementStart.Print }
+        ensures { MatchResult result (λ _. HasStatement level self.old self.new into.old into.new) (λ refusal. LacksStatement level self.old refusal) }
+    {
+        self.pass(level, &[])?;
+        let value = self.condition(level)?;
+        self.sign(Sign::Semicolon, level)?;
+        into.push(Stmt::Print(value))?;
+        Ok(())
+    }
+
+    /// Reads a `return`.
+    fn returning(&mut self, level: u64, into: &mut Items<Stmt>) -> Result<(), ParseRefusal>
+        requires { starts_statement self.old.left ≡ StatementStart.Return }
+        ensures { MatchResult result (λ _. HasStatement level self.old self.new into.old into.new) (λ refusal. LacksStatement level self.old refusal) }
+    {
+        self.pass(level, &[])?;
+        if self.is_at(Sign::Semicolon) {
+            self.pass(level, &[])?;
+            into.push(Stmt::Return(None))?;
+            return Ok(());
+        }
+        let value = self.expression(0, level, Opening::Whole)?;
+        self.sign(Sign::Semicolon, level)?;
+        into.push(Stmt::Return(Some(value)))?;
+        Ok(())
+    }
+
+    /// How the statement begins that stands first.
+    fn statement_start(&self) -> StatementStart
+        ensures { result ≡ starts_statement self.now.left }
+    {
+        self.first()
+            .map_or(StatementStart::Other, |token| StatementStart::of(token))
+    }
+}
+
+/// A `for` is a block of its first part and a loop, whose body has the last part at its end.
+fn for_tree(
+    mut block: Items<Stmt>,
+    condition: Expr,
+    last: Option<Stmt>,
+    mut body: Items<Stmt>,
+) -> Result<Stmt, AllocError>
+    ensures { IfOk result (λ tree. tree ≡ Stmt.Block (block ++ Stmt.While condition (body ++ if_there (λ one. one ∷ []) last) ∷ [])) }
+{
+    if let Some(last) = last {
+        body.push(last)?;
+    }
+    block.push(Stmt::While(condition, body))?;
+    Ok(Stmt::Block(block))
+}
