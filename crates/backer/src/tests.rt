@@ -130,6 +130,7 @@ fn sources(rt: HostRuntime) -> Result<(), Fail> {
             Status::Done,
             "6\n",
         ),
+        ("void main() { print(1); }", Status::Done, "1\n"),
         ("int main() { print(y); }", NOT_YET, ""),
         ("int main() { int x; int x; }", NOT_YET, ""),
         ("int main() { int main; }", NOT_YET, ""),
@@ -363,6 +364,14 @@ fn a_million_signs(rt: HostRuntime) -> Result<(), Fail> {
     Ok(())
 }
 
+/// The kind and the offset with which the source is refused.
+fn refusal_of(alloc: Global, source: &str) -> Option<(u16, u64)> {
+    match read_program(alloc, source.as_bytes()) {
+        Err(ReadRefusal::At { kind, offset }) => Some((kind, offset)),
+        _ => None,
+    }
+}
+
 /// Whether the source is read.
 fn is_read(alloc: Global, source: &str) -> bool {
     read_program(alloc, source.as_bytes()).is_ok()
@@ -406,7 +415,7 @@ fn numbered(alloc: Global, before: &str, count: usize, after: &str) -> Result<St
 }
 
 /// A count: what stands before, each that is counted with what follows it, how many there may be, the one that is too
-/// many, and what stands behind.
+/// many and how many bytes from its begin the refusal stands, and what stands behind.
 #[derive(Clone, Copy)]
 struct Counting {
     before: &'static str,
@@ -414,6 +423,7 @@ struct Counting {
     closing: &'static str,
     most: usize,
     more: &'static str,
+    place: u64,
     after: &'static str,
 }
 
@@ -426,6 +436,7 @@ fn counts(rt: HostRuntime) -> Result<(), Fail> {
             closing: "",
             most: 256,
             more: "+1",
+            place: 0,
             after: "); print(1 + 1); }",
         },
         Counting {
@@ -434,6 +445,7 @@ fn counts(rt: HostRuntime) -> Result<(), Fail> {
             closing: "",
             most: 255,
             more: "+1",
+            place: 0,
             after: "; }",
         },
         Counting {
@@ -442,6 +454,7 @@ fn counts(rt: HostRuntime) -> Result<(), Fail> {
             closing: "",
             most: 255,
             more: "+1",
+            place: 4,
             after: "] + 1); }",
         },
         Counting {
@@ -450,6 +463,7 @@ fn counts(rt: HostRuntime) -> Result<(), Fail> {
             closing: "",
             most: 15,
             more: ", int z",
+            place: 2,
             after: ") { } int g(int x) { }",
         },
         Counting {
@@ -458,6 +472,7 @@ fn counts(rt: HostRuntime) -> Result<(), Fail> {
             closing: "",
             most: 15,
             more: ", -1",
+            place: 2,
             after: "); f(1); }",
         },
         Counting {
@@ -466,6 +481,7 @@ fn counts(rt: HostRuntime) -> Result<(), Fail> {
             closing: ";",
             most: 254,
             more: "int w",
+            place: 4,
             after: "; } int g() { int x; }",
         },
         Counting {
@@ -474,6 +490,7 @@ fn counts(rt: HostRuntime) -> Result<(), Fail> {
             closing: "[1];",
             most: 1024,
             more: "int b[1];",
+            place: 4,
             after: "",
         },
         Counting {
@@ -482,6 +499,7 @@ fn counts(rt: HostRuntime) -> Result<(), Fail> {
             closing: "() { }",
             most: 1024,
             more: "int g() { }",
+            place: 0,
             after: "",
         },
         Counting {
@@ -490,6 +508,7 @@ fn counts(rt: HostRuntime) -> Result<(), Fail> {
             closing: "() { }",
             most: 1024,
             more: "cilk int g() { }",
+            place: 0,
             after: "",
         },
     ];
@@ -497,18 +516,17 @@ fn counts(rt: HostRuntime) -> Result<(), Fail> {
         let mut kept = String::from_str(rt.alloc(), row.before)?;
         kept.push_str(numbered(rt.alloc(), row.opening, row.most, row.closing)?.as_str())?;
         let mut past = kept.clone()?;
+        let offset = past.len() as u64 + row.place;
         past.push_str(row.more)?;
         past.push_str(row.after)?;
         kept.push_str(row.after)?;
         assert!(rt; is_read(rt.alloc(), kept.as_str()), "{}", row.before);
-        let is_past = matches!(
-            read_program(rt.alloc(), past.as_bytes()),
-            Err(ReadRefusal::At {
-                kind: 105,
-                offset: _
-            })
+        assert_eq!(rt;
+            refusal_of(rt.alloc(), past.as_str()),
+            Some((105, offset)),
+            "{}",
+            row.before
         );
-        assert!(rt; is_past, "{}", row.before);
     }
     Ok(())
 }
@@ -534,11 +552,11 @@ fn places_of_counts(rt: HostRuntime) -> Result<(), Fail> {
         source.push_str(between)?;
         let place = source.len() as u64;
         source.push_str(after)?;
-        let answer = match read_program(rt.alloc(), source.as_bytes()) {
-            Err(ReadRefusal::At { kind, offset }) => Some((kind, offset)),
-            _ => None,
-        };
-        assert_eq!(rt; answer, Some((105, place)), "{between} {after}");
+        assert_eq!(rt;
+            refusal_of(rt.alloc(), source.as_str()),
+            Some((105, place)),
+            "{between} {after}"
+        );
     }
     // Past both limits `int NAME` is judged by the sign behind it; where none follows, that sign is unexpected.
     let mut both = arrays.clone()?;
@@ -547,11 +565,11 @@ fn places_of_counts(rt: HostRuntime) -> Result<(), Fail> {
     for (tail, kind, further) in [("int g(", 105, 0), ("int g[", 105, 4), ("int g;", 103, 5)] {
         let mut source = both.clone()?;
         source.push_str(tail)?;
-        let answer = match read_program(rt.alloc(), source.as_bytes()) {
-            Err(ReadRefusal::At { kind, offset }) => Some((kind, offset)),
-            _ => None,
-        };
-        assert_eq!(rt; answer, Some((kind, whole + further)), "{tail}");
+        assert_eq!(rt;
+            refusal_of(rt.alloc(), source.as_str()),
+            Some((kind, whole + further)),
+            "{tail}"
+        );
     }
     Ok(())
 }

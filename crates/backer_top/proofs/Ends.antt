@@ -19,7 +19,7 @@ use Rattle.backer_top.specs.declared.status.Status.TheVariants.{Done, Words, Sou
 use Rattle.backer_top.specs.declared.walk.End.TheVariants.{Finished, Trapped}
 use Rattle.backer_top.specs.Status.{IsToldAs}
 use Rattle.backer_top.specs.Output.{lines}
-use Rattle.backer_top.specs.Serial.{IsHeld, IsTextOf, GaveUp, GaveWhole, Accepts, meaning, IsDue, IsReading, IsSource, StopsWith, IsSerial}
+use Rattle.backer_top.specs.Serial.{IsHeld, IsTextOf, GaveSome, GaveUp, GaveWhole, Accepts, meaning, IsDue, IsReading, IsSource, StopsWith, IsSerial}
 
 -- the told text, or another where none is told
 abbrev told_or : Option Texts → List ℕ → List ℕ → List ℕ
@@ -153,27 +153,36 @@ module _ (text : List ℕ) (short : length text ≤ 1048576) where
   pub reading_unread : IsReading text (Err Memory)
   reading_unread = record { read = tt; only = λ _ _. tt; refused = tt; due = λ _ _. tt; unrefused = λ _ _. tt }
 
+-- those before the last are some where all are
+pub front_some : (pieces later : List (List ℕ)) → AreSome (pieces ++ later) → AreSome pieces
+front_some [] later some = tt
+front_some (piece ∷ pieces) later some = (some.0, front_some pieces later some.1)
+
 module _ {S : Type 0} (texts : Option Texts) (gave : S → List ℕ → ℕ → ℕ → List ℕ → S → Type 0) (failed : S → List ℕ → ℕ → ℕ → S → Type 0) (file : List ℕ) (old new : S) (read_failed : Type 0) where
+  -- a text within the limit was given whole
+  some_of_whole : (text : List ℕ) → GaveWhole gave file old new text → length text ≤ 1048576 → GaveSome gave file old new
+  some_of_whole text whole short = record { pieces = whole.pieces; last = []; some = whole.some; calls = whole.calls; within = subst (λ bytes. length bytes ≤ 1048576) whole.same short }
+
   -- the shelf failed
   pub source_failed : read_failed → GaveUp gave failed file old new → (text : List ℕ) × IsSource texts gave failed file old new read_failed text (Err ReadFault)
   source_failed fault calls =
       (told_or texts file [], record { told = told_or_is texts file []; calls = calls; read = tt; only = λ _ _. fault; refused = fault; due = λ _ _. fault; unrefused = λ _ _. tt })
 
   -- memory ran out before the text was known
-  pub source_unread : (pieces : List (List ℕ)) → Reads gave file old 0 pieces new → (text : List ℕ) × IsSource texts gave failed file old new read_failed text (Err Memory)
-  source_unread pieces calls =
-      (told_or texts file [], record { told = told_or_is texts file []; calls = (pieces, calls); read = tt; only = λ _ _. tt; refused = tt; due = λ _ _. tt; unrefused = λ _ _. tt })
+  pub source_unread : GaveSome gave file old new → (text : List ℕ) × IsSource texts gave failed file old new read_failed text (Err Memory)
+  source_unread calls =
+      (told_or texts file [], record { told = told_or_is texts file []; calls = calls; read = tt; only = λ _ _. tt; refused = tt; due = λ _ _. tt; unrefused = λ _ _. tt })
 
-  pub source_too_long : (pieces : List (List ℕ)) → AreSome pieces → Reads gave file old 0 pieces new → 1048576 < length (joined pieces)
+  pub source_too_long : (pieces : List (List ℕ)) (last : List ℕ) → AreSome (pieces ++ last ∷ []) → Reads gave file old 0 (pieces ++ last ∷ []) new → length (joined pieces) ≤ 1048576 → 1048576 < length (joined (pieces ++ last ∷ []))
       → IfSome texts (λ held. IsSomeAnd (map.get held file) (λ text. 1048576 < length text))
       → (text : List ℕ) × IsSource texts gave failed file old new read_failed text (Err (Source TooLong))
-  source_too_long pieces some calls long told =
-      let text = told_or texts file (joined pieces) in
-      let more = long_text texts file (joined pieces) 1048576 long told in (
+  source_too_long pieces last some calls within long told =
+      let text = told_or texts file (joined (pieces ++ last ∷ [])) in
+      let more = long_text texts file (joined (pieces ++ last ∷ [])) 1048576 long told in (
         text,
         record {
           told = more.1;
-          calls = record { pieces = pieces; some = some; calls = calls; long = long; same = more.2 };
+          calls = record { pieces = pieces; last = last; some = some; calls = calls; within = within; long = long; same = more.2 };
           read = tt;
           only = λ program accepted. absurd (omega (arith, more.0, accepted.0));
           refused = more.0;
@@ -190,7 +199,7 @@ module _ {S : Type 0} (texts : Option Texts) (gave : S → List ℕ → ℕ → 
   source_read text (Err (Source NotYet)) short told calls reading = record { told = told; calls = calls; read = tt; only = λ program accepted. reading.only program accepted; refused = reading.refused; due = reading.due; unrefused = λ _ _. tt }
   source_read text (Err Memory) short told calls reading = record {
     told = text_of_held texts file text told;
-    calls = (calls.pieces ++ [] ∷ [], calls.calls);
+    calls = some_of_whole text calls short;
     read = tt;
     only = λ _ _. tt;
     refused = tt;
@@ -235,7 +244,7 @@ module _ {S : Type 0} (texts : Option Texts) (gave : S → List ℕ → ℕ → 
       }
       serial_stopped Memory stops = record {
         told = text_of_held texts file text source.told;
-        calls = (source.calls.pieces ++ [] ∷ [], source.calls.calls);
+        calls = some_of_whole text source.calls source.read.0.0;
         cause = tt;
         due = λ _ _. tt;
         accepted = λ _ _ _ _. tt;
@@ -277,7 +286,7 @@ module _ {S : Type 0} (texts : Option Texts) (gave : S → List ℕ → ℕ → 
     serial_told (Source (Read number offset)) told (inl same) serial = subst (IsSerial texts gave failed file old new read_failed write_failed written cut_short text) (sym same) serial
     serial_told (Source (Read number offset)) told (inr memory) serial = subst (IsSerial texts gave failed file old new read_failed write_failed written cut_short text) (sym memory) (record {
       told = text_of_held texts file text serial.told;
-      calls = (serial.calls.pieces ++ [] ∷ [], serial.calls.calls);
+      calls = some_of_whole text serial.calls serial.cause.0;
       cause = tt;
       due = λ _ _. tt;
       accepted = λ _ _ _ _. tt;

@@ -25,10 +25,10 @@ abbrev pub IsTextOf : Option Texts → List ℕ → List ℕ → Type 0
 IsTextOf texts name text = IfSome texts (λ held. IfSome (map.get held name) (λ told. text ≡ told))
 
 -- Where the shelf tells its texts, the file's is this one; where reading failed or memory ran out, the file may have none.
-abbrev pub IsTold : Option Texts → List ℕ → List ℕ → Status → Type 0
-IsTold texts file text ReadFault = IsTextOf texts file text
-IsTold texts file text Memory = IsTextOf texts file text
-IsTold texts file text status = IsHeld texts file text
+abbrev pub IsToldText : Option Texts → List ℕ → List ℕ → Status → Type 0
+IsToldText texts file text ReadFault = IsTextOf texts file text
+IsToldText texts file text Memory = IsTextOf texts file text
+IsToldText texts file text status = IsHeld texts file text
 
 -- The calls on the shelf gave the whole text: pieces of it, and then nothing.
 pub record GaveWhole {S : Type 0} (gave : S → List ℕ → ℕ → ℕ → List ℕ → S → Type 0) (file : List ℕ) (old new : S) (text : List ℕ) : Type 0 where
@@ -37,27 +37,38 @@ pub record GaveWhole {S : Type 0} (gave : S → List ℕ → ℕ → ℕ → Lis
   pub calls : Reads gave file old 0 (pieces ++ [] ∷ []) new
   pub same : text ≡ joined pieces
 
--- The calls gave more bytes than a source may have. Where no text is told, the text is what they gave.
+-- The calls gave more bytes than a source may have with the last of them. Where no text is told, the text is what they gave.
 pub record GaveTooMuch {S : Type 0} (texts : Option Texts) (gave : S → List ℕ → ℕ → ℕ → List ℕ → S → Type 0) (file : List ℕ) (old new : S) (text : List ℕ) : Type 0 where
   pub pieces : List (List ℕ)
-  pub some : AreSome pieces
-  pub calls : Reads gave file old 0 pieces new
-  pub long : 1048576 < length (joined pieces)
-  pub same : IfNone texts (text ≡ joined pieces)
+  pub last : List ℕ
+  pub some : AreSome (pieces ++ last ∷ [])
+  pub calls : Reads gave file old 0 (pieces ++ last ∷ []) new
+  pub within : length (joined pieces) ≤ 1048576
+  pub long : 1048576 < length (joined (pieces ++ last ∷ []))
+  pub same : IfNone texts (text ≡ joined (pieces ++ last ∷ []))
 
--- A call failed, after others that gave bytes.
+-- A call failed, after others that gave bytes, no more than a source may have.
 pub record GaveUp {S : Type 0} (gave : S → List ℕ → ℕ → ℕ → List ℕ → S → Type 0) (failed : S → List ℕ → ℕ → ℕ → S → Type 0) (file : List ℕ) (old new : S) : Type 0 where
   pub pieces : List (List ℕ)
   pub last : S
   pub some : AreSome pieces
   pub calls : Reads gave file old 0 pieces last
+  pub within : length (joined pieces) ≤ 1048576
   pub broke : failed last file (length (joined pieces)) 4096 new
+
+-- The calls gave bytes, of which those before the last call are no more than a source may have.
+pub record GaveSome {S : Type 0} (gave : S → List ℕ → ℕ → ℕ → List ℕ → S → Type 0) (file : List ℕ) (old new : S) : Type 0 where
+  pub pieces : List (List ℕ)
+  pub last : List ℕ
+  pub some : AreSome pieces
+  pub calls : Reads gave file old 0 (pieces ++ last ∷ []) new
+  pub within : length (joined pieces) ≤ 1048576
 
 -- what the calls on the shelf gave, by how the command ended
 abbrev pub HasCalls : {S : Type 0} → Option Texts → (S → List ℕ → ℕ → ℕ → List ℕ → S → Type 0) → (S → List ℕ → ℕ → ℕ → S → Type 0) → List ℕ → S → S → List ℕ → Status → Type 0
 HasCalls texts gave failed file old new text (Source TooLong) = GaveTooMuch texts gave file old new text
 HasCalls texts gave failed file old new text ReadFault = GaveUp gave failed file old new
-HasCalls texts gave failed file old new text Memory = (pieces : List (List ℕ)) × Reads gave file old 0 pieces new
+HasCalls texts gave failed file old new text Memory = GaveSome gave file old new
 HasCalls texts gave failed file old new text status = GaveWhole gave file old new text
 
 -- The text is within the limit, and spells this program, which the walk takes.
@@ -102,11 +113,11 @@ IsOfAccepted Memory = Unit {0}
 IsOfAccepted _ = ⊥
 
 -- why a source is not read
-abbrev pub IsRefusal : List ℕ → (read_failed : Type 0) → Status → Type 0
-IsRefusal text read_failed (Source refusal) = IsDue text (Source refusal)
-IsRefusal text read_failed ReadFault = read_failed
-IsRefusal text read_failed Memory = Unit {0}
-IsRefusal text read_failed _ = ⊥
+abbrev pub IsSourceRefusal : List ℕ → (read_failed : Type 0) → Status → Type 0
+IsSourceRefusal text read_failed (Source refusal) = IsDue text (Source refusal)
+IsSourceRefusal text read_failed ReadFault = read_failed
+IsSourceRefusal text read_failed Memory = Unit {0}
+IsSourceRefusal text read_failed _ = ⊥
 
 -- why a source is not read though its program is accepted
 abbrev pub IsUnread : (read_failed : Type 0) → Status → Type 0
@@ -118,17 +129,17 @@ IsUnread read_failed _ = ⊥
 pub record IsReading (text : List ℕ) (result : Result Program Status) : Type 0 where
   pub read : IfOk result (λ program. Accepts text program × (program_size program ≤ 4000000))
   pub only : (program : Program) → Accepts text program → MatchResult result (λ read. read ≡ program) (IsUnread ⊥)
-  pub refused : IfErr result (λ status. IsRefusal text ⊥ status)
+  pub refused : IfErr result (λ status. IsSourceRefusal text ⊥ status)
   pub due : (due : Status) → IsDue text due → IfErr result (λ status. Answers due ⊥ ⊥ status)
   pub unrefused : (refusal : SourceRefusal) → IsDue text (Source refusal) → IfOk result (λ _. ⊥)
 
 -- How reading a source ended, where the shelf gave this text.
 pub record IsSource {S : Type 0} (texts : Option Texts) (gave : S → List ℕ → ℕ → ℕ → List ℕ → S → Type 0) (failed : S → List ℕ → ℕ → ℕ → S → Type 0) (file : List ℕ) (old new : S) (read_failed : Type 0) (text : List ℕ) (result : Result Program Status) : Type 0 where
-  pub told : MatchResult result (λ _. IsHeld texts file text) (IsTold texts file text)
+  pub told : MatchResult result (λ _. IsHeld texts file text) (IsToldText texts file text)
   pub calls : MatchResult result (λ _. GaveWhole gave file old new text) (HasCalls texts gave failed file old new text)
   pub read : IfOk result (λ program. Accepts text program × (program_size program ≤ 4000000))
   pub only : (program : Program) → Accepts text program → MatchResult result (λ read. read ≡ program) (IsUnread read_failed)
-  pub refused : IfErr result (λ status. IsRefusal text read_failed status)
+  pub refused : IfErr result (λ status. IsSourceRefusal text read_failed status)
   pub due : (due : Status) → IsDue text due → IfErr result (λ status. Answers due read_failed ⊥ status)
   pub unrefused : (refusal : SourceRefusal) → IsDue text (Source refusal) → IfOk result (λ _. ⊥)
 
@@ -145,7 +156,7 @@ StopsWith program _ = ⊥
 -- How `serial` on a file ended, where the shelf gave this text.
 pub record IsSerial {S : Type 0} (texts : Option Texts) (gave : S → List ℕ → ℕ → ℕ → List ℕ → S → Type 0) (failed : S → List ℕ → ℕ → ℕ → S → Type 0) (file : List ℕ) (old new : S)
     (read_failed write_failed : Type 0) (written cut_short : List ℕ → Type 0) (text : List ℕ) (status : Status) : Type 0 where
-  pub told : IsTold texts file text status
+  pub told : IsToldText texts file text status
   pub calls : HasCalls texts gave failed file old new text status
   pub cause : HasCause text read_failed write_failed status
   pub due : (due : Status) → IsDue text due → Answers due read_failed write_failed status

@@ -58,11 +58,11 @@ abbrev pub is_empty : {T : Type 0} → List T → Bool
 is_empty [] = true
 is_empty (_ ∷ _) = false
 
--- the function is `int main()` with such a body
+-- the function is a plain `main` without parameters, with such a body
 abbrev pub is_serial_function : Function → Bool
-is_serial_function f = not f.«cilk» && f.gives && bytes_eq f.name (codes "main") && is_empty f.params && is_serial_body [] f.body
+is_serial_function f = not f.«cilk» && bytes_eq f.name (codes "main") && is_empty f.params && is_serial_body [] f.body
 
--- no array, and `int main()` alone
+-- no array, and that `main` alone
 abbrev pub is_serial_source : List Shared → List Function → Bool
 is_serial_source [] (f ∷ []) = is_serial_function f
 is_serial_source _ _ = false

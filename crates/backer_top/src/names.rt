@@ -18,7 +18,7 @@ pub(crate) fn is_serial_main(alloc: Global, program: &Program) -> Result<bool, A
 fn is_serial_main_function(alloc: Global, function: &Function) -> Result<bool, AllocError>
     ensures { IfOk result (λ answer. answer ≡ is_serial_function function.now) }
 {
-    if function.cilk || !function.gives || !function.params.is_empty() {
+    if function.cilk || !function.params.is_empty() {
         return Ok(false);
     }
     if function.name.items() != b"main".as_slice() {

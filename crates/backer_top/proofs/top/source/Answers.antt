@@ -1,7 +1,7 @@
 use Rattle.std.proofs.Common.{◌≡◌, Err, ◌++◌, ◌∷◌, [], subst, ap, ◌∙◌}
 use Rattle.outside.specs.declared.reading.TextRefusal.TheVariants as TextRefusal
 use Rattle.outside.specs.Device.{Rose}
-use Rattle.backer_top.proofs.Ends.{source_failed, source_unread, source_too_long, source_read}
+use Rattle.backer_top.proofs.Ends.{front_some, source_failed, source_unread, source_too_long, source_read}
 use Rattle.backer_top.specs.Serial.{IsReading}
 use Rattle.backer_top.proofs.top.source.Goals as goal
 
@@ -13,7 +13,7 @@ returns-in-Err-Fault-clause-source g c =
     let calls = c.read_text.ensures.fault_calls refused in
     source_failed (shelf.texts c.args.shelf.now) shelf.gave shelf.failed file c.args.shelf.now c.read_text.new.shelf
     (Rose (shelf.faults c.args.shelf.now file) (shelf.faults c.read_text.new.shelf file)) (c.read_text.ensures.fault refused)
-    (record { pieces = calls.0; last = calls.1; some = calls.2; calls = calls.5; broke = calls.6 })
+    (record { pieces = calls.0; last = calls.1; some = calls.2; calls = calls.5; within = calls.3; broke = calls.6 })
 
 pub returns-in-Err-TooLong-clause-source : goal.returns-in-Err-TooLong-clause-source
 returns-in-Err-TooLong-clause-source g c =
@@ -23,7 +23,7 @@ returns-in-Err-TooLong-clause-source g c =
     let calls = c.read_text.ensures.too_long_calls refused in
     source_too_long (shelf.texts c.args.shelf.now) shelf.gave shelf.failed file c.args.shelf.now c.read_text.new.shelf
     (Rose (shelf.faults c.args.shelf.now file) (shelf.faults c.read_text.new.shelf file))
-    (calls.0 ++ calls.1 ∷ []) calls.2 calls.6 calls.4 (c.read_text.ensures.too_long refused)
+    calls.0 calls.1 calls.2 calls.6 calls.3 calls.4 (c.read_text.ensures.too_long refused)
 
 pub returns-in-Err-Memory-clause-source : goal.returns-in-Err-Memory-clause-source
 returns-in-Err-Memory-clause-source g c =
@@ -31,7 +31,7 @@ returns-in-Err-Memory-clause-source g c =
     let file = c.args.file.now in
     let calls = c.read_text.ensures.memory_calls (c.in-Err-Memory.is ∙ ap Err c.in-Err-Memory.field-0-is) in
     source_unread (shelf.texts c.args.shelf.now) shelf.gave shelf.failed file c.args.shelf.now c.read_text.new.shelf
-    (Rose (shelf.faults c.args.shelf.now file) (shelf.faults c.read_text.new.shelf file)) (calls.0 ++ calls.1 ∷ []) calls.5
+    (Rose (shelf.faults c.args.shelf.now file) (shelf.faults c.read_text.new.shelf file)) (record { pieces = calls.0; last = calls.1; some = front_some calls.0 (calls.1 ∷ []) calls.2; calls = calls.5; within = calls.3 })
 
 pub returns-clause-source : goal.returns-clause-source
 returns-clause-source g c =
