@@ -558,6 +558,8 @@ fn places_of_counts(rt: HostRuntime) -> Result<(), Fail> {
             "{between} {after}"
         );
     }
+    let longest = repeating(rt.alloc(), "int ", "x", 63, "[1]; void main() { }")?;
+    assert!(rt; is_read(rt.alloc(), longest.as_str()));
     // Past both limits `int NAME` is judged by the sign behind it; where none follows, that sign is unexpected.
     let mut both = arrays.clone()?;
     both.push_str(functions.as_str())?;
