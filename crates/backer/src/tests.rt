@@ -516,7 +516,9 @@ fn counts(rt: HostRuntime) -> Result<(), Fail> {
         let mut kept = String::from_str(rt.alloc(), row.before)?;
         kept.push_str(numbered(rt.alloc(), row.opening, row.most, row.closing)?.as_str())?;
         let mut past = kept.clone()?;
-        let offset = past.len() as u64 + row.place;
+        let offset = (past.len() as u64)
+            .checked_add(row.place)
+            .ok_or("too long")?;
         past.push_str(row.more)?;
         past.push_str(row.after)?;
         kept.push_str(row.after)?;
