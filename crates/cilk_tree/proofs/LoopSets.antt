@@ -84,6 +84,20 @@ Shape-ends (Loop turn) =
     let one = Shape-ends turn in
     record { kept = true; added = one.added; is = λ set local. ap (λ b. set local || b) (one.is set local) ∙ looped one.kept (set local) (one.added local) }
 
+added_alone : (k s a : Bool) → (s || (k && false || a)) ≡ (s || (k && s || a))
+added_alone true true a = refl
+added_alone true false a = refl
+added_alone false s a = refl
+
+-- what a flow adds to a set is what it makes of the empty one
+pub added_by : (flow : Flow) (before : Pending) → both before (ends flow none) ≡ both before (ends flow before)
+added_by flow before = λ i local. by_local local i
+  where
+    by_local : (local : ℕ) → both before (ends flow none) local ≡ both before (ends flow before) local
+    by_local local =
+        let one = Shape-ends flow in
+        ap (λ b. before local || b) (one.is none local) ∙ added_alone one.kept (before local) (one.added local) ∙ sym (ap (λ b. before local || b) (one.is before local))
+
 same_again : (k s a : Bool) → (s || (k && s || a)) ≡ (s || (k && (s || (k && s || a)) || a))
 same_again true true a = refl
 same_again true false true = refl

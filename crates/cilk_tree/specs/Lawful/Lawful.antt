@@ -1,9 +1,10 @@
 -- Lawful programs, and the refusal of the others.
 use Rattle.std.specs.Prelude.{◌≡◌, ◌⊎◌, ℕ, ◌≤◌, ◌==◌, IsTrue, []}
 use Rattle.std.specs.List.{list_any}
+use Rattle.cilk_tree.specs.declared.place.CheckPlace.{CheckPlace}
 use Rattle.cilk_tree.specs.declared.tree.Program.{Program}
 use Rattle.cilk_tree.specs.Lawful.Pending.{UsesBeforeSync}
-use Rattle.cilk_tree.specs.Lawful.Place.{CheckPlace, place_lt}
+use Rattle.cilk_tree.specs.Lawful.Place.{place_lt}
 use Rattle.cilk_tree.specs.Lawful.Rules.{kinds_at}
 
 -- none of 201 to 208, 210 and 211 is broken

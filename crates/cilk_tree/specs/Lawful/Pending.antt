@@ -1,12 +1,12 @@
 -- The rule 209: a local that a spawn gives its value to is used before a sync, on some path.
 use Rattle.std.specs.Prelude.{◌≡◌, ◌⊎◌, ℕ, Bool, false, ◌||◌, ◌==◌, IsTrue, List, [], ◌∷◌, ◌++◌, Option, Some, None, slice_get, if◌then◌else◌, option_and_then}
 use Rattle.std.specs.List.{filter_map, list_any}
+use Rattle.cilk_tree.specs.declared.place.CheckPlace.{CheckPlace}
+use Rattle.cilk_tree.specs.declared.place.CheckPlace.TheVariants as place
 use Rattle.cilk_tree.specs.declared.tree.Function.{Function}
 use Rattle.cilk_tree.specs.declared.tree.Program.{Program}
 use Rattle.cilk_tree.specs.declared.tree.Stmt.TheOpen as head
 use Rattle.cilk_tree.specs.Lawful.Flow.{Head, Flow, Nothing, At, Then, Either, Loop, flow_of}
-use Rattle.cilk_tree.specs.Lawful.Place as place
-use Rattle.cilk_tree.specs.Lawful.Place.{CheckPlace}
 use Rattle.cilk_tree.specs.Lawful.Rules.{Need, NeedsVariable, NeedsArray, NeedsFunction, head_uses}
 use Rattle.cilk_tree.specs.Lawful.Scope.{Local, Point, local_named}
 

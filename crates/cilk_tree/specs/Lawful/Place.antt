@@ -1,13 +1,7 @@
--- The places of a program that a refusal names, and their order.
+-- The order of the places of a program.
 use Rattle.std.specs.Prelude.{ℕ, ◌+◌, Bool, ◌&&◌, ◌||◌, ◌==◌, nat_lt}
-
--- An array, by its number; a function, by its number; a statement, by its function's number and its own, which counts
--- the function's statements in preorder, a then list before its else list; or the program as a whole.
-pub data CheckPlace : Type 0 where
-  Shared : (array : ℕ) → CheckPlace
-  Function : (function : ℕ) → CheckPlace
-  Statement : (function : ℕ) (statement : ℕ) → CheckPlace
-  Whole : CheckPlace
+use Rattle.cilk_tree.specs.declared.place.CheckPlace.{CheckPlace}
+use Rattle.cilk_tree.specs.declared.place.CheckPlace.TheVariants.{Shared, Function, Statement, Whole}
 
 -- what is compared first: arrays, functions with their statements, the whole
 abbrev pub group : CheckPlace → ℕ

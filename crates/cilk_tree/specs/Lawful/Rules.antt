@@ -3,6 +3,8 @@ use Rattle.std.specs.Prelude.{ℕ, ◌+◌, ◌^◌, Bool, true, false, not, ◌
 use Rattle.std.specs.List.{flat_map, list_any}
 use Rattle.std.specs.Option.{option_map_or}
 use Rattle.std.specs.Str.{bytes_eq}
+use Rattle.cilk_tree.specs.declared.place.CheckPlace.{CheckPlace}
+use Rattle.cilk_tree.specs.declared.place.CheckPlace.TheVariants as place
 use Rattle.cilk_tree.specs.declared.tree.Expr.{Expr, fold-Expr}
 use Rattle.cilk_tree.specs.declared.tree.Expr.TheOpen as layer
 use Rattle.cilk_tree.specs.declared.tree.Expr.TheOpen.{Expr-F}
@@ -11,8 +13,6 @@ use Rattle.cilk_tree.specs.declared.tree.Program.{Program}
 use Rattle.cilk_tree.specs.declared.tree.Shared.{Shared}
 use Rattle.cilk_tree.specs.declared.tree.Stmt.TheOpen as head
 use Rattle.cilk_tree.specs.Lawful.Flow.{Head, Site, sites, flow_of}
-use Rattle.cilk_tree.specs.Lawful.Place as place
-use Rattle.cilk_tree.specs.Lawful.Place.{CheckPlace}
 use Rattle.cilk_tree.specs.Lawful.Scope.{Point, Meaning, Unknown, Variable, Array, Procedure, meaning, is_known, is_global}
 
 -- What a use of a name needs it to stand for: a parameter or local, an array, or a function.

@@ -1,0 +1,10 @@
+pub mod Judged
+pub mod Meanings
+pub mod Names
+pub mod Scopes
+pub mod Tables
+pub mod Seeing
+pub mod Kinds
+pub mod Sets
+pub mod Courses
+pub mod Sound
