@@ -3,15 +3,10 @@
 
 Usage: bench/read.py, from a checkout where ./backer has been built. Prints a table of seconds and answers.
 """
-import pathlib
 import random
-import subprocess
-import tempfile
-import time
 
-TOP = pathlib.Path(__file__).resolve().parent.parent
-PROGRAM = TOP / "crates" / "backer" / "out" / "backer"
-LIMIT = 1_048_576
+from timing import LIMIT, print_table
+
 HEAD = b"int main() { "
 
 
@@ -39,17 +34,4 @@ SOURCES = {
 }
 
 
-def main():
-    print("| Source | Seconds | Answer |\n|---|---|---|")
-    with tempfile.TemporaryDirectory() as name:
-        file = pathlib.Path(name) / "source.cilk"
-        for shape, source in SOURCES.items():
-            file.write_bytes(source)
-            began = time.monotonic()
-            done = subprocess.run([PROGRAM, "serial", file], capture_output=True, check=False)
-            seconds = time.monotonic() - began
-            line = done.stderr.decode().removeprefix("backer: ").strip() or f"{len(done.stdout):,} bytes"
-            print(f"| {shape} | {seconds:.3f} | {line} |")
-
-
-main()
+print_table("serial", SOURCES)

@@ -1,4 +1,6 @@
 //! The rows of the program's behaviour, over a shelf and sinks in memory.
+mod checking;
+
 use backer_top::{Ended, SourceRefusal, Status, TrapKind, backer};
 use cilk_reader::{ReadRefusal, read_program};
 use cilk_tree::print_program;
@@ -131,15 +133,16 @@ fn sources(rt: HostRuntime) -> Result<(), Fail> {
             "6\n",
         ),
         ("void main() { print(1); }", Status::Done, "1\n"),
-        ("int main() { print(y); }", NOT_YET, ""),
-        ("int main() { int x; int x; }", NOT_YET, ""),
-        ("int main() { int main; }", NOT_YET, ""),
         ("int a[1]; int main() { }", NOT_YET, ""),
         ("cilk int main() { }", NOT_YET, ""),
         ("int main() { } int f() { }", NOT_YET, ""),
-        ("int main() { sync; }", NOT_YET, ""),
         ("int main() { print(-1); }", NOT_YET, ""),
         ("int main() { print(4 / 2); }", NOT_YET, ""),
+        ("int main() { int x; x = 1 < 2; }", NOT_YET, ""),
+        ("int main() { return 0; }", NOT_YET, ""),
+        ("int main() { { } }", NOT_YET, ""),
+        ("int main() { if (1) ; }", NOT_YET, ""),
+        ("int main() { main(); }", NOT_YET, ""),
     ];
     for (source, status, out) in rows {
         let left = run_source(rt.alloc(), source, NOTHING)?;
@@ -152,6 +155,40 @@ fn sources(rt: HostRuntime) -> Result<(), Fail> {
             _ => "backer: trap Overflow on node 0\n",
         };
         assert_eq!(rt; left.err.held(), line.as_bytes(), "{source}");
+    }
+    Ok(())
+}
+
+/// `serial` checks its program before it looks whether it can run it.
+#[test]
+fn unlawful_sources(rt: HostRuntime) -> Result<(), Fail> {
+    let rows = [
+        ("", "210 in program"),
+        (
+            "int main() { print(y); }",
+            "202 in function main statement 0",
+        ),
+        (
+            "int main() { int x; int x; }",
+            "201 in function main statement 1",
+        ),
+        (
+            "int main() { int main; }",
+            "201 in function main statement 0",
+        ),
+        ("int main() { sync; }", "206 in function main statement 0"),
+        ("int a[1048577]; int main() { }", "211 in array a"),
+        (
+            "cilk int main() { int x; x = spawn main(); print(x); }",
+            "209 in function main statement 2",
+        ),
+    ];
+    for (source, breach) in rows {
+        let left = run_source(rt.alloc(), source, NOTHING)?;
+        let line = format!(in rt.alloc(); "backer: source refused: {breach}\n")?;
+        assert_eq!(rt; left.err.held(), line.as_bytes(), "{source}");
+        assert_eq!(rt; left.ended.number(), 2, "{source}");
+        assert_eq!(rt; left.out.puts(), 0, "{source}");
     }
     Ok(())
 }
@@ -677,8 +714,11 @@ fn canonical_programs(rt: HostRuntime) -> Result<(), Fail> {
 
 #[test]
 fn refused_words(rt: HostRuntime) -> Result<(), Fail> {
-    let rows: [&[&str]; 6] = [
+    let rows: [&[&str]; 9] = [
         &[],
+        &["check"],
+        &["check", "f", "f"],
+        &["check", "-f"],
         &["serial"],
         &["serial", "f", "f"],
         &["serial", "-x"],
@@ -801,13 +841,22 @@ fn several_pieces(rt: HostRuntime) -> Result<(), Fail> {
 }
 
 #[test]
-fn a_source_that_is_too_long(rt: HostRuntime) -> Result<(), Fail> {
-    let blanks = vec![in rt.alloc(); b' '; 1_048_577]?;
-    let left = run(rt.alloc(), &["serial", "f"], blanks, NOTHING)?;
-    assert_eq!(rt; left.ended.status, Status::Source(SourceRefusal::TooLong));
-    assert_eq!(rt;
-        left.err.held(),
-        b"backer: source refused: too long\n".as_slice()
-    );
+fn the_longest_sources(rt: HostRuntime) -> Result<(), Fail> {
+    for command in ["check", "serial"] {
+        let blanks = vec![in rt.alloc(); b' '; 1_048_576]?;
+        let left = run(rt.alloc(), &[command, "f"], blanks, NOTHING)?;
+        assert_eq!(rt;
+            left.err.held(),
+            b"backer: source refused: 210 in program\n".as_slice()
+        );
+
+        let blanks = vec![in rt.alloc(); b' '; 1_048_577]?;
+        let left = run(rt.alloc(), &[command, "f"], blanks, NOTHING)?;
+        assert_eq!(rt; left.ended.status, Status::Source(SourceRefusal::TooLong));
+        assert_eq!(rt;
+            left.err.held(),
+            b"backer: source refused: too long\n".as_slice()
+        );
+    }
     Ok(())
 }

@@ -1,25 +1,158 @@
--- How `serial` ends, by how its parts ended.
-use Rattle.std.proofs.Common.{◌≡◌, ◌⊎◌, inl, inr, ℕ, ◌*◌, ◌<◌, ◌≤◌, Result, Option, Some, None, IfSome, IfNone, IsSomeAnd, Ok, Err, unwrap_or, List, [], ◌∷◌, ◌++◌, length, refl, sym, ap, ◌∙◌, subst, arith}
+-- How a command ends, by how its parts ended.
+use Rattle.std.proofs.Common.{◌≡◌, ◌⊎◌, inl, inr, ℕ, ◌<◌, ◌≤◌, Option, Some, None, IfSome, IfNone, IsSomeAnd, Ok, Err, unwrap_or, List, [], ◌∷◌, ◌++◌, length, refl, sym, ap, ◌∙◌, subst, arith}
 use Rattle.std.specs.FinMap as map
+use Rattle.cilk_tree.specs.declared.kind.Kind.{Kind}
+use Rattle.cilk_tree.specs.declared.place.CheckPlace.{CheckPlace}
 use Rattle.cilk_tree.specs.declared.tree.Program.{Program}
+use Rattle.cilk_tree.specs.Kind.{kind_number}
+use Rattle.cilk_tree.specs.Lawful.Lawful.{IsCheckRefusal, IsLawful}
+use Rattle.cilk_tree.specs.Spelling.{IsRefusal, Spells}
 use Rattle.cilk_reader.specs.Refusals.{IsReason, IsRefusedAt}
 use Rattle.cilk_reader.specs.declared.refusal.ReadRefusal.{ReadRefusal}
-use Rattle.cilk_tree.specs.declared.kind.Kind.{Kind}
-use Rattle.cilk_tree.specs.Kind.{kind_number}
-use Rattle.cilk_tree.specs.Size.{program_size}
-use Rattle.cilk_tree.specs.Spelling.{IsRefusal, Spells}
 use Rattle.cilk_reader.specs.declared.refusal.ReadRefusal.TheVariants as read
-use Rattle.backer_top.specs.SerialMain.{IsSerialMain}
+use Rattle.cilk_checker.specs.Sound.{IsRefusal as IsBreach}
+use Rattle.cilk_checker.specs.declared.refusal.CheckRefusal.{CheckRefusal}
+use Rattle.cilk_checker.specs.declared.refusal.CheckRefusal.TheVariants as check
 use Rattle.outside.specs.Shelf.{AreSome, Reads, Texts, joined}
 use Rattle.backer_top.specs.declared.status.SourceRefusal.{SourceRefusal}
-use Rattle.backer_top.specs.declared.status.SourceRefusal.TheVariants.{TooLong, Read, NotYet}
+use Rattle.backer_top.specs.declared.status.SourceRefusal.TheVariants as source
 use Rattle.backer_top.specs.declared.status.Status.{Status}
-use Rattle.backer_top.specs.declared.status.TrapKind.{TrapKind}
 use Rattle.backer_top.specs.declared.status.Status.TheVariants.{Done, Words, Source, ReadFault, WriteFault, Trap, Memory}
-use Rattle.backer_top.specs.declared.walk.End.TheVariants.{Finished, Trapped}
-use Rattle.backer_top.specs.Status.{IsToldAs}
-use Rattle.backer_top.specs.Output.{lines}
-use Rattle.backer_top.specs.Serial.{IsHeld, IsTextOf, GaveSome, GaveUp, GaveWhole, Accepts, meaning, IsDue, IsReading, IsSource, StopsWith, IsSerial}
+use Rattle.backer_top.specs.declared.words.Command.{Command}
+use Rattle.backer_top.specs.Due.{Accepts, Makes, IsDueOf, IsDue, IsOfAccepted, IsReading, IsOutcome}
+use Rattle.backer_top.specs.Reading.{IsHeld, IsTextOf, GaveSome, GaveUp, ReadsWhole, StopsReading}
+use Rattle.backer_top.specs.Run.{IsRun}
+use Rattle.backer_top.proofs.Dues.{accepted_stop, due_broken, due_made, due_of_stopped, due_read, due_stopped, due_too_long, due_unread, made_once, undone_stop}
+
+-- ---- how a text within the limit was read and checked
+
+same_reading : (number offset other place : ℕ) (kind : Kind) → other ≡ kind_number kind → (read.At number offset ≡ read.At (kind_number kind) place) ⊎ (read.At number offset ≡ read.Memory)
+    → Source (source.Read number offset) ≡ Source (source.Read other place)
+same_reading number offset other place kind is (inl same) =
+    let numbers : number ≡ kind_number kind = cc in
+    let offsets : offset ≡ place = cc in
+    ap (λ n. Source (source.Read n offset)) (numbers ∙ sym is) ∙ ap (λ o. Source (source.Read other o)) offsets
+same_reading number offset other place kind is (inr memory) = cc
+
+same_breach : (kind : ℕ) (place : CheckPlace) (other : ℕ) (another : CheckPlace) → (check.At kind place ≡ check.At other another) ⊎ (check.At kind place ≡ check.Memory)
+    → Source (source.Check kind place) ≡ Source (source.Check other another)
+same_breach kind place other another (inl same) =
+    let kinds : kind ≡ other = cc in
+    let places : place ≡ another = cc in
+    ap (λ k. Source (source.Check k place)) kinds ∙ ap (λ p. Source (source.Check other p)) places
+same_breach kind place other another (inr memory) = cc
+
+module _ (text : List ℕ) where
+  pub reading_memory : IsReading text (Err Memory)
+  reading_memory = record { accepted = tt; only = λ _ _. tt; unbroken = λ _ _. tt; unrefused = λ _ _. tt; cause = λ _. inr refl; stops = λ done. cc; due = λ _ _ _. inr refl; unaccepted = λ _ _. refl }
+
+  reading_refused : (refusal : SourceRefusal) → ((command : Command) → IsDue command text (Source refusal)) → ((command : Command) (due : Status) → IsDue command text due → Source refusal ≡ due) → ((program : Program) → ¬ Accepts text program)
+      → (status : Status) → (status ≡ Source refusal) ⊎ (status ≡ Memory) → IsReading text (Err status)
+  reading_refused refusal cause due unaccepted status (inr memory) = subst (λ s. IsReading text (Err s)) (sym memory) reading_memory
+  reading_refused refusal cause due unaccepted status (inl is) = subst (λ s. IsReading text (Err s)) (sym is) (record {
+    accepted = tt;
+    only = λ _ _. tt;
+    unbroken = λ _ _. tt;
+    unrefused = λ _ _. tt;
+    cause = λ command. inl (cause command);
+    stops = λ done. cc;
+    due = λ command other is. inl (due command other is);
+    unaccepted = λ program accepted. absurd (unaccepted program accepted);
+  })
+
+  module _ (short : length text ≤ 1048576) where
+    reading_at : (number offset : ℕ) → IsRefusedAt text number offset → ((program : Program) → Spells text program → read.At number offset ≡ read.Memory)
+        → ((kind : Kind) (place : ℕ) → IsRefusal text kind place → (read.At number offset ≡ read.At (kind_number kind) place) ⊎ (read.At number offset ≡ read.Memory))
+        → (status : Status) → (status ≡ Source (source.Read number offset)) ⊎ (status ≡ Memory) → IsReading text (Err status)
+    reading_at number offset refused only exact =
+        let none = λ (program : Program) (spelled : Spells text program). let memory = only program spelled in let no : ⊥ = cc in no in
+        reading_refused (source.Read number offset) (λ command. (short, refused))
+        (λ command. due_unread command text short number offset none (λ other place again. same_reading number offset other place again.0 again.1 (exact again.0 place again.2)))
+        (λ program accepted. none program accepted.0.1)
+
+    -- the reader refused it
+    pub reading_unread : (refusal : ReadRefusal) (number offset : ℕ) → refusal ≡ read.At number offset → IsReason text refusal → ((program : Program) → Spells text program → refusal ≡ read.Memory)
+        → ((kind : Kind) (place : ℕ) → IsRefusal text kind place → (refusal ≡ read.At (kind_number kind) place) ⊎ (refusal ≡ read.Memory))
+        → (status : Status) → (status ≡ Source (source.Read number offset)) ⊎ (status ≡ Memory) → IsReading text (Err status)
+    reading_unread refusal number offset is reason only exact =
+        reading_at number offset (subst (IsReason text) is reason) (λ program spelled. sym is ∙ only program spelled)
+        (λ kind place refused. subst (λ r. (r ≡ read.At (kind_number kind) place) ⊎ (r ≡ read.Memory)) is (exact kind place refused))
+
+    module _ (program : Program) (spelled : Spells text program) (only : (other : Program) → Spells text other → program ≡ other)
+        (exact : (kind : Kind) (offset : ℕ) → IsRefusal text kind offset → ⊥) where
+      -- the checker accepted its program
+      pub reading_accepted : (checked : Program) → checked ≡ program → IsLawful program → ((kind : ℕ) (place : CheckPlace) → ¬ IsCheckRefusal program kind place) → IsReading text (Ok checked)
+      reading_accepted checked same lawful unbroken = subst (λ p. IsReading text (Ok p)) (sym same) (record {
+        accepted = ((short, spelled), lawful);
+        only = only;
+        unbroken = unbroken;
+        unrefused = λ number offset refused. exact refused.0 offset refused.2;
+        cause = λ _. tt;
+        stops = tt;
+        due = λ _ _ _. tt;
+        unaccepted = λ _ _. tt;
+      })
+
+      reading_broken : (kind : ℕ) (place : CheckPlace) → IsCheckRefusal program kind place → (IsLawful program → check.At kind place ≡ check.Memory)
+          → ((other : ℕ) (another : CheckPlace) → IsCheckRefusal program other another → (check.At kind place ≡ check.At other another) ⊎ (check.At kind place ≡ check.Memory))
+          → (status : Status) → (status ≡ Source (source.Check kind place)) ⊎ (status ≡ Memory) → IsReading text (Err status)
+      reading_broken kind place broken accepted once =
+          let unlawful = λ (lawful : IsLawful program). let memory = accepted lawful in let no : ⊥ = cc in no in
+          reading_refused (source.Check kind place) (λ command. (program, (short, spelled), broken))
+          (λ command due is. due_broken command program kind place unlawful (λ other another again. same_breach kind place other another (once other another again)) due
+          (due_read command text short program only (λ number offset refused. exact refused.0 offset refused.2) due is))
+          (λ other other_accepted. unlawful (subst IsLawful (sym (only other other_accepted.0.1)) other_accepted.1))
+
+      -- the checker refused its program
+      pub reading_unlawful : (refusal : CheckRefusal) (kind : ℕ) (place : CheckPlace) → refusal ≡ check.At kind place → IsBreach program refusal → (IsLawful program → refusal ≡ check.Memory)
+          → ((other : ℕ) (another : CheckPlace) → IsCheckRefusal program other another → (refusal ≡ check.At other another) ⊎ (refusal ≡ check.Memory))
+          → (status : Status) → (status ≡ Source (source.Check kind place)) ⊎ (status ≡ Memory) → IsReading text (Err status)
+      reading_unlawful refusal kind place is broken accepted once =
+          reading_broken kind place (subst (IsBreach program) is broken) (λ lawful. sym is ∙ accepted lawful)
+          (λ other another again. subst (λ r. (r ≡ check.At other another) ⊎ (r ≡ check.Memory)) is (once other another again))
+
+-- ---- what a command makes of it
+
+module _ (command : Command) (text : List ℕ) where
+  outcome_memory : IsOutcome command text (Err Memory)
+  outcome_memory = record { cause = inr refl; stops = λ done. cc; due = λ _ _. inr refl; only = λ _ _. tt; accepted = λ _ _. tt }
+
+  -- it was not accepted
+  pub outcome_refused : (status : Status) → IsReading text (Err status) → IsOutcome command text (Err status)
+  outcome_refused status reading = record {
+    cause = reading.cause command;
+    stops = reading.stops;
+    due = reading.due command;
+    only = λ _ _. tt;
+    accepted = λ program accepted. subst (IsOfAccepted command) (sym (reading.unaccepted program accepted)) tt;
+  }
+
+  module _ (short : length text ≤ 1048576) (program : Program) (reading : IsReading text (Ok program)) where
+    calls_for : (due : Status) → IsDue command text due → IsDueOf command program due
+    calls_for = due_read command text short program reading.only reading.unrefused
+
+    -- a text was made of the program
+    pub outcome_made : (printed : List ℕ) → Makes command program (Ok printed) → IsOutcome command text (Ok printed)
+    outcome_made printed made = record {
+      cause = (program, reading.accepted, made);
+      stops = tt;
+      due = λ due is. due_made command program reading.unbroken printed made due (calls_for due is);
+      only = λ other prints. made_once command program printed other made (subst (λ p. Makes command p (Ok other)) (sym (reading.only prints.0 prints.1.0.1)) prints.2);
+      accepted = λ _ _. tt;
+    }
+
+    -- none was
+    pub outcome_stopped : (status : Status) → Makes command program (Err status) ⊎ (status ≡ Memory) → IsOutcome command text (Err status)
+    outcome_stopped status (inr memory) = subst (λ s. IsOutcome command text (Err s)) (sym memory) outcome_memory
+    outcome_stopped status (inl stops) = record {
+      cause = inl (due_of_stopped command text program reading.accepted status stops);
+      stops = undone_stop command program status stops;
+      due = λ due is. inl (due_stopped command program reading.unbroken status stops due (calls_for due is));
+      only = λ _ _. tt;
+      accepted = λ _ _. accepted_stop command program status stops;
+    }
+
+-- ---- the text that the shelf gave
 
 -- the told text, or another where none is told
 abbrev told_or : Option Texts → List ℕ → List ℕ → List ℕ
@@ -44,115 +177,6 @@ text_of_held : (texts : Option Texts) (name text : List ℕ) → IsHeld texts na
 text_of_held None name text held = tt
 text_of_held (Some texts) name text held = subst (λ o. IfSome o (λ told. text ≡ told)) (sym held) refl
 
-due_too_long : (text : List ℕ) → 1048576 < length text → (due : Status) → IsDue text due → due ≡ Source TooLong
-due_too_long text long Done is = absurd (omega (arith, is.1.0))
-due_too_long text long (Trap kind node) is = absurd (omega (arith, is.1.0))
-due_too_long text long (Source TooLong) is = refl
-due_too_long text long (Source (Read number offset)) is = absurd (omega (arith, is.0))
-due_too_long text long (Source NotYet) is = absurd (omega (arith, is.0))
-due_too_long text long Words is = absurd is
-due_too_long text long ReadFault is = absurd is
-due_too_long text long WriteFault is = absurd is
-due_too_long text long Memory is = absurd is
-
--- a source that was read calls for the end of its program's elision
-due_end : (text : List ℕ) (program : Program) → ((refusal : SourceRefusal) → IsDue text (Source refusal) → ⊥) → ((other : Program) → Accepts text other → program ≡ other)
-    → (status : Status) → (((meaning program).end ≡ Finished) → Done ≡ status) → ((kind : TrapKind) → (meaning program).end ≡ Trapped kind → Trap kind 0 ≡ status)
-    → (due : Status) → IsDue text due → due ≡ status
-due_end text program unrefused only status finished trapped Done is = finished (ap (λ p. (meaning p).end) (only is.0 is.1) ∙ is.2)
-due_end text program unrefused only status finished trapped (Trap kind node) is =
-    ap (λ n. Trap kind n) is.3 ∙ trapped kind (ap (λ p. (meaning p).end) (only is.0 is.1) ∙ is.2)
-due_end text program unrefused only status finished trapped (Source refusal) is = absurd (unrefused refusal is)
-due_end text program unrefused only status finished trapped Words is = absurd is
-due_end text program unrefused only status finished trapped ReadFault is = absurd is
-due_end text program unrefused only status finished trapped WriteFault is = absurd is
-due_end text program unrefused only status finished trapped Memory is = absurd is
-
--- a source that spells a program that is not taken
-due_not_yet : (text : List ℕ) (program : Program) → length text ≤ 1048576 → (IsSerialMain program → ⊥) → ((other : Program) → Spells text other → program ≡ other) → ((number offset : ℕ) → IsRefusedAt text number offset → ⊥)
-    → (due : Status) → IsDue text due → due ≡ Source NotYet
-due_not_yet text program short untaken only unrefused Done is = absurd (untaken (subst IsSerialMain (sym (only is.0 is.1.1.0)) is.1.1.1))
-due_not_yet text program short untaken only unrefused (Trap kind node) is = absurd (untaken (subst IsSerialMain (sym (only is.0 is.1.1.0)) is.1.1.1))
-due_not_yet text program short untaken only unrefused (Source TooLong) is = absurd (omega (arith, is))
-due_not_yet text program short untaken only unrefused (Source (Read number offset)) is = absurd (unrefused number offset is.1)
-due_not_yet text program short untaken only unrefused (Source NotYet) is = refl
-due_not_yet text program short untaken only unrefused Words is = absurd is
-due_not_yet text program short untaken only unrefused ReadFault is = absurd is
-due_not_yet text program short untaken only unrefused WriteFault is = absurd is
-due_not_yet text program short untaken only unrefused Memory is = absurd is
-
--- a source that spells no program
-due_read : (text : List ℕ) (number offset : ℕ) → length text ≤ 1048576 → ((program : Program) → Spells text program → ⊥) → ((other other_offset : ℕ) → IsRefusedAt text other other_offset → (number ≡ other) × (offset ≡ other_offset))
-    → (due : Status) → IsDue text due → due ≡ Source (Read number offset)
-due_read text number offset short none once Done is = absurd (none is.0 is.1.1.0)
-due_read text number offset short none once (Trap kind node) is = absurd (none is.0 is.1.1.0)
-due_read text number offset short none once (Source TooLong) is = absurd (omega (arith, is))
-due_read text number offset short none once (Source (Read other other_offset)) is =
-    let same = once other other_offset is.1 in
-    ap (λ n. Source (Read n other_offset)) (sym same.0) ∙ ap (λ o. Source (Read number o)) (sym same.1)
-due_read text number offset short none once (Source NotYet) is = absurd (none is.1.0 is.1.1)
-due_read text number offset short none once Words is = absurd is
-due_read text number offset short none once ReadFault is = absurd is
-due_read text number offset short none once WriteFault is = absurd is
-due_read text number offset short none once Memory is = absurd is
-
-same_refusal : (number other offset place : ℕ) (kind : Kind) → other ≡ kind_number kind → (read.At number offset ≡ read.At (kind_number kind) place) ⊎ (read.At number offset ≡ read.Memory) → (number ≡ other) × (offset ≡ place)
-same_refusal number other offset place kind is (inl same) = (let e : number ≡ kind_number kind = cc in e ∙ sym is, cc)
-same_refusal number other offset place kind is (inr memory) = (cc, cc)
-
--- ---- how a text within the limit was read
-
-module _ (text : List ℕ) (short : length text ≤ 1048576) where
-  module _ (program : Program) (spelled : Spells text program) (small : program_size program ≤ 2 * length text) (only : (other : Program) → Spells text other → program ≡ other)
-      (unrefused : (kind : Kind) (offset : ℕ) → IsRefusal text kind offset → ⊥) where
-    not_refused : (number offset : ℕ) → IsRefusedAt text number offset → ⊥
-    not_refused number offset refused = unrefused refused.0 offset refused.2
-
-    none_refused : IsSerialMain program → (refusal : SourceRefusal) → IsDue text (Source refusal) → ⊥
-    none_refused taken TooLong is = omega (arith, is)
-    none_refused taken (Read number offset) is = not_refused number offset is.1
-    none_refused taken NotYet is = is.1.2 (subst IsSerialMain (only is.1.0 is.1.1) taken)
-
-    pub reading_taken : IsSerialMain program → IsReading text (Ok program)
-    reading_taken taken = record {
-      read = ((short, (spelled, taken)), omega arith);
-      only = λ other accepted. only other accepted.1.0;
-      refused = tt;
-      due = λ _ _. tt;
-      unrefused = none_refused taken;
-    }
-
-    pub reading_untaken : (IsSerialMain program → ⊥) → IsReading text (Err (Source NotYet))
-    reading_untaken untaken = record {
-      read = tt;
-      only = λ other accepted. untaken (subst IsSerialMain (sym (only other accepted.1.0)) accepted.1.1);
-      refused = (short, (program, spelled, untaken));
-      due = due_not_yet text program short untaken only not_refused;
-      unrefused = λ _ _. tt;
-    }
-
-  reading_refused : (number offset : ℕ) → IsRefusedAt text number offset → ((program : Program) → Spells text program → read.At number offset ≡ read.Memory)
-      → ((kind : Kind) (place : ℕ) → IsRefusal text kind place → (read.At number offset ≡ read.At (kind_number kind) place) ⊎ (read.At number offset ≡ read.Memory)) → IsReading text (Err (Source (Read number offset)))
-  reading_refused number offset refused only exact =
-      let none = λ (program : Program) (spelled : Spells text program). let memory = only program spelled in let no : ⊥ = cc in no in
-      record {
-        read = tt;
-        only = λ program accepted. none program accepted.1.0;
-        refused = (short, refused);
-        due = due_read text number offset short none (λ other place again. same_refusal number other offset place again.0 again.1 (exact again.0 place again.2));
-        unrefused = λ _ _. tt;
-      }
-
-  -- the reader refused it so
-  pub reading_of_refusal : (refusal : ReadRefusal) (number offset : ℕ) → refusal ≡ read.At number offset → ((program : Program) → Spells text program → refusal ≡ read.Memory) → IsReason text refusal
-      → ((kind : Kind) (place : ℕ) → IsRefusal text kind place → (refusal ≡ read.At (kind_number kind) place) ⊎ (refusal ≡ read.Memory)) → IsReading text (Err (Source (Read number offset)))
-  reading_of_refusal refusal number offset is only reason exact =
-      reading_refused number offset (subst (IsReason text) is reason) (λ program spelled. sym is ∙ only program spelled)
-      (λ kind place refused. subst (λ r. (r ≡ read.At (kind_number kind) place) ⊎ (r ≡ read.Memory)) is (exact kind place refused))
-
-  pub reading_unread : IsReading text (Err Memory)
-  reading_unread = record { read = tt; only = λ _ _. tt; refused = tt; due = λ _ _. tt; unrefused = λ _ _. tt }
-
 -- those before the last are some where all are
 pub front_some : (pieces later : List (List ℕ)) → AreSome (pieces ++ later) → AreSome pieces
 front_some [] later some = tt
@@ -160,144 +184,141 @@ front_some (piece ∷ pieces) later some = (some.0, front_some pieces later some
 
 module _ {S : Type 0} (texts : Option Texts) (gave : S → List ℕ → ℕ → ℕ → List ℕ → S → Type 0) (failed : S → List ℕ → ℕ → ℕ → S → Type 0) (file : List ℕ) (old new : S) (read_failed : Type 0) where
   -- a text within the limit was given whole
-  some_of_whole : (text : List ℕ) → GaveWhole gave file old new text → length text ≤ 1048576 → GaveSome gave file old new
-  some_of_whole text whole short = record { pieces = whole.pieces; last = []; some = whole.some; calls = whole.calls; within = subst (λ bytes. length bytes ≤ 1048576) whole.same short }
+  some_of_whole : (text : List ℕ) → ReadsWhole texts gave file old new text → GaveSome gave file old new
+  some_of_whole text whole =
+      record { pieces = whole.calls.pieces; last = []; some = whole.calls.some; calls = whole.calls.calls; within = subst (λ bytes. length bytes ≤ 1048576) whole.calls.same whole.short }
 
   -- the shelf failed
-  pub source_failed : read_failed → GaveUp gave failed file old new → (text : List ℕ) × IsSource texts gave failed file old new read_failed text (Err ReadFault)
-  source_failed fault calls =
-      (told_or texts file [], record { told = told_or_is texts file []; calls = calls; read = tt; only = λ _ _. fault; refused = fault; due = λ _ _. fault; unrefused = λ _ _. tt })
+  pub source_failed : read_failed → GaveUp gave failed file old new → (text : List ℕ) × StopsReading texts gave failed file old new read_failed text ReadFault
+  source_failed fault calls = (told_or texts file [], record { told = told_or_is texts file []; calls = calls; cause = fault })
 
   -- memory ran out before the text was known
-  pub source_unread : GaveSome gave file old new → (text : List ℕ) × IsSource texts gave failed file old new read_failed text (Err Memory)
-  source_unread calls =
-      (told_or texts file [], record { told = told_or_is texts file []; calls = calls; read = tt; only = λ _ _. tt; refused = tt; due = λ _ _. tt; unrefused = λ _ _. tt })
+  pub source_unread : GaveSome gave file old new → (text : List ℕ) × StopsReading texts gave failed file old new read_failed text Memory
+  source_unread calls = (told_or texts file [], record { told = told_or_is texts file []; calls = calls; cause = tt })
 
   pub source_too_long : (pieces : List (List ℕ)) (last : List ℕ) → AreSome (pieces ++ last ∷ []) → Reads gave file old 0 (pieces ++ last ∷ []) new → length (joined pieces) ≤ 1048576 → 1048576 < length (joined (pieces ++ last ∷ []))
       → IfSome texts (λ held. IsSomeAnd (map.get held file) (λ text. 1048576 < length text))
-      → (text : List ℕ) × IsSource texts gave failed file old new read_failed text (Err (Source TooLong))
+      → (text : List ℕ) × StopsReading texts gave failed file old new read_failed text (Source source.TooLong)
   source_too_long pieces last some calls within long told =
       let text = told_or texts file (joined (pieces ++ last ∷ [])) in
-      let more = long_text texts file (joined (pieces ++ last ∷ [])) 1048576 long told in (
-        text,
-        record {
-          told = more.1;
-          calls = record { pieces = pieces; last = last; some = some; calls = calls; within = within; long = long; same = more.2 };
-          read = tt;
-          only = λ program accepted. absurd (omega (arith, more.0, accepted.0));
-          refused = more.0;
-          due = due_too_long text more.0;
-          unrefused = λ _ _. tt;
-        },
-      )
+      let more = long_text texts file (joined (pieces ++ last ∷ [])) 1048576 long told in
+      (text, record { told = more.1; calls = record { pieces = pieces; last = last; some = some; calls = calls; within = within; long = long; same = more.2 }; cause = more.0 })
 
-  -- the text was read whole
-  pub source_read : (text : List ℕ) (result : Result Program Status) → length text ≤ 1048576 → IsHeld texts file text → GaveWhole gave file old new text → IsReading text result → IsSource texts gave failed file old new read_failed text result
-  source_read text (Ok program) short told calls reading = record { told = told; calls = calls; read = reading.read; only = reading.only; refused = tt; due = λ _ _. tt; unrefused = reading.unrefused }
-  source_read text (Err (Source TooLong)) short told calls reading = absurd (omega (arith, reading.refused))
-  source_read text (Err (Source (Read number offset))) short told calls reading = record { told = told; calls = calls; read = tt; only = λ program accepted. reading.only program accepted; refused = reading.refused; due = reading.due; unrefused = λ _ _. tt }
-  source_read text (Err (Source NotYet)) short told calls reading = record { told = told; calls = calls; read = tt; only = λ program accepted. reading.only program accepted; refused = reading.refused; due = reading.due; unrefused = λ _ _. tt }
-  source_read text (Err Memory) short told calls reading = record {
-    told = text_of_held texts file text told;
-    calls = some_of_whole text calls short;
-    read = tt;
-    only = λ _ _. tt;
-    refused = tt;
-    due = λ _ _. tt;
-    unrefused = λ _ _. tt;
-  }
-  source_read text (Err Done) short told calls reading = absurd reading.refused
-  source_read text (Err Words) short told calls reading = absurd reading.refused
-  source_read text (Err ReadFault) short told calls reading = absurd reading.refused
-  source_read text (Err WriteFault) short told calls reading = absurd reading.refused
-  source_read text (Err (Trap kind node)) short told calls reading = absurd reading.refused
+  module _ (write_failed : Type 0) (written cut_short : List ℕ → Type 0) (command : Command) (text : List ℕ) where
+    abbrev Ends : Status → Type 0
+    Ends = IsRun texts gave failed file old new read_failed write_failed written cut_short command text
 
-  module _ (write_failed : Type 0) (written cut_short : List ℕ → Type 0) (text : List ℕ) where
-    -- the source was not read
-    pub serial_unread : (status : Status) → IsSource texts gave failed file old new read_failed text (Err status) → IsSerial texts gave failed file old new read_failed write_failed written cut_short text status
-    serial_unread (Source TooLong) source =
-        record { told = source.told; calls = source.calls; cause = source.refused; due = source.due; accepted = λ _ _ program accepted. source.only program accepted; output = λ done. cc; unwritten = λ unwritten. cc }
-    serial_unread (Source (Read number offset)) source =
-        record { told = source.told; calls = source.calls; cause = source.refused; due = source.due; accepted = λ _ _ program accepted. source.only program accepted; output = λ done. cc; unwritten = λ unwritten. cc }
-    serial_unread (Source NotYet) source =
-        record { told = source.told; calls = source.calls; cause = source.refused; due = source.due; accepted = λ _ _ program accepted. source.only program accepted; output = λ done. cc; unwritten = λ unwritten. cc }
-    serial_unread ReadFault source =
-        record { told = source.told; calls = source.calls; cause = source.refused; due = source.due; accepted = λ unfailed _ program accepted. absurd (unfailed source.refused); output = λ done. cc; unwritten = λ unwritten. cc }
-    serial_unread Memory source =
-        record { told = source.told; calls = source.calls; cause = tt; due = λ _ _. tt; accepted = λ _ _ _ _. tt; output = λ done. cc; unwritten = λ unwritten. cc }
-    serial_unread Done source = absurd source.refused
-    serial_unread Words source = absurd source.refused
-    serial_unread WriteFault source = absurd source.refused
-    serial_unread (Trap kind node) source = absurd source.refused
+    -- no text within the limit was read
+    pub run_unread : (status : Status) → StopsReading texts gave failed file old new read_failed text status → Ends status
+    run_unread (Source source.TooLong) stops = record {
+      told = stops.told;
+      calls = stops.calls;
+      cause = stops.cause;
+      due = λ due is. sym (due_too_long command text stops.cause due is);
+      accepted = λ _ _ program accepted. absurd (omega (arith, stops.cause, accepted.0.0));
+      output = λ done. cc;
+      unwritten = λ unwritten. cc;
+    }
+    run_unread ReadFault stops = record {
+      told = stops.told;
+      calls = stops.calls;
+      cause = stops.cause;
+      due = λ _ _. stops.cause;
+      accepted = λ unfailed _ _ _. absurd (unfailed stops.cause);
+      output = λ done. cc;
+      unwritten = λ unwritten. cc;
+    }
+    run_unread Memory stops = record { told = stops.told; calls = stops.calls; cause = tt; due = λ _ _. tt; accepted = λ _ _ _ _. tt; output = λ done. cc; unwritten = λ unwritten. cc }
+    run_unread (Source (source.Read number offset)) stops = absurd stops.cause
+    run_unread (Source (source.Check kind place)) stops = absurd stops.cause
+    run_unread (Source source.NotYet) stops = absurd stops.cause
+    run_unread Done stops = absurd stops.cause
+    run_unread Words stops = absurd stops.cause
+    run_unread WriteFault stops = absurd stops.cause
+    run_unread (Trap kind node) stops = absurd stops.cause
 
-    module _ (program : Program) (source : IsSource texts gave failed file old new read_failed text (Ok program)) where
-      -- the program trapped, or memory ran out as it ran
-      pub serial_stopped : (status : Status) → StopsWith program status → IsSerial texts gave failed file old new read_failed write_failed written cut_short text status
-      serial_stopped (Trap kind node) stops = record {
-        told = source.told;
-        calls = source.calls;
-        cause = (program, source.read.0, stops.0, stops.1);
-        due = due_end text program source.unrefused source.only (Trap kind node) (λ finished. cc) (λ other trapped. cc);
-        accepted = λ _ _ _ _. tt;
+    module _ (whole : ReadsWhole texts gave file old new text) where
+      unless_memory : {P : Type 0} (status : Status) → ¬ (status ≡ Memory) → P ⊎ (status ≡ Memory) → P
+      unless_memory status other (inl p) = p
+      unless_memory status other (inr memory) = absurd (other memory)
+
+      -- nothing was made of the text
+      pub run_stopped : (status : Status) → IsOutcome command text (Err status) → Ends status
+      run_stopped (Source (source.Read number offset)) outcome = record {
+        told = whole.told;
+        calls = whole.calls;
+        cause = unless_memory (Source (source.Read number offset)) (λ e. cc) outcome.cause;
+        due = λ due is. unless_memory (Source (source.Read number offset)) (λ e. cc) (outcome.due due is);
+        accepted = λ _ _. outcome.accepted;
         output = λ done. cc;
         unwritten = λ unwritten. cc;
       }
-      serial_stopped Memory stops = record {
-        told = text_of_held texts file text source.told;
-        calls = some_of_whole text source.calls source.read.0.0;
+      run_stopped (Source (source.Check kind place)) outcome = record {
+        told = whole.told;
+        calls = whole.calls;
+        cause = unless_memory (Source (source.Check kind place)) (λ e. cc) outcome.cause;
+        due = λ due is. unless_memory (Source (source.Check kind place)) (λ e. cc) (outcome.due due is);
+        accepted = λ _ _. outcome.accepted;
+        output = λ done. cc;
+        unwritten = λ unwritten. cc;
+      }
+      run_stopped (Source source.NotYet) outcome = record {
+        told = whole.told;
+        calls = whole.calls;
+        cause = unless_memory (Source source.NotYet) (λ e. cc) outcome.cause;
+        due = λ due is. unless_memory (Source source.NotYet) (λ e. cc) (outcome.due due is);
+        accepted = λ _ _. outcome.accepted;
+        output = λ done. cc;
+        unwritten = λ unwritten. cc;
+      }
+      run_stopped (Trap kind node) outcome = record {
+        told = whole.told;
+        calls = whole.calls;
+        cause = unless_memory (Trap kind node) (λ e. cc) outcome.cause;
+        due = λ due is. unless_memory (Trap kind node) (λ e. cc) (outcome.due due is);
+        accepted = λ _ _. outcome.accepted;
+        output = λ done. cc;
+        unwritten = λ unwritten. cc;
+      }
+      run_stopped Memory outcome = record {
+        told = text_of_held texts file text whole.told;
+        calls = some_of_whole text whole;
         cause = tt;
         due = λ _ _. tt;
         accepted = λ _ _ _ _. tt;
         output = λ done. cc;
         unwritten = λ unwritten. cc;
       }
-      serial_stopped Done stops = absurd stops
-      serial_stopped Words stops = absurd stops
-      serial_stopped (Source refusal) stops = absurd stops
-      serial_stopped ReadFault stops = absurd stops
-      serial_stopped WriteFault stops = absurd stops
+      run_stopped (Source source.TooLong) outcome = let long = unless_memory (Source source.TooLong) (λ e. cc) outcome.cause in absurd (omega (arith, long, whole.short))
+      run_stopped Done outcome = absurd (outcome.stops refl)
+      run_stopped Words outcome = absurd ((unless_memory Words (λ e. cc) outcome.cause).2)
+      run_stopped ReadFault outcome = absurd ((unless_memory ReadFault (λ e. cc) outcome.cause).2)
+      run_stopped WriteFault outcome = absurd ((unless_memory WriteFault (λ e. cc) outcome.cause).2)
 
-      -- the program finished, and what it prints was written
-      pub serial_done : (meaning program).end ≡ Finished → written (lines (meaning program).output) → IsSerial texts gave failed file old new read_failed write_failed written cut_short text Done
-      serial_done finished put = record {
-        told = source.told;
-        calls = source.calls;
-        cause = (program, source.read.0, finished);
-        due = due_end text program source.unrefused source.only Done (λ _. refl) (λ kind trapped. cc);
-        accepted = λ _ _ _ _. tt;
-        output = λ _ other spelled. subst (λ p. written (lines (meaning p).output)) (source.only other spelled) put;
-        unwritten = λ unwritten. cc;
-      }
+      module _ (printed : List ℕ) (outcome : IsOutcome command text (Ok printed)) where
+        is_due : IsDue command text Done
+        is_due = let prints = outcome.cause in (prints.0, prints.1.0, (prints.1.1, (printed, prints.2)))
 
-      -- the program finished, and writing what it prints failed
-      pub serial_unwritten : (meaning program).end ≡ Finished → write_failed → cut_short (lines (meaning program).output) → IsSerial texts gave failed file old new read_failed write_failed written cut_short text WriteFault
-      serial_unwritten finished fault short = record {
-        told = source.told;
-        calls = source.calls;
-        cause = (fault, (program, source.read.0, finished));
-        due = λ due is. (fault, due_end text program source.unrefused source.only Done (λ _. refl) (λ kind trapped. cc) due is);
-        accepted = λ _ unfailed _ _. absurd (unfailed fault);
-        output = λ done. cc;
-        unwritten = λ _ other spelled. subst (λ p. cut_short (lines (meaning p).output)) (source.only other spelled) short;
-      }
+        -- what was made of it was written
+        pub run_done : written printed → Ends Done
+        run_done put = record {
+          told = whole.told;
+          calls = whole.calls;
+          cause = is_due;
+          due = λ due is. sym (outcome.due due is);
+          accepted = λ _ _ _ _. tt;
+          output = λ _ other prints. subst written (outcome.only other prints) put;
+          unwritten = λ unwritten. cc;
+        }
 
-    -- the status that is told for another
-    pub serial_told : (status told : Status) → IsToldAs status told → IsSerial texts gave failed file old new read_failed write_failed written cut_short text status → IsSerial texts gave failed file old new read_failed write_failed written cut_short text told
-    serial_told (Source (Read number offset)) told (inl same) serial = subst (IsSerial texts gave failed file old new read_failed write_failed written cut_short text) (sym same) serial
-    serial_told (Source (Read number offset)) told (inr memory) serial = subst (IsSerial texts gave failed file old new read_failed write_failed written cut_short text) (sym memory) (record {
-      told = text_of_held texts file text serial.told;
-      calls = some_of_whole text serial.calls serial.cause.0;
-      cause = tt;
-      due = λ _ _. tt;
-      accepted = λ _ _ _ _. tt;
-      output = λ done. cc;
-      unwritten = λ unwritten. cc;
-    })
-    serial_told (Source TooLong) told same serial = subst (IsSerial texts gave failed file old new read_failed write_failed written cut_short text) (sym same) serial
-    serial_told (Source NotYet) told same serial = subst (IsSerial texts gave failed file old new read_failed write_failed written cut_short text) (sym same) serial
-    serial_told Done told same serial = subst (IsSerial texts gave failed file old new read_failed write_failed written cut_short text) (sym same) serial
-    serial_told Words told same serial = subst (IsSerial texts gave failed file old new read_failed write_failed written cut_short text) (sym same) serial
-    serial_told ReadFault told same serial = subst (IsSerial texts gave failed file old new read_failed write_failed written cut_short text) (sym same) serial
-    serial_told WriteFault told same serial = subst (IsSerial texts gave failed file old new read_failed write_failed written cut_short text) (sym same) serial
-    serial_told (Trap kind node) told same serial = subst (IsSerial texts gave failed file old new read_failed write_failed written cut_short text) (sym same) serial
-    serial_told Memory told same serial = subst (IsSerial texts gave failed file old new read_failed write_failed written cut_short text) (sym same) serial
+        -- writing it failed
+        pub run_unwritten : write_failed → cut_short printed → Ends WriteFault
+        run_unwritten fault short = record {
+          told = whole.told;
+          calls = whole.calls;
+          cause = (fault, is_due);
+          due = λ due is. (fault, outcome.due due is);
+          accepted = λ _ unfailed _ _. absurd (unfailed fault);
+          output = λ done. cc;
+          unwritten = λ _ other prints. subst cut_short (outcome.only other prints) short;
+        }

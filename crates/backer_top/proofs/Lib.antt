@@ -1,3 +1,4 @@
+pub mod Dues
 pub mod Ends
 pub mod Pieces
 pub mod Slots

@@ -1,6 +1,7 @@
 -- A program that the walk takes comes to no part that it does not take, and spends no more ticks than it has statements.
-use Rattle.std.proofs.Common.{◌≡◌, ◌≢◌, ℕ, zero, suc, ◌+◌, ◌<◌, ◌≤◌, ℤ, pos, ◌+ℤ◌, ◌-ℤ◌, ◌*ℤ◌, Bool, true, false, ◌&&◌, Result, Ok, Err, List, [], ◌∷◌, ◌++◌, sum_by, ◌*◌, refl, sym, ap, ◌∙◌, subst, arith, cond}
+use Rattle.std.proofs.Common.{◌≡◌, ◌≢◌, ℕ, zero, suc, ◌+◌, ◌<◌, ◌≤◌, ℤ, pos, ◌+ℤ◌, ◌-ℤ◌, ◌*ℤ◌, Bool, true, false, ◌&&◌, Result, Ok, Err, List, [], ◌∷◌, sum_by, ◌*◌, refl, sym, ap, ◌∙◌, subst, arith, cond}
 use Rattle.std.proofs.lemmas.List.Sums.{sum_by-cons}
+use Rattle.std.specs.List.{list_all}
 use Rattle.cilk_tree.specs.declared.tree.BinaryOp.{BinaryOp}
 use Rattle.cilk_tree.specs.declared.tree.BinaryOp.TheVariants as op
 use Rattle.cilk_tree.specs.declared.tree.Expr.{Expr, roll-Expr, map-Expr, fold-roll-Expr, ind-Expr}
@@ -14,7 +15,7 @@ use Rattle.cilk_tree.specs.declared.tree.Stmt.TheVariants.{rolls-Print}
 use Rattle.cilk_tree.specs.declared.tree.Stmt.TheOpen as step
 use Rattle.cilk_tree.specs.Size.{expression_size_here, expression_size, statement_size_here, statement_size, function_size, program_size}
 use Rattle.cilk_tree.specs.declared.tree.Stmt.TheVariants as stmt
-use Rattle.backer_top.specs.SerialMain.{is_among, is_serial_operator, reads_only_here, reads_only, is_serial_statement, is_serial_body, is_serial_source, IsSerialMain}
+use Rattle.backer_top.specs.SerialMain.{is_serial_operator, reads_only_here, reads_only, is_serial_statement, is_serial_source, IsSerialMain}
 use Rattle.backer_top.specs.declared.status.TrapKind.TheVariants.{Overflow}
 use Rattle.backer_top.specs.declared.walk.Stop.{Stop}
 use Rattle.backer_top.specs.declared.walk.Stop.TheVariants.{Trap, Untaken}
@@ -27,8 +28,8 @@ both_true : (a b : Bool) → (a && b) ≡ true → (a ≡ true) × (b ≡ true)
 both_true true b h = (refl, h)
 both_true false b h = absurd (let f : false ≡ true = h in cc)
 
-abbrev IsTaken : List (List ℕ) → State → Expr → Type 0
-IsTaken names state e = reads_only names e ≡ true → value_of state e ≢ Err Untaken
+abbrev IsTaken : State → Expr → Type 0
+IsTaken state e = reads_only e ≡ true → value_of state e ≢ Err Untaken
 
 exact_taken : (value : ℤ) → exact value ≢ Err Untaken
 exact_taken value = elim (fits value) as (λ b. cond b (Ok value) (Err (Trap Overflow)) ≢ Err Untaken) [ true ↦ λ e. cc | false ↦ λ e. cc ]
@@ -54,24 +55,24 @@ both_taken f (Ok x) (Err stop) each l r = r
 both_taken f (Err stop) right each l r = l
 
 -- one level, where each operand is taken
-level_taken : (names : List (List ℕ)) (state : State) (y : Expr-F ((e : Expr) × IsTaken names state e)) → IsTaken names state (roll-Expr (map-Expr _ Expr (λ e. e.0) y))
-level_taken names state (layer.Number value) reads e =
+level_taken : (state : State) (y : Expr-F ((e : Expr) × IsTaken state e)) → IsTaken state (roll-Expr (map-Expr _ Expr (λ e. e.0) y))
+level_taken state (layer.Number value) reads e =
     absurd (let f : Ok value ≡ Err Untaken = sym (fold-roll-Expr (Result ℤ Stop) (value_here state) (layer.Number value)) ∙ e in cc)
-level_taken names state (layer.Local name) reads e =
+level_taken state (layer.Local name) reads e =
     absurd (let f : Ok (state name) ≡ Err Untaken = sym (fold-roll-Expr (Result ℤ Stop) (value_here state) (layer.Local name)) ∙ e in cc)
-level_taken names state (layer.Get name index) reads e =
-    absurd (let f : false ≡ true = sym (fold-roll-Expr Bool (reads_only_here names) (layer.Get name index.0)) ∙ reads in cc)
-level_taken names state (layer.Unary operator operand) reads e =
-    absurd (let f : false ≡ true = sym (fold-roll-Expr Bool (reads_only_here names) (layer.Unary operator operand.0)) ∙ reads in cc)
-level_taken names state (layer.Binary operator left right) reads e =
-    let read = sym (fold-roll-Expr Bool (reads_only_here names) (layer.Binary operator left.0 right.0)) ∙ reads in
-    let outer = both_true (is_serial_operator operator && reads_only names left.0) (reads_only names right.0) read in
-    let inner = both_true (is_serial_operator operator) (reads_only names left.0) outer.0 in
+level_taken state (layer.Get name index) reads e =
+    absurd (let f : false ≡ true = sym (fold-roll-Expr Bool (reads_only_here) (layer.Get name index.0)) ∙ reads in cc)
+level_taken state (layer.Unary operator operand) reads e =
+    absurd (let f : false ≡ true = sym (fold-roll-Expr Bool (reads_only_here) (layer.Unary operator operand.0)) ∙ reads in cc)
+level_taken state (layer.Binary operator left right) reads e =
+    let read = sym (fold-roll-Expr Bool (reads_only_here) (layer.Binary operator left.0 right.0)) ∙ reads in
+    let outer = both_true (is_serial_operator operator && reads_only left.0) (reads_only right.0) read in
+    let inner = both_true (is_serial_operator operator) (reads_only left.0) outer.0 in
     both_taken (operated operator) (value_of state left.0) (value_of state right.0) (λ x y. operated_taken operator x y inner.0) (left.1 inner.1) (right.1 outer.1)
     (sym (fold-roll-Expr (Result ℤ Stop) (value_here state) (layer.Binary operator left.0 right.0)) ∙ e)
 
-pub value_taken : (names : List (List ℕ)) (state : State) (e : Expr) → IsTaken names state e
-value_taken names state = ind-Expr (IsTaken names state) (λ x y is. subst (λ z. IsTaken names state (roll-Expr z)) is (level_taken names state y))
+pub value_taken : (state : State) (e : Expr) → IsTaken state e
+value_taken state = ind-Expr (IsTaken state) (λ x y is. subst (λ z. IsTaken state (roll-Expr z)) is (level_taken state y))
 
 -- a run that neither spends its ticks nor comes to a part that is not taken
 abbrev IsTold : End → Type 0
@@ -104,36 +105,35 @@ main_size : (functions : List Function) → sum_by statement_size (main_body fun
 main_size [] = omega arith
 main_size (f ∷ functions) = omega (arith, sum_by-cons function_size f functions)
 
-pub run_told : (names : List (List ℕ)) (body : List Stmt) (ticks : ℕ) (state : State) → is_serial_body names body ≡ true → sum_by statement_size body ≤ 2 * ticks + 1 → IsTold (run ticks state body).end
-run_told names [] ticks state serial few = (λ e. cc, λ e. cc)
-run_told names (stmt.Declare name ∷ rest) ticks state serial few =
-    let parts = both_true (is_serial_statement names (stmt.Declare name)) (is_serial_body (names ++ name ∷ []) rest) serial in
-    run_told (names ++ name ∷ []) rest ticks (assigned state name (pos 0)) parts.1 (omega (arith, few, sum_by-cons statement_size (stmt.Declare name) rest))
-run_told names (stmt.Assign name value ∷ rest) ticks state serial few =
-    let parts = both_true (is_serial_statement names (stmt.Assign name value)) (is_serial_body names rest) serial in
-    let reads = (both_true (is_among names name) (reads_only names value) parts.0).1 in
-    given_told (value_of state value) _ (value_taken names state value reads) (λ v. run_told names rest ticks (assigned state name v) parts.1 (omega (arith, few, sum_by-cons statement_size (stmt.Assign name value) rest)))
-run_told names (stmt.Print value ∷ rest) ticks state serial few =
-    let parts = both_true (is_serial_statement names (stmt.Print value)) (is_serial_body names rest) serial in
+pub run_told : (body : List Stmt) (ticks : ℕ) (state : State) → list_all is_serial_statement body ≡ true → sum_by statement_size body ≤ 2 * ticks + 1 → IsTold (run ticks state body).end
+run_told [] ticks state serial few = (λ e. cc, λ e. cc)
+run_told (stmt.Declare name ∷ rest) ticks state serial few =
+    let parts = both_true true (list_all is_serial_statement rest) serial in
+    run_told rest ticks (assigned state name (pos 0)) parts.1 (omega (arith, few, sum_by-cons statement_size (stmt.Declare name) rest))
+run_told (stmt.Assign name value ∷ rest) ticks state serial few =
+    let parts = both_true (reads_only value) (list_all is_serial_statement rest) serial in
+    given_told (value_of state value) _ (value_taken state value parts.0) (λ v. run_told rest ticks (assigned state name v) parts.1 (omega (arith, few, sum_by-cons statement_size (stmt.Assign name value) rest)))
+run_told (stmt.Print value ∷ rest) ticks state serial few =
+    let parts = both_true (reads_only value) (list_all is_serial_statement rest) serial in
     let two = print_size value in
     let size = sum_by-cons statement_size (stmt.Print value) rest in
-    given_told (value_of state value) _ (value_taken names state value parts.0)
-    (λ v. printing_told ticks v _ (omega (arith, few, two, size)) (λ left e. run_told names rest left state parts.1 (omega (arith, few, two, size))))
-run_told names (stmt.Put name index value ∷ rest) ticks state serial few = absurd (let f : false ≡ true = serial in cc)
-run_told names (stmt.If' a b c d e ∷ rest) ticks state serial few = absurd (let f : false ≡ true = serial in cc)
-run_told names (stmt.While' a b c ∷ rest) ticks state serial few = absurd (let f : false ≡ true = serial in cc)
-run_told names (stmt.Block' a b ∷ rest) ticks state serial few = absurd (let f : false ≡ true = serial in cc)
-run_told names (stmt.Call target name arguments ∷ rest) ticks state serial few = absurd (let f : false ≡ true = serial in cc)
-run_told names (stmt.Spawn target name arguments ∷ rest) ticks state serial few = absurd (let f : false ≡ true = serial in cc)
-run_told names (stmt.Sync ∷ rest) ticks state serial few = absurd (let f : false ≡ true = serial in cc)
-run_told names (stmt.Return value ∷ rest) ticks state serial few = absurd (let f : false ≡ true = serial in cc)
+    given_told (value_of state value) _ (value_taken state value parts.0)
+    (λ v. printing_told ticks v _ (omega (arith, few, two, size)) (λ left e. run_told rest left state parts.1 (omega (arith, few, two, size))))
+run_told (stmt.Put name index value ∷ rest) ticks state serial few = absurd (let f : false ≡ true = serial in cc)
+run_told (stmt.If' a b c d e ∷ rest) ticks state serial few = absurd (let f : false ≡ true = serial in cc)
+run_told (stmt.While' a b c ∷ rest) ticks state serial few = absurd (let f : false ≡ true = serial in cc)
+run_told (stmt.Block' a b ∷ rest) ticks state serial few = absurd (let f : false ≡ true = serial in cc)
+run_told (stmt.Call target name arguments ∷ rest) ticks state serial few = absurd (let f : false ≡ true = serial in cc)
+run_told (stmt.Spawn target name arguments ∷ rest) ticks state serial few = absurd (let f : false ≡ true = serial in cc)
+run_told (stmt.Sync ∷ rest) ticks state serial few = absurd (let f : false ≡ true = serial in cc)
+run_told (stmt.Return value ∷ rest) ticks state serial few = absurd (let f : false ≡ true = serial in cc)
 
-serial_body : (shared : List Shared) (functions : List Function) → is_serial_source shared functions ≡ true → is_serial_body [] (main_body functions) ≡ true
-serial_body [] (f ∷ []) serial = (both_true _ (is_serial_body [] f.body) serial).1
+serial_body : (shared : List Shared) (functions : List Function) → is_serial_source shared functions ≡ true → list_all is_serial_statement (main_body functions) ≡ true
+serial_body [] (f ∷ []) serial = (both_true _ (list_all is_serial_statement f.body) serial).1
 serial_body [] [] serial = absurd (let f : false ≡ true = serial in cc)
 serial_body [] (f ∷ g ∷ others) serial = absurd (let f : false ≡ true = serial in cc)
 serial_body (s ∷ shared) functions serial = absurd (let f : false ≡ true = serial in cc)
 
 -- the elision of a program that the walk takes finishes or traps
 pub elision_told : (program : Program) (ticks : ℕ) → IsSerialMain program → program_size program ≤ 2 * ticks → IsTold (elision program ticks).end
-elision_told program ticks serial few = run_told [] (main_body program.functions) ticks start (serial_body program.shared program.functions serial) (omega (arith, main_size program.functions))
+elision_told program ticks serial few = run_told (main_body program.functions) ticks start (serial_body program.shared program.functions serial) (omega (arith, main_size program.functions))

@@ -1,7 +1,11 @@
 -- The numbers and the lines of the statuses.
-use Rattle.std.specs.Prelude.{◌≡◌, ◌⊎◌, ℕ, List, [], ◌∷◌, ◌++◌, codes}
+use Rattle.std.specs.Prelude.{◌≡◌, ℕ, List, [], ◌∷◌, ◌++◌, codes, slice_get}
 use Rattle.std.specs.Fmt.{decimal}
-use Rattle.backer_top.specs.declared.status.SourceRefusal.TheVariants.{TooLong, Read, NotYet}
+use Rattle.std.specs.Option.{option_map_or}
+use Rattle.cilk_tree.specs.declared.place.CheckPlace.{CheckPlace}
+use Rattle.cilk_tree.specs.declared.place.CheckPlace.TheVariants.{Shared, Function, Statement, Whole}
+use Rattle.cilk_tree.specs.declared.tree.Program.{Program}
+use Rattle.backer_top.specs.declared.status.SourceRefusal.TheVariants.{TooLong, Read, Check, NotYet}
 use Rattle.backer_top.specs.declared.status.TrapKind.{TrapKind}
 use Rattle.backer_top.specs.declared.status.TrapKind.TheVariants.{Overflow}
 use Rattle.backer_top.specs.declared.status.Status.{Status}
@@ -19,37 +23,50 @@ status_number Memory = 8
 abbrev pub trap_name : TrapKind → List ℕ
 trap_name Overflow = codes "Overflow"
 
--- what a status says, after the program's name
-abbrev pub error_words : Status → List ℕ
-error_words Done = []
-error_words Words = codes "words refused"
-error_words (Source TooLong) = codes "source refused: too long"
-error_words (Source (Read kind offset)) = codes "source refused: " ++ decimal kind ++ codes " at byte " ++ decimal offset
-error_words (Source NotYet) = codes "source refused: not yet"
-error_words ReadFault = codes "read failed"
-error_words WriteFault = codes "write failed"
-error_words (Trap kind node) = codes "trap " ++ trap_name kind ++ codes " on node " ++ decimal node
-error_words Memory = codes "out of memory"
+-- the name of the array of this number
+abbrev pub array_name : Program → ℕ → List ℕ
+array_name program number = option_map_or (λ array. array.name) (slice_get program.shared number) []
+
+-- the name of the function of this number
+abbrev pub function_name : Program → ℕ → List ℕ
+function_name program number = option_map_or (λ function. function.name) (slice_get program.functions number) []
+
+abbrev pub function_words : Program → ℕ → List ℕ
+function_words program function = codes "function " ++ function_name program function
+
+abbrev pub statement_words : ℕ → List ℕ
+statement_words statement = codes " statement " ++ decimal statement
+
+-- a place of a program in words
+abbrev pub place_words : Program → CheckPlace → List ℕ
+place_words program (Shared array) = codes "array " ++ array_name program array
+place_words program (Function function) = function_words program function
+place_words program (Statement function statement) = function_words program function ++ statement_words statement
+place_words program Whole = codes "program"
+
+-- what a status says, after the name of `backer`; a rule that is broken is told with the names of the source's program
+abbrev pub error_words : Program → Status → List ℕ
+error_words program Done = []
+error_words program Words = codes "words refused"
+error_words program (Source TooLong) = codes "source refused: too long"
+error_words program (Source (Read kind offset)) = codes "source refused: " ++ decimal kind ++ codes " at byte " ++ decimal offset
+error_words program (Source (Check kind place)) = codes "source refused: " ++ decimal kind ++ codes " in " ++ place_words program place
+error_words program (Source NotYet) = codes "source refused: not yet"
+error_words program ReadFault = codes "read failed"
+error_words program WriteFault = codes "write failed"
+error_words program (Trap kind node) = codes "trap " ++ trap_name kind ++ codes " on node " ++ decimal node
+error_words program Memory = codes "out of memory"
 
 -- the line that tells a status, ended by byte 10; none tells Done
-abbrev pub error_line : Status → List ℕ
-error_line Done = []
-error_line status = codes "backer: " ++ error_words status ++ 10 ∷ []
+abbrev pub error_line : Program → Status → List ℕ
+error_line program Done = []
+error_line program status = codes "backer: " ++ error_words program status ++ 10 ∷ []
 
--- a trap is one of node 0, the only node of a serial run
-abbrev pub IsOnNode0 : Status → Type 0
-IsOnNode0 (Trap kind node) = node ≡ 0
-IsOnNode0 Done = Unit {0}
-IsOnNode0 Words = Unit {0}
-IsOnNode0 (Source refusal) = Unit {0}
-IsOnNode0 ReadFault = Unit {0}
-IsOnNode0 WriteFault = Unit {0}
-IsOnNode0 Memory = Unit {0}
-
--- its line is written out in the program: a trap's is one of node 0, and where a source was not read it has numbers
+-- its line is the same each time: one without numbers and names, or a trap on node 0
 abbrev pub HasFixedLine : Status → Type 0
-HasFixedLine (Source (Read kind offset)) = ⊥
 HasFixedLine (Source TooLong) = Unit {0}
+HasFixedLine (Source (Read kind offset)) = ⊥
+HasFixedLine (Source (Check kind place)) = ⊥
 HasFixedLine (Source NotYet) = Unit {0}
 HasFixedLine (Trap kind node) = node ≡ 0
 HasFixedLine Done = Unit {0}
@@ -57,8 +74,3 @@ HasFixedLine Words = Unit {0}
 HasFixedLine ReadFault = Unit {0}
 HasFixedLine WriteFault = Unit {0}
 HasFixedLine Memory = Unit {0}
-
--- The status that is answered for this one: itself, or Memory where no memory was there for a line with numbers.
-abbrev pub IsToldAs : Status → Status → Type 0
-IsToldAs (Source (Read kind offset)) told = (told ≡ Source (Read kind offset)) ⊎ (told ≡ Memory)
-IsToldAs status told = told ≡ status

@@ -1,9 +1,11 @@
 //! The program `backer` as one call over a shelf and two sinks.
 #![tactic(auto)]
 
+mod answer;
 mod lines;
 mod locals;
-mod names;
+mod making;
+mod serial_main;
 mod status;
 mod top;
 mod walk;

@@ -1,3 +1,5 @@
+use cilk_tree::CheckPlace;
+
 /// Why a run traps.
 #[derive(Clone, Copy, Debug, PartialEq, Eq)]
 pub enum TrapKind {
@@ -12,7 +14,9 @@ pub enum SourceRefusal {
     TooLong,
     /// It spells no program, for a reason of this number that shows at the byte of this offset.
     Read { kind: u16, offset: u64 },
-    /// It spells a program that is not run yet.
+    /// It spells a program that breaks the rule of this number at this place.
+    Check { kind: u16, place: CheckPlace },
+    /// It spells a lawful program that is not run yet.
     NotYet,
 }
 
@@ -35,6 +39,7 @@ pub enum Status {
 impl Status {
     ghost use Rattle.std.specs.Prelude.{◌≡◌};
     ghost use Rattle.backer_top.specs.Status.{status_number, error_line, HasFixedLine};
+    ghost use Rattle.cilk_tree.specs.declared.tree.Program.{Program};
 
     /// The status' number.
     pub fn number(&self) -> u8
@@ -51,17 +56,16 @@ impl Status {
         }
     }
 
-    /// The line that tells the status on `err`, none at Done. That of a source that was not read is made by
-    /// `refusal_line`.
-    pub(crate) fn line(&self) -> &'static [u8]
+    /// The line of a status that has the same one each time.
+    pub(crate) fn fixed_line(&self) -> &'static [u8]
         requires { HasFixedLine self.now }
-        ensures { result.now ≡ error_line self.now }
+        ensures { (program : Program) → result.now ≡ error_line program self.now }
     {
         match self {
             Status::Done => b"",
             Status::Words => b"backer: words refused\n",
             Status::Source(SourceRefusal::TooLong) => b"backer: source refused: too long\n",
-            Status::Source(SourceRefusal::Read { kind: _, offset: _ }) => b"",
+            Status::Source(SourceRefusal::Read { .. } | SourceRefusal::Check { .. }) => b"",
             Status::Source(SourceRefusal::NotYet) => b"backer: source refused: not yet\n",
             Status::ReadFault => b"backer: read failed\n",
             Status::WriteFault => b"backer: write failed\n",

@@ -1,31 +1,29 @@
-ghost use Rattle.std.specs.Prelude.{◌≡◌, ◌≢◌, ◌↔◌, ◌≤◌, List, ℕ, true, false, None, Some, map, length, string_bytes, IfOk, IfErr, OnErr, MatchResult};
-ghost use Rattle.backer_top.specs.SerialMain.{IsSerialMain};
-ghost use Rattle.cilk_tree.specs.Size.{program_size};
-ghost use Rattle.outside.specs.Device.{Rose};
-ghost use Rattle.backer_top.specs.Command.{file_of};
+ghost use Rattle.std.specs.Prelude.{◌≡◌, ◌≢◌, ◌↔◌, ◌≤◌, List, ℕ, true, false, None, Some, map, length, string_bytes, IfOk, IfErr};
+ghost use Rattle.backer_top.specs.declared.words.Command.{Command};
+ghost use Rattle.backer_top.specs.Command.{request_of};
+ghost use Rattle.backer_top.specs.Due.{IsOutcome, IsReading};
+ghost use Rattle.backer_top.specs.Lines.{IsLineOf, IsTelling, line_bytes};
 ghost use Rattle.backer_top.specs.Output.{IsCutShort, IsHalfTold, IsTold, IsWritten};
-ghost use Rattle.backer_top.specs.Status.{IsOnNode0, IsToldAs, error_line};
-ghost use Rattle.backer_top.specs.Serial.{IsReading, IsSerial, IsSource, Prints, StopsWith};
+ghost use Rattle.backer_top.specs.Reading.{ReadsWhole, StopsReading};
+ghost use Rattle.backer_top.specs.Run.{IsRun};
+ghost use Rattle.backer_top.specs.Status.{HasFixedLine};
+ghost use Rattle.outside.specs.Device.{Rose};
 
-use crate::lines::{lines_of, refusal_line};
-use crate::names::is_serial_main;
+use crate::answer::Answer;
+use crate::making::made;
 use crate::status::{Ended, SourceRefusal, Status};
-use crate::walk::{End, run_serial};
-use crate::words::file_word;
+use crate::words::{Command, Request, request_of};
 use crate::writing::write_all;
+use cilk_checker::{CheckRefusal, Checked, check_program};
 use cilk_reader::{ReadRefusal, read_program};
-use cilk_tree::Program;
 use outside::{Failed, Shelf, Sink, TextRefusal, read_text};
 use std::alloc::Global;
 
 /// How many bytes a source may have.
 const SOURCE_LIMIT: u64 = 1_048_576;
 
-/// How many ticks a serial run may make.
-const BUDGET: u64 = 2_000_000;
-
-/// The whole program: takes the words after its name, reads the file that they name from the shelf, runs it, and
-/// puts what it prints on `out`; at any other status but Done one line goes to `err`.
+/// The whole program: takes the words after its name, reads the file that they name from the shelf, checks its program,
+/// and puts what the command makes of it on `out`; at any other status but Done one line goes to `err`.
 pub fn backer<L: Shelf, O: Sink, E: Sink>(
     alloc: Global,
     words: &[String],
@@ -33,15 +31,17 @@ pub fn backer<L: Shelf, O: Sink, E: Sink>(
     out: &mut O,
     err: &mut E,
 ) -> Ended
-    // The words are refused exactly where they are not `serial FILE`, and then the shelf is not called.
-    ensures words { (result.status ≡ Status.Words) ↔ (file_of (map string_bytes words.now) ≡ None) }
+    // The words are refused exactly where they are no command, and then the shelf is not called.
+    ensures words { (result.status ≡ Status.Words) ↔ (request_of (map string_bytes words.now) ≡ None) }
     ensures no_call { result.status ≡ Status.Words → shelf.new ≡ shelf.old }
+    ensures words_told { result.status ≡ Status.Words → (text : List ℕ) → IsTelling E.held E.took E.failed err.old err.new text result }
 
-    // One text serves all that is said of the run.
-    ensures serial { (file : List ℕ) → file_of (map string_bytes words.now) ≡ Some file →
-        ((text : List ℕ) × IsSerial (L.texts shelf.old) L.gave L.failed file shelf.old shelf.new
+    // One text serves all that is said of a command.
+    ensures command { (command : Command) (file : List ℕ) → request_of (map string_bytes words.now) ≡ Some (command, file) →
+        ((text : List ℕ) × IsRun (L.texts shelf.old) L.gave L.failed file shelf.old shelf.new
         (Rose (L.faults shelf.old file) (L.faults shelf.new file)) (Rose (O.faults out.old) (O.faults out.new))
-        (IsWritten O.held O.took out.old out.new) (IsCutShort O.held O.took O.failed out.old out.new) text result.status) }
+        (IsWritten O.held O.took out.old out.new) (IsCutShort O.held O.took O.failed out.old out.new) command text result.status
+        × IsTelling E.held E.took E.failed err.old err.new text result) }
     ensures nothing_written { result.status ≢ Status.Done → result.status ≢ Status.WriteFault → out.new ≡ out.old }
 
     // The shelf tells the same texts, and no count of faults falls.
@@ -50,146 +50,123 @@ pub fn backer<L: Shelf, O: Sink, E: Sink>(
     ensures out_faults { O.faults out.old ≤ O.faults out.new }
     ensures err_faults { E.faults err.old ≤ E.faults err.new }
 
-    // At Done nothing is put on `err`. At any other status its line is put there, once and whole, or mute is true:
-    // then that one put failed, and a front of the line stands there.
+    // At Done nothing is put on `err`, and `mute` tells a put there that failed.
     ensures quiet { result.status ≡ Status.Done → (err.new ≡ err.old) × (result.mute ≡ false) }
-    ensures told { result.status ≢ Status.Done → result.mute ≡ false → IsTold E.held E.took err.old err.new (error_line result.status) }
-    ensures mute { result.mute ≡ true → (result.status ≢ Status.Done) × Rose (E.faults err.old) (E.faults err.new)
-        × IsHalfTold E.held E.failed err.old err.new (error_line result.status) }
+    ensures mute { result.mute ≡ true → Rose (E.faults err.old) (E.faults err.new) }
 {
-    let status = run(alloc, words, shelf, out);
-    tell(alloc, status, err)
+    let answer = run(alloc, words, shelf, out);
+    tell(&answer, err)
 }
 
 /// Takes the words apart, and does what they say.
-fn run<L: Shelf, O: Sink>(alloc: Global, words: &[String], shelf: &mut L, out: &mut O) -> Status
-    ensures words { (result ≡ Status.Words) ↔ (file_of (map string_bytes words.now) ≡ None) }
-    ensures no_call { result ≡ Status.Words → shelf.new ≡ shelf.old }
-    ensures serial { (file : List ℕ) → file_of (map string_bytes words.now) ≡ Some file →
-        ((text : List ℕ) × IsSerial (L.texts shelf.old) L.gave L.failed file shelf.old shelf.new
+fn run<L: Shelf, O: Sink>(alloc: Global, words: &[String], shelf: &mut L, out: &mut O) -> Answer
+    ensures words { (result.status ≡ Status.Words) ↔ (request_of (map string_bytes words.now) ≡ None) }
+    ensures no_call { result.status ≡ Status.Words → shelf.new ≡ shelf.old }
+    ensures words_line { result.status ≡ Status.Words → (text : List ℕ) → IsLineOf text result.status (line_bytes result.line) }
+    ensures command { (command : Command) (file : List ℕ) → request_of (map string_bytes words.now) ≡ Some (command, file) →
+        ((text : List ℕ) × IsRun (L.texts shelf.old) L.gave L.failed file shelf.old shelf.new
         (Rose (L.faults shelf.old file) (L.faults shelf.new file)) (Rose (O.faults out.old) (O.faults out.new))
-        (IsWritten O.held O.took out.old out.new) (IsCutShort O.held O.took O.failed out.old out.new) text result) }
-    ensures nothing_written { result ≢ Status.Done → result ≢ Status.WriteFault → out.new ≡ out.old }
-    ensures node { IsOnNode0 result }
+        (IsWritten O.held O.took out.old out.new) (IsCutShort O.held O.took O.failed out.old out.new) command text result.status
+        × IsLineOf text result.status (line_bytes result.line)) }
+    ensures nothing_written { result.status ≢ Status.Done → result.status ≢ Status.WriteFault → out.new ≡ out.old }
     ensures texts { L.texts shelf.new ≡ L.texts shelf.old }
     ensures shelf_faults { (name : List ℕ) → L.faults shelf.old name ≤ L.faults shelf.new name }
     ensures out_faults { O.faults out.old ≤ O.faults out.new }
 {
-    match file_word(words) {
-        Some(file) => serial(alloc, file, shelf, out),
-        None => Status::Words,
+    match request_of(words) {
+        Some(request) => perform(alloc, request, shelf, out),
+        None => Answer::of(Status::Words),
     }
 }
 
-/// Puts the line of the status on `err`, none at Done.
-fn tell<E: Sink>(alloc: Global, status: Status, err: &mut E) -> Ended
-    requires { IsOnNode0 status }
-    ensures status { IsToldAs status result.status }
+/// Puts the answer's line on `err`, none at Done.
+fn tell<E: Sink>(answer: &Answer, err: &mut E) -> Ended
+    ensures status { result.status ≡ answer.now.status }
     ensures err_faults { E.faults err.old ≤ E.faults err.new }
     ensures quiet { result.status ≡ Status.Done → (err.new ≡ err.old) × (result.mute ≡ false) }
-    ensures told { result.status ≢ Status.Done → result.mute ≡ false → IsTold E.held E.took err.old err.new (error_line result.status) }
-    ensures mute { result.mute ≡ true → (result.status ≢ Status.Done) × Rose (E.faults err.old) (E.faults err.new)
-        × IsHalfTold E.held E.failed err.old err.new (error_line result.status) }
+    ensures told { result.status ≢ Status.Done → result.mute ≡ false → IsTold E.held E.took err.old err.new (line_bytes answer.now.line) }
+    ensures mute { result.mute ≡ true → Rose (E.faults err.old) (E.faults err.new) × IsHalfTold E.held E.failed err.old err.new (line_bytes answer.now.line) }
 {
-    let Status::Source(SourceRefusal::Read { kind, offset }) = status else {
-        return put_line(status, status.line(), err);
-    };
-    match refusal_line(alloc, kind, offset) {
-        Ok(line) => put_line(status, line.as_bytes(), err),
-        Err(_) => put_line(Status::Memory, Status::Memory.line(), err),
-    }
-}
-
-/// Puts the line of the status on `err`, at any status but Done.
-fn put_line<E: Sink>(status: Status, line: &[u8], err: &mut E) -> Ended
-    requires { line.now ≡ error_line status }
-    ensures status { result.status ≡ status }
-    ensures err_faults { E.faults err.old ≤ E.faults err.new }
-    ensures quiet { status ≡ Status.Done → (err.new ≡ err.old) × (result.mute ≡ false) }
-    ensures told { status ≢ Status.Done → result.mute ≡ false → IsTold E.held E.took err.old err.new (error_line status) }
-    ensures mute { result.mute ≡ true → (status ≢ Status.Done) × Rose (E.faults err.old) (E.faults err.new)
-        × IsHalfTold E.held E.failed err.old err.new (error_line status) }
-{
-    let mute = status != Status::Done && err.put(line).is_err();
+    let status = answer.status;
+    let mute = status != Status::Done && err.put(answer.line.bytes()).is_err();
     Ended { status, mute }
 }
 
-/// Reads the file, runs the program that it spells, and puts what it prints on `out`.
-fn serial<L: Shelf, O: Sink>(alloc: Global, file: &str, shelf: &mut L, out: &mut O) -> Status
-    ensures serial { (text : List ℕ) × IsSerial (L.texts shelf.old) L.gave L.failed file.now shelf.old shelf.new
-        (Rose (L.faults shelf.old file.now) (L.faults shelf.new file.now)) (Rose (O.faults out.old) (O.faults out.new))
-        (IsWritten O.held O.took out.old out.new) (IsCutShort O.held O.took O.failed out.old out.new) text result }
-    ensures nothing_written { result ≢ Status.Done → result ≢ Status.WriteFault → out.new ≡ out.old }
-    ensures node { IsOnNode0 result }
+/// Reads the file, and puts what the command makes of its program on `out`.
+fn perform<L: Shelf, O: Sink>(alloc: Global, request: Request, shelf: &mut L, out: &mut O) -> Answer
+    ensures run { (text : List ℕ) × IsRun (L.texts shelf.old) L.gave L.failed request.entry.file.now shelf.old shelf.new
+        (Rose (L.faults shelf.old request.entry.file.now) (L.faults shelf.new request.entry.file.now)) (Rose (O.faults out.old) (O.faults out.new))
+        (IsWritten O.held O.took out.old out.new) (IsCutShort O.held O.took O.failed out.old out.new) request.entry.command text result.status
+        × IsLineOf text result.status (line_bytes result.line) }
+    ensures nothing_written { result.status ≢ Status.Done → result.status ≢ Status.WriteFault → out.new ≡ out.old }
+    ensures words { result.status ≢ Status.Words }
     ensures texts { L.texts shelf.new ≡ L.texts shelf.old }
     ensures shelf_faults { (name : List ℕ) → L.faults shelf.old name ≤ L.faults shelf.new name }
     ensures out_faults { O.faults out.old ≤ O.faults out.new }
 {
-    let program = match source(alloc, file, shelf) {
-        Ok(program) => program,
-        Err(status) => return status,
-    };
-    let text = match outcome(alloc, &program) {
+    let text = match source(alloc, request.file, shelf) {
         Ok(text) => text,
-        Err(status) => return status,
+        Err(status) => return Answer::of(status),
     };
-    match write_all(out, text.as_slice()) {
-        Ok(()) => Status::Done,
-        Err(Failed) => Status::WriteFault,
+    let printed = match outcome(alloc, request.command, text.as_slice()) {
+        Ok(printed) => printed,
+        Err(answer) => return answer,
+    };
+    match write_all(out, printed.as_slice()) {
+        Ok(()) => Answer::of(Status::Done),
+        Err(Failed) => Answer::of(Status::WriteFault),
     }
 }
 
-/// The program that the file spells.
-fn source<L: Shelf>(alloc: Global, file: &str, shelf: &mut L) -> Result<Program, Status>
-    ensures source { (text : List ℕ) × IsSource (L.texts shelf.old) L.gave L.failed file.now shelf.old shelf.new
-        (Rose (L.faults shelf.old file.now) (L.faults shelf.new file.now)) text result }
+/// The text of the file.
+fn source<L: Shelf>(alloc: Global, file: &str, shelf: &mut L) -> Result<Vec<u8>, Status>
+    ensures whole { IfOk result (λ text. ReadsWhole (L.texts shelf.old) L.gave file.now shelf.old shelf.new text.items) }
+    ensures stopped { IfErr result (λ status. (text : List ℕ) × StopsReading (L.texts shelf.old) L.gave L.failed file.now shelf.old shelf.new
+        (Rose (L.faults shelf.old file.now) (L.faults shelf.new file.now)) text status) }
+    ensures fixed { IfErr result HasFixedLine }
     ensures texts { L.texts shelf.new ≡ L.texts shelf.old }
     ensures shelf_faults { (name : List ℕ) → L.faults shelf.old name ≤ L.faults shelf.new name }
 {
-    let text = match read_text(alloc, shelf, file, SOURCE_LIMIT) {
-        Ok(text) => text,
-        Err(TextRefusal::Fault) => return Err(Status::ReadFault),
-        Err(TextRefusal::TooLong) => return Err(Status::Source(SourceRefusal::TooLong)),
-        Err(TextRefusal::Memory) => return Err(Status::Memory),
-    };
-    accepted(alloc, text.as_slice())
-}
-
-/// The program that the text spells, where the walk takes it.
-fn accepted(alloc: Global, text: &[u8]) -> Result<Program, Status>
-    requires { length text.now ≤ 1048576 }
-    ensures { IsReading text.now result }
-{
-    let program = match read_program(alloc, text) {
-        Ok(program) => program,
-        Err(ReadRefusal::At { kind, offset }) => {
-            return Err(Status::Source(SourceRefusal::Read { kind, offset }));
-        }
-        Err(ReadRefusal::Memory) => return Err(Status::Memory),
-    };
-    match is_serial_main(alloc, &program) {
-        Ok(true) => Ok(program),
-        Ok(false) => Err(Status::Source(SourceRefusal::NotYet)),
-        Err(_) => Err(Status::Memory),
+    match read_text(alloc, shelf, file, SOURCE_LIMIT) {
+        Ok(text) => Ok(text),
+        Err(TextRefusal::Fault) => Err(Status::ReadFault),
+        Err(TextRefusal::TooLong) => Err(Status::Source(SourceRefusal::TooLong)),
+        Err(TextRefusal::Memory) => Err(Status::Memory),
     }
 }
 
-/// What the program prints, each value on a line.
-fn outcome(alloc: Global, program: &Program) -> Result<Vec<u8>, Status>
-    requires taken { IsSerialMain program.now }
-    requires small { program_size program.now ≤ 4000000 }
-    ensures { MatchResult result (λ text. Prints program.now text.items) (StopsWith program.now) }
+/// What the command makes of the text.
+fn outcome(alloc: Global, command: Command, text: &[u8]) -> Result<Vec<u8>, Answer>
+    requires { length text.now ≤ 1048576 }
+    ensures printed { IfOk result (λ printed. IsOutcome command text.now (Ok printed.items)) }
+    ensures stopped { IfErr result (λ answer. IsOutcome command text.now (Err answer.status)) }
+    ensures line { IfErr result (λ answer. IsLineOf text.now answer.status (line_bytes answer.line)) }
 {
-    let run = match run_serial(alloc, program, BUDGET) {
-        Ok(run) => run,
-        Err(_) => return Err(Status::Memory),
+    let checked = match accepted(alloc, text) {
+        Ok(checked) => checked,
+        Err(answer) => return Err(answer),
     };
-    match run.end {
-        End::Finished => match lines_of(alloc, run.output.items()) {
-            Ok(text) => Ok(text),
-            Err(_) => Err(Status::Memory),
-        },
-        End::Trapped(kind) => Err(Status::Trap { kind, node: 0 }),
-        End::Spent | End::Untaken => unreachable!(),
+    match made(alloc, command, checked.program()) {
+        Ok(printed) => Ok(printed),
+        Err(status) => Err(Answer::of(status)),
+    }
+}
+
+/// The program that the text spells, checked.
+fn accepted(alloc: Global, text: &[u8]) -> Result<Checked, Answer>
+    requires { length text.now ≤ 1048576 }
+    ensures accepted { IfOk result (λ program. IsReading text.now (Ok program)) }
+    ensures refused { IfErr result (λ answer. IsReading text.now (Err answer.status)) }
+    ensures line { IfErr result (λ answer. IsLineOf text.now answer.status (line_bytes answer.line)) }
+{
+    let program = match read_program(alloc, text) {
+        Ok(program) => program,
+        Err(ReadRefusal::At { kind, offset }) => return Err(Answer::unread(alloc, kind, offset)),
+        Err(ReadRefusal::Memory) => return Err(Answer::of(Status::Memory)),
+    };
+    match check_program(alloc, program) {
+        Ok(checked) => Ok(checked),
+        Err(CheckRefusal::At { kind, place }) => Err(Answer::unlawful(alloc, text, kind, place)),
+        Err(CheckRefusal::Memory) => Err(Answer::of(Status::Memory)),
     }
 }

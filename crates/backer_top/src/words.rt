@@ -1,17 +1,50 @@
 ghost use Rattle.std.specs.Prelude.{◌≡◌, map, string_bytes};
 ghost use Rattle.std.specs.Option.{option_map};
-ghost use Rattle.backer_top.specs.Command.{file_of, is_file_name};
+ghost use Rattle.backer_top.specs.Command.{command_named, is_file_name, request_of};
 
-/// The FILE of `serial FILE`, where the words are that command.
-pub(crate) fn file_word(words: &[String]) -> Option<&str>
-    ensures { option_map (λ file. file.now) result ≡ file_of (map string_bytes words.now) }
+/// What is done with a file.
+#[derive(Clone, Copy, Debug, PartialEq, Eq)]
+pub enum Command {
+    /// its program is checked and printed
+    Check,
+    /// its program is run as its serial elision
+    Serial,
+}
+
+/// A command and its file.
+#[derive(Clone, Copy)]
+pub(crate) struct Request<'a> {
+    pub(crate) command: Command,
+    pub(crate) file: &'a str,
+}
+
+/// What the words ask for, where they are a command.
+pub(crate) fn request_of(words: &[String]) -> Option<Request>
+    ensures { option_map (λ request. (request.command, request.file.now)) result ≡ request_of (map string_bytes words.now) }
 {
-    match words {
-        [command, file] if command.as_str() == "serial" && is_file(file.as_str()) => {
-            Some(file.as_str())
-        }
-        _ => None,
+    let [command, file] = words else {
+        return None;
+    };
+    if !is_file(file.as_str()) {
+        return None;
     }
+    let command = command_named(command.as_str())?;
+    Some(Request {
+        command,
+        file: file.as_str(),
+    })
+}
+
+fn command_named(word: &str) -> Option<Command>
+    ensures { result ≡ command_named word.now }
+{
+    if word == "check" {
+        return Some(Command::Check);
+    }
+    if word == "serial" {
+        return Some(Command::Serial);
+    }
+    None
 }
 
 /// Whether a word may name a file.
