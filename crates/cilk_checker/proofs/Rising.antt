@@ -1,11 +1,11 @@
 -- Lists of numbers that begin with their least.
-use Rattle.std.specs.Prelude.{◌≡◌, ◌⊎◌, ℕ, ◌+◌, ◌<◌, ◌≤◌, Bool, true, false, ◌||◌, ◌==◌, IsTrue, List, [], ◌∷◌, ◌++◌, length, Some, slice_get, if◌then◌else◌}
+use Rattle.std.specs.Prelude.{◌≡◌, ℕ, ◌+◌, ◌<◌, ◌≤◌, Bool, true, false, ◌||◌, ◌==◌, IsTrue, List, [], ◌∷◌, ◌++◌, length, Some, slice_get, if◌then◌else◌}
 use Rattle.std.proofs.Common.{refl, sym, ap, subst, ◌∙◌, inl, inr, arith}
 use Rattle.std.specs.List.{list_any}
 use Rattle.std.proofs.lemmas.Bool.{false≢true}
 use Rattle.std.proofs.lemmas.Bool.Decides.{Decides-eqb}
 use Rattle.std.proofs.lemmas.List.{length-append}
-use Rattle.std.proofs.lemmas.List.Folds.{list_any-append}
+use Rattle.cilk_tree.proofs.LoopSets.{in_either, is_in}
 use Rattle.cilk_tree.specs.declared.tree.Function.{Function}
 use Rattle.cilk_tree.specs.declared.tree.Program.{Program}
 use Rattle.cilk_tree.specs.declared.tree.Shared.{Shared}
@@ -14,21 +14,11 @@ use Rattle.cilk_tree.specs.Lawful.Pending.{Pending, both, ends, touched, uses_pe
 use Rattle.cilk_tree.specs.Lawful.Rules.{kind_if, array_kinds, function_kinds, statement_kinds, array_again, has_too_many_words, function_again, declares_again, uses_unknown, uses_wrong, has_wrong_arity, lacks_value, spawns_in_plain, calls_cilk, spawns_plain}
 use Rattle.cilk_checker.proofs.Numbering.{IsNumbered, numbered_parts}
 
-abbrev pub is_in : List ℕ → ℕ → Bool
-is_in xs n = list_any (λ m. m == n) xs
-
 -- the numbers are at least the one and below the other, and none is below the first
 pub record Rises (low high : ℕ) (xs : List ℕ) : Type 0 where
   pub above : (n : ℕ) → IsTrue (is_in xs n) → low ≤ n
   pub below : (n : ℕ) → IsTrue (is_in xs n) → n < high
   pub least : (first n : ℕ) → slice_get xs 0 ≡ Some first → IsTrue (is_in xs n) → first ≤ n
-
-to_either : (a b : Bool) → IsTrue (a || b) → IsTrue a ⊎ IsTrue b
-to_either true b h = inl refl
-to_either false b h = inr h
-
-in_either : (xs ys : List ℕ) (n : ℕ) → IsTrue (is_in (xs ++ ys) n) → IsTrue (is_in xs n) ⊎ IsTrue (is_in ys n)
-in_either xs ys n h = to_either (is_in xs n) (is_in ys n) (subst IsTrue (list_any-append (λ m. m == n) xs ys) h)
 
 -- the first number is one of them
 pub first_in : (xs : List ℕ) (n : ℕ) → slice_get xs 0 ≡ Some n → IsTrue (is_in xs n)

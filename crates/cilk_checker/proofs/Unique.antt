@@ -7,7 +7,7 @@ use Rattle.cilk_tree.specs.declared.tree.Program.{Program}
 use Rattle.cilk_tree.specs.Lawful.Lawful.{Breaks, IsCheckRefusal, IsFirstBreach, IsLawful}
 use Rattle.cilk_tree.specs.Lawful.Rules.{kinds_at}
 use Rattle.cilk_checker.proofs.Places.{Before, After, Same, order_of}
-use Rattle.cilk_checker.proofs.Rising.{is_in}
+use Rattle.cilk_tree.proofs.LoopSets.{is_in}
 
 module _ (program : Program) where
   none_broken : (kind : ℕ) (place : CheckPlace) → Breaks program kind place → kinds_at program place ≡ [] → ⊥

@@ -3,7 +3,7 @@ use Rattle.std.specs.Prelude.{◌≡◌, ℕ, ◌+◌, ◌<◌, ◌≤◌, false
 use Rattle.std.proofs.Common.{refl, sym, ap, subst, ◌∙◌, inl, inr, arith}
 use Rattle.std.proofs.lemmas.Bool.{false≢true}
 use Rattle.std.specs.Option.{option_map, option_map_or, option_or}
-use Rattle.cilk_tree.proofs.LoopSets.{UsesPending-uses_pending, uses_pending-UsesPending}
+use Rattle.cilk_tree.proofs.LoopSets.{UsesPending-uses_pending, is_in, uses_pending-UsesPending}
 use Rattle.cilk_tree.specs.declared.place.CheckPlace.{CheckPlace}
 use Rattle.cilk_tree.specs.declared.place.CheckPlace.TheVariants as place
 use Rattle.cilk_tree.specs.declared.tree.Function.{Function}
@@ -19,7 +19,7 @@ use Rattle.cilk_checker.specs.Judged.{due, first_refusal, first_use, judged_row,
 use Rattle.cilk_checker.proofs.Due.{of_arrays, of_functions, of_whole, of_uses, rules_are}
 use Rattle.cilk_checker.proofs.Numbering.{function_numbered, judged_numbered}
 use Rattle.cilk_checker.proofs.Places.{less_of, parts_of_order}
-use Rattle.cilk_checker.proofs.Rising.{array_kinds_rise, first_in, function_kinds_rise, is_in, statement_kinds_rise, uses_rise, whole_kinds_rise}
+use Rattle.cilk_checker.proofs.Rising.{array_kinds_rise, first_in, function_kinds_rise, statement_kinds_rise, uses_rise, whole_kinds_rise}
 use Rattle.cilk_checker.proofs.Rows.{IsFirst, IsFirstFunction, IsFirstUsing, first_used, functions_none, functions_some, no_kinds, none_left, none_right, of_function, row_none, row_some, uses_none, uses_some}
 
 -- the first number of a list is its least

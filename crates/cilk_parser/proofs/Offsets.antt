@@ -66,7 +66,7 @@ sign_some sign.Comma = omega arith
 sign_some sign.Semicolon = omega arith
 
 -- no lexeme is empty
-lexeme_some : (bytes : List ℕ) (token : Token) → IsLexeme bytes token → 0 < length bytes
+pub lexeme_some : (bytes : List ℕ) (token : Token) → IsLexeme bytes token → 0 < length bytes
 lexeme_some bytes (Name name) is =
     let parts = and_parts (starts is_letter name && list_all is_word name) (not (is_reserved name)) is.1 in
     let first = and_parts (starts is_letter name) (list_all is_word name) parts.0 in

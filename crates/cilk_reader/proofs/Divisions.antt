@@ -7,7 +7,8 @@ use Rattle.cilk_tree.specs.declared.token.Token.{Token}
 use Rattle.cilk_tree.specs.Lexeme.{gap_text, is_gap, IsEnding, StartsWith, EndsWith, Divides}
 use Rattle.cilk_reader.specs.Heads.{IsGapBefore, StartsAt}
 use Rattle.cilk_reader.proofs.Gaps.{gap_unique}
-use Rattle.cilk_reader.proofs.Lexemes.{lexeme_some, token_plain, ending_plain, same_start, same_ending, token_or_ending}
+use Rattle.cilk_parser.proofs.Offsets.{lexeme_some}
+use Rattle.cilk_reader.proofs.Lexemes.{token_plain, ending_plain, same_start, same_ending, token_or_ending}
 
 -- ---- a token or an end after a gap
 
@@ -113,4 +114,4 @@ so_far_end text rest start places ending so_far g e =
 -- a token takes one byte at least
 pub token_shorter : (rest start after : List ℕ) (token : Token) → IsGapBefore rest start → StartsAt start token after → length after < length rest
 token_shorter rest start after token g s =
-    omega (arith, ap length g.parts, length-append (gap_text g.gap) start, ap length s.parts, length-append s.lexeme after, lexeme_some token s.lexeme s.spelled)
+    omega (arith, ap length g.parts, length-append (gap_text g.gap) start, ap length s.parts, length-append s.lexeme after, lexeme_some s.lexeme token s.spelled)

@@ -1,5 +1,5 @@
 -- What bytes a token may have, that no other token has them, and where a text begins with no token.
-use Rattle.std.proofs.Common.{◌≡◌, ◌≢◌, ◌⊎◌, inl, inr, ℕ, ℤ, pos, ◌+◌, ◌<◌, ◌≤◌, ◌==◌, Bool, true, false, not, ◌&&◌, ◌||◌, IsTrue, IsFalse, List, [], ◌∷◌, ◌++◌, cond, length, take, drop, sym, refl, ap, ◌∙◌, subst, ⊎_elim, arith, length-append}
+use Rattle.std.proofs.Common.{◌≡◌, ◌≢◌, ◌⊎◌, inl, inr, ℕ, ℤ, pos, ◌+◌, ◌≤◌, ◌==◌, Bool, true, false, not, ◌&&◌, ◌||◌, IsTrue, IsFalse, List, [], ◌∷◌, ◌++◌, cond, length, take, drop, sym, refl, ap, ◌∙◌, subst, ⊎_elim, arith, length-append}
 use Rattle.std.specs.Prelude.{codes}
 use Rattle.std.specs.Fmt.{decimal}
 use Rattle.std.specs.List.{list_all}
@@ -19,6 +19,7 @@ use Rattle.cilk_tree.specs.declared.token.Token.TheVariants.{Name, Number, Word,
 use Rattle.cilk_tree.specs.Lexeme.{is_blank, is_digit, is_letter, is_word, starts, is_name, IsNumeral, IsLexeme, ends_before, opens_comment, has_longer_sign, is_bad_byte, IsBadNumber, IsEnding}
 use Rattle.cilk_tree.specs.Token.{keyword_text, sign_text}
 use Rattle.cilk_reader.specs.Heads.{begins_piece, StartsAt}
+use Rattle.cilk_parser.proofs.Offsets.{lexeme_some}
 use Rattle.cilk_reader.proofs.Gaps.{prefix_from, prefix_split, plain_from}
 use Rattle.cilk_reader.proofs.Numbers.{decimal_digits}
 use Rattle.cilk_reader.proofs.Runs.{run_unique, starts_weaker, starts_apart, starts_no, starts_from_all, starts_append, starts_some, all_weaker}
@@ -104,14 +105,6 @@ word_token_ends (Mark sign) rest w h = absurd w
 
 mark_bytes : (sign : Sign) (bytes : List ℕ) → bytes ≡ sign_text sign → IsTrue (starts is_mark bytes)
 mark_bytes sign bytes h = subst (λ bs. IsTrue (starts is_mark bs)) (sym h) (sign_bytes sign)
-
--- no lexeme is empty
-pub lexeme_some : (token : Token) (bytes : List ℕ) → IsLexeme bytes token → 0 < length bytes
-lexeme_some token bytes h =
-    ⊎_elim
-    (λ w. starts_some is_word bytes (word_token_bytes token bytes w h).1)
-    (λ m. starts_some is_mark bytes (mark_bytes m.0 bytes (subst (IsLexeme bytes) m.1 h)))
-    (token_kind token)
 
 -- ---- no two tokens have the same bytes
 
@@ -292,7 +285,7 @@ open_comment_no_token text token rest opened s =
 -- a text begins with a token, or the tokens end there
 pub token_or_ending : (offset : ℕ) (text : List ℕ) (token : Token) (rest : List ℕ) (ending : Ending) → StartsAt text token rest → IsEnding offset text ending → ⊥
 token_or_ending offset text token rest Reached s e =
-    omega (arith, lexeme_some token s.lexeme s.spelled, ap length (sym s.parts ∙ e), length-append s.lexeme rest)
+    omega (arith, lexeme_some s.lexeme token s.spelled, ap length (sym s.parts ∙ e), length-append s.lexeme rest)
 token_or_ending offset text token rest (Stopped BadByte place) s h = bad_byte_no_token text token rest h.0 s
 token_or_ending offset text token rest (Stopped BadNumber place) s h = bad_number_no_token text token rest h.0 s
 token_or_ending offset text token rest (Stopped Unexpected place) s ((body, e, unclosed), at) =

@@ -17,7 +17,8 @@ use std::alloc::Global;
 /// offset, and at one offset for the kind with the smallest number.
 pub fn read_program(alloc: Global, text: &[u8]) -> Result<Program, ReadRefusal>
     ensures found { IfOk result (λ program. Spells text.now program) }
-    // No other program is spelled, and one that is spelled is read unless memory runs out.
+    // A text spells one program at most, and one that is spelled is read unless memory runs out.
+    ensures unique { (one other : Program) → Spells text.now one → Spells text.now other → one ≡ other }
     ensures only { (program : Program) → Spells text.now program →
         MatchResult result (λ read. read ≡ program) (λ refusal. refusal ≡ ReadRefusal.Memory) }
     ensures refused { IfErr result (IsReason text.now) }

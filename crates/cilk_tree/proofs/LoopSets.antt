@@ -3,6 +3,7 @@ use Rattle.std.specs.Prelude.{◌≡◌, ℕ, Bool, true, false, ◌&&◌, ◌||
 use Rattle.std.proofs.Common.{List, refl, sym, ap, subst, ◌∙◌, inl, inr, ⊎_elim, rules, tests}
 use Rattle.std.specs.List.{list_any}
 use Rattle.std.proofs.lemmas.Bool.{false≢true}
+use Rattle.std.proofs.lemmas.List.Folds.{list_any-append}
 use Rattle.cilk_tree.specs.declared.tree.Stmt.TheOpen as head
 use Rattle.cilk_tree.specs.Lawful.Flow.{Head, Flow, Nothing, At, Then, Either, Loop}
 use Rattle.cilk_tree.specs.Lawful.Pending.{Pending, none, both, IsWithin, IsLeast, with_local, after_head, Ends, ends, UsesPending, uses_pending}
@@ -166,15 +167,6 @@ mutual
   ends-Ends (Either met unmet) before after e = e.4 ∙ ap (λ set. both set e.1) (ends-Ends met before e.0 e.2) ∙ ap (both (ends met before)) (ends-Ends unmet before e.1 e.3)
   ends-Ends (Loop turn) before after e = one_least _ after (ends (Loop turn) before) e (loop_is turn before (Ends-ends turn (ends (Loop turn) before)) (λ other end h. ends-Ends turn other end h))
 
--- a test of the numbers of a list, of two lists
-any_joined : (n : ℕ) (xs ys : List ℕ) → list_any (λ m. m == n) (xs ++ ys) ≡ (list_any (λ m. m == n) xs || list_any (λ m. m == n) ys)
-any_joined n [] ys = refl
-any_joined n (x ∷ xs) ys = ap (λ b. x == n || b) (any_joined n xs ys) ∙ or_grouped (x == n) (list_any (λ m. m == n) xs) (list_any (λ m. m == n) ys)
-  where
-    or_grouped : (a b c : Bool) → (a || (b || c)) ≡ ((a || b) || c)
-    or_grouped true b c = refl
-    or_grouped false b c = refl
-
 to_either : (a b : Bool) → IsTrue (a || b) → IsTrue a ⊎ IsTrue b
 to_either true b h = inl refl
 to_either false b h = inr h
@@ -184,14 +176,15 @@ from_either true b h = refl
 from_either false b (inl h) = absurd (false≢true h)
 from_either false b (inr h) = h
 
-abbrev is_in : List ℕ → ℕ → Bool
+-- the number is one of these
+abbrev pub is_in : List ℕ → ℕ → Bool
 is_in xs n = list_any (λ m. m == n) xs
 
-in_either : (xs ys : List ℕ) (n : ℕ) → IsTrue (is_in (xs ++ ys) n) → IsTrue (is_in xs n) ⊎ IsTrue (is_in ys n)
-in_either xs ys n h = to_either _ _ (subst IsTrue (any_joined n xs ys) h)
+pub in_either : (xs ys : List ℕ) (n : ℕ) → IsTrue (is_in (xs ++ ys) n) → IsTrue (is_in xs n) ⊎ IsTrue (is_in ys n)
+in_either xs ys n h = to_either _ _ (subst IsTrue (list_any-append (λ m. m == n) xs ys) h)
 
 in_joined : (xs ys : List ℕ) (n : ℕ) → IsTrue (is_in xs n) ⊎ IsTrue (is_in ys n) → IsTrue (is_in (xs ++ ys) n)
-in_joined xs ys n h = subst IsTrue (sym (any_joined n xs ys)) (from_either _ _ h)
+in_joined xs ys n h = subst IsTrue (sym (list_any-append (λ m. m == n) xs ys)) (from_either _ _ h)
 
 same_number : (m n : ℕ) → IsTrue (m == n || false) → n ≡ m
 same_number m n h = search (rules, tests)

@@ -27,7 +27,3 @@ within Whole = 0
 -- the first place stands before the second
 abbrev pub place_lt : CheckPlace → CheckPlace → Bool
 place_lt x y = nat_lt (group x) (group y) || group x == group y && (nat_lt (owner x) (owner y) || owner x == owner y && nat_lt (within x) (within y))
-
--- they are one place
-abbrev pub place_eq : CheckPlace → CheckPlace → Bool
-place_eq x y = group x == group y && owner x == owner y && within x == within y

@@ -3,6 +3,7 @@ use Rattle.std.proofs.lemmas.Result.{err_from_is_err_and}
 use Rattle.cilk_tree.specs.Lexeme.{Divides, tokens_of}
 use Rattle.cilk_tree.specs.Spelling.{Spells, IsFault, IsProgram}
 use Rattle.cilk_reader.proofs.Bounds.SpelledTrees.{spelled_is_writable, spelled_is_small}
+use Rattle.cilk_reader.proofs.Spelled.{spelled_once}
 use Rattle.cilk_reader.proofs.Refusing.{spelled_there, refused_there, answered}
 use Rattle.cilk_reader.proofs.reading.read_program.Goals as goal
 use Rattle.cilk_reader.proofs.reading.read_program.Goals.{After-drop-division-2}
@@ -46,3 +47,12 @@ returns-clause-writable c = spelled_is_writable c.args.text.now c.in_ok-parse.fi
 
 pub returns-clause-small : goal.returns-clause-small
 returns-clause-small c = spelled_is_small c.args.text.now c.in_ok-parse.field-0 (spelled c)
+
+pub returns-in_err-division-clause-unique : goal.returns-in_err-division-clause-unique
+returns-in_err-division-clause-unique c = spelled_once c.args.text.now
+
+pub returns-in_err-parse-clause-unique : goal.returns-in_err-parse-clause-unique
+returns-in_err-parse-clause-unique c = spelled_once c.args.text.now
+
+pub returns-clause-unique : goal.returns-clause-unique
+returns-clause-unique c = spelled_once c.args.text.now
