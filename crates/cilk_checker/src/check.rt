@@ -51,8 +51,9 @@ impl Checked {
     }
 }
 
-/// Accepts a lawful program. Another one is refused at the first place that breaks a rule, with the least kind there;
-/// where only the rule on syncs is broken, at the first use of a local that a spawn may still set.
+/// Accepts a lawful program, which has a text and at most 2,097,152 arrays, functions, statements and expressions
+/// together. Another one is refused at the first place that breaks a rule, with the least kind there; where only the rule
+/// on syncs is broken, at the first use of a local that a spawn may still set. A program that is refused is dropped.
 pub fn check_program(alloc: Global, program: Program) -> Result<Checked, CheckRefusal>
     requires writable { IsWritable program }
     requires small { program_size program ≤ 2097152 }
@@ -89,7 +90,7 @@ fn check_rules(alloc: Global, program: &Program) -> Result<(), CheckRefusal>
     }
 }
 
-/// Whether `main` is no function without parameters.
+/// Whether the name `main` stands for no function, or for one with parameters.
 fn lacks_main(globals: &Globals) -> bool
     requires { IsComplete globals.now }
     ensures { result ≡ lacks_main globals.now.program.now }

@@ -1,4 +1,5 @@
-// The numbers of the rules.
+//! The numbers of the rules.
+
 /// two things in scope share a name
 pub(crate) const DUPLICATE_NAME: u16 = 201;
 /// a name is none in scope

@@ -92,6 +92,7 @@ impl<'a> Locals<'a> {
         let number = self.local;
         let next = number.checked_add(1).ok_or(AllocError)?;
         self.stack.push(Local { name, number })?;
+        // The table and the stack have the same locals where memory is wanting, too.
         if let Err(error) = self.numbers.insert(name, number) {
             self.stack.pop();
             return Err(error);

@@ -26,6 +26,7 @@ pub(crate) fn least_kind(
     requires uses { IsSumOf uses.now names (head_of (out-Stmt statement.now)) }
     ensures { result ≡ slice_get (statement_kinds names.entry.globals.now.program.now function.now (record { point = names.entry.locals.now; head = head_of (out-Stmt statement.now) })) 0 }
 {
+    // A declaration, which alone may break the rule before these, uses no name.
     if uses.unknown {
         return Some(UNKNOWN_NAME);
     }

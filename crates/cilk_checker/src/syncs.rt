@@ -27,6 +27,7 @@ pub(crate) fn find_use(
     Ok(None)
 }
 
+/// The same along one path.
 #[cycle(search)]
 fn find_use_in(alloc: Global, path: &Path, pending: &mut Pending) -> Result<Option<u32>, AllocError>
     ensures found { IfOk result (λ found. found ≡ slice_get ((path_course path.now).uses (set_of pending.old)) 0) }
@@ -111,6 +112,7 @@ fn pass_all(alloc: Global, paths: &[Path], pending: &mut Pending) -> Result<(), 
     Ok(())
 }
 
+/// The same along one of them.
 #[cycle(pass)]
 fn pass(alloc: Global, path: &Path, pending: &mut Pending) -> Result<(), AllocError>
     ensures { OnOk result (set_of pending.new ≡ (path_course path.now).ends (set_of pending.old)) }

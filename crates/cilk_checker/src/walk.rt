@@ -40,6 +40,7 @@ pub(crate) fn check_list<'a>(
     Ok(paths)
 }
 
+/// Judges the statement and those that it holds, and gives the path through it.
 #[cycle(statement)]
 fn check_statement<'a>(
     alloc: Global,
