@@ -25,7 +25,7 @@ IsProgramOf text program = (length text ≤ 1048576) × Spells text program
 abbrev pub Accepts : List ℕ → Program → Type 0
 Accepts text program = IsProgramOf text program × IsLawful program
 
--- the serial elision within the budget, which no program that the walk takes spends
+-- the serial elision within the budget, which no program of a text within the limit spends
 abbrev pub meaning : Program → Run
 meaning program = elision program 2000000
 
@@ -55,7 +55,7 @@ IsDueOf command program (Source source.NotYet) = IsLawful program × Makes comma
 IsDueOf command program (Source (source.Check kind place)) = IsCheckRefusal program kind place
 IsDueOf command program _ = ⊥
 
--- What a text calls for, where memory suffices and no device fails.
+-- What a text calls for, where memory suffices and no device fails. None calls for Words, ReadFault, WriteFault or Memory.
 abbrev pub IsDue : Command → List ℕ → Status → Type 0
 IsDue command text (Source source.TooLong) = 1048576 < length text
 IsDue command text (Source (source.Read number offset)) = (length text ≤ 1048576) × IsRefusedAt text number offset

@@ -17,7 +17,7 @@ line_bytes (Fixed bytes) = bytes.now
 line_bytes (Made bytes) = bytes.items
 
 -- The line tells the status, where this is the command's text: a rule that is broken is told with the names of the program
--- that the text spells.
+-- that the text spells. The other lines name nothing of a program.
 abbrev pub IsLineOf : List ℕ → Status → List ℕ → Type 0
 IsLineOf text (Source (Check kind place)) line = (program : Program) × Spells text program × (line ≡ error_line program (Source (Check kind place)))
 IsLineOf text status line = (program : Program) → line ≡ error_line program status

@@ -1,4 +1,4 @@
--- The lawful programs that the serial walk takes: a plain main of locals, sums and prints.
+-- The lawful programs that the serial walk takes: a plain main of locals, sums, differences, products and prints.
 use Rattle.std.specs.Prelude.{Bool, true, false, not, ◌&&◌, IsTrue, List, [], ◌∷◌}
 use Rattle.std.specs.List.{list_all}
 use Rattle.cilk_tree.specs.declared.tree.BinaryOp.{BinaryOp}

@@ -61,8 +61,9 @@ impl Answer {
             Err(_) => Answer::of(Status::Memory),
         }
     }
+
     /// A source whose program breaks the rule of this number at this place. The checker drops a program that it refuses,
-    /// so the source is read once more for the name in the line.
+    /// so its text is parsed once more for the name in the line.
     pub(crate) fn unlawful(alloc: Global, text: &[u8], kind: u16, place: CheckPlace) -> Self
         ensures status { (result.status ≡ Status.Source (SourceRefusal.Check kind place)) ⊎ (result.status ≡ Status.Memory) }
         ensures line { IsLineOf text.now result.status (line_bytes result.line) }

@@ -10,7 +10,7 @@ use crate::words::Command;
 use cilk_tree::{Program, print_program};
 use std::alloc::Global;
 
-/// How many ticks a serial run may make.
+/// How many ticks a serial run may make: a print is one, and has a statement and an expression of the program.
 const BUDGET: u64 = 2_000_000;
 
 /// What the command makes of a lawful program: a text for `out`, or the status that stands in place of one.

@@ -14,7 +14,7 @@ pub enum SourceRefusal {
     TooLong,
     /// It spells no program, for a reason of this number that shows at the byte of this offset.
     Read { kind: u16, offset: u64 },
-    /// It spells a program that breaks the rule of this number at this place.
+    /// It spells a program whose first breach is of the rule of this number, at this place.
     Check { kind: u16, place: CheckPlace },
     /// It spells a lawful program that is not run yet.
     NotYet,

@@ -31,7 +31,7 @@ pub fn backer<L: Shelf, O: Sink, E: Sink>(
     out: &mut O,
     err: &mut E,
 ) -> Ended
-    // The words are refused exactly where they are no command, and then the shelf is not called.
+    // The words are refused exactly where they are no command; then the shelf is not called, and the line is put on `err`.
     ensures words { (result.status ≡ Status.Words) ↔ (request_of (map string_bytes words.now) ≡ None) }
     ensures no_call { result.status ≡ Status.Words → shelf.new ≡ shelf.old }
     ensures words_told { result.status ≡ Status.Words → (text : List ℕ) → IsTelling E.held E.took E.failed err.old err.new text result }
