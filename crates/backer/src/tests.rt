@@ -1,4 +1,5 @@
 //! The rows of the program's behaviour, over a shelf and sinks in memory.
+mod adding;
 mod checking;
 
 use backer_top::{Ended, SourceRefusal, Status, TrapKind, backer};
@@ -134,6 +135,11 @@ fn sources(rt: HostRuntime) -> Result<(), Fail> {
         ),
         ("void main() { print(1); }", Status::Done, "1\n"),
         ("int a[1]; int main() { }", NOT_YET, ""),
+        (
+            "int a[1]; int main() { fetch_add(a[0], 1); }",
+            NOT_YET,
+            "",
+        ),
         ("cilk int main() { }", NOT_YET, ""),
         ("int main() { } int f() { }", NOT_YET, ""),
         ("int main() { print(-1); }", NOT_YET, ""),
@@ -177,7 +183,7 @@ fn unlawful_sources(rt: HostRuntime) -> Result<(), Fail> {
             "201 in function main statement 0",
         ),
         ("int main() { sync; }", "206 in function main statement 0"),
-        ("int a[1048577]; int main() { }", "211 in array a"),
+        ("int a[4194305]; int main() { }", "211 in array a"),
         (
             "cilk int main() { int x; x = spawn main(); print(x); }",
             "209 in function main statement 2",
@@ -302,7 +308,6 @@ fn refused_structure(rt: HostRuntime) -> Result<(), Fail> {
         wrong("cilk ", "f() { }", 103),
         wrong("int main() { } ", "}", 103),
         wrong("int ", "if() { }", 103),
-        wrong("int main() { x = ", "fetch_add(a[0], 1); }", 103),
         wrong("int main() { ", "cilk_for (int i = 0; i < 1; i++) ; }", 103),
     ];
     for row in rows {

@@ -125,6 +125,7 @@ run_told (stmt.While' a b c ∷ rest) ticks state serial few = absurd (let f : f
 run_told (stmt.Block' a b ∷ rest) ticks state serial few = absurd (let f : false ≡ true = serial in cc)
 run_told (stmt.Call target name arguments ∷ rest) ticks state serial few = absurd (let f : false ≡ true = serial in cc)
 run_told (stmt.Spawn target name arguments ∷ rest) ticks state serial few = absurd (let f : false ≡ true = serial in cc)
+run_told (stmt.Add target name index addend ∷ rest) ticks state serial few = absurd (let f : false ≡ true = serial in cc)
 run_told (stmt.Sync ∷ rest) ticks state serial few = absurd (let f : false ≡ true = serial in cc)
 run_told (stmt.Return value ∷ rest) ticks state serial few = absurd (let f : false ≡ true = serial in cc)
 

@@ -55,6 +55,7 @@ module _ (point : Point) where
   begins_here (layer.Block inner) = (_, ap sites (flow_block_here inner))
   begins_here (layer.Call target name arguments) = ([], refl)
   begins_here (layer.Spawn target name arguments) = ([], refl)
+  begins_here (layer.Add target name index addend) = ([], refl)
   begins_here layer.Sync = ([], refl)
   begins_here (layer.Return value) = ([], refl)
 

@@ -75,6 +75,7 @@ module _ (point : Point) where
   extends_here (layer.Block inner) = ([], refl)
   extends_here (layer.Call target name arguments) = ([], refl)
   extends_here (layer.Spawn target name arguments) = ([], refl)
+  extends_here (layer.Add target name index addend) = ([], refl)
   extends_here layer.Sync = ([], refl)
   extends_here (layer.Return value) = ([], refl)
 

@@ -81,6 +81,7 @@ counted_here (layer.Block inner) = record {
 }
 counted_here (layer.Call target name arguments) = record { numbered = λ point. (refl, tt); after = λ point. omega arith }
 counted_here (layer.Spawn target name arguments) = record { numbered = λ point. (refl, tt); after = λ point. omega arith }
+counted_here (layer.Add target name index addend) = record { numbered = λ point. (refl, tt); after = λ point. omega arith }
 counted_here layer.Sync = record { numbered = λ point. (refl, tt); after = λ point. omega arith }
 counted_here (layer.Return value) = record { numbered = λ point. (refl, tt); after = λ point. omega arith }
 

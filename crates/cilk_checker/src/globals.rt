@@ -13,7 +13,7 @@ use cilk_tree::{CheckPlace, Function, Name, Program, Shared};
 use std::alloc::{AllocError, Global};
 
 /// How many words the arrays of a program have together at most.
-const MOST_WORDS: u64 = 1 << 20;
+const MOST_WORDS: u64 = 1 << 22;
 
 /// The arrays and functions of a program, by their names. Of several that share a name the first one has it, and
 /// arrays stand before functions.

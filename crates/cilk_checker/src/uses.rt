@@ -82,6 +82,12 @@ impl Uses {
             Stmt::Call(target, name, arguments) | Stmt::Spawn(target, name, arguments) => {
                 self.read_call(names, target, name, arguments.as_slice())
             }
+            Stmt::Add(target, name, index, addend) => {
+                self.read_target(names, target)?;
+                self.add_array(names, name);
+                self.read(names, index)?;
+                self.read(names, addend)
+            }
             Stmt::Return(value) => self.read_value(names, value),
         }
     }

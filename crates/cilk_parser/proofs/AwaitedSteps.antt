@@ -6,9 +6,9 @@ use Rattle.cilk_tree.specs.declared.token.Sign.TheVariants as sign
 use Rattle.cilk_tree.specs.declared.token.Token.{Token}
 use Rattle.cilk_tree.specs.declared.token.Token.TheVariants.{Name, Mark}
 use Rattle.cilk_tree.specs.Levels.{mark, word_at, spell_commas, spell_argument, spell_array, spell_declarator, spell_parameter, spell_right, spell_source}
-use Rattle.cilk_tree.specs.Syntax.{Commas, Declarator, Expression, Right, Assignment, Valued, Calling, Simply, Syncing, Printing, is_declarator, is_grouped, is_right, each_of}
+use Rattle.cilk_tree.specs.Syntax.{Commas, Declarator, Expression, Right, Assignment, Valued, Calling, Adding, Simply, Syncing, Printing, is_declarator, is_grouped, is_right, each_of}
 use Rattle.cilk_parser.specs.Contexts.{with_last, AsStatement, AsForStart, AsForLast, DeclareIn, AsDeclaration, AsForDeclaration, declare_level, RightIn, Assigned, Declared, right_level, CallIn, call_level}
-use Rattle.cilk_parser.specs.Steps.{Awaited, ArrayOpen, ArrayClose, ParametersOpen, VoidClose, BodyOpen, CallOpen, CalledEnd, SimpleEnd, StoreAssign, SyncEnd, IfOpen, WhileOpen, ForOpen, PrintOpen, PrintEnd, NameAwaited, FunctionName, ArrayName, ParameterName, DeclaratorName, SpawnedName, awaited_state, awaited_token, named_state, named_token, call_of, step_awaited, step_name, step_declarators, step_right, step_argument}
+use Rattle.cilk_parser.specs.Steps.{Awaited, ArrayOpen, ArrayClose, ParametersOpen, VoidClose, BodyOpen, CallOpen, CalledEnd, AddOpen, AddIndexOpen, AddComma, AddedEnd, SimpleEnd, StoreAssign, SyncEnd, IfOpen, WhileOpen, ForOpen, PrintOpen, PrintEnd, NameAwaited, FunctionName, ArrayName, ParameterName, DeclaratorName, SpawnedName, AddedName, awaited_state, awaited_token, named_state, named_token, call_of, step_awaited, step_name, step_declarators, step_right, step_argument}
 use Rattle.cilk_parser.proofs.Advancing.{Stands, Advances, stands_as, on, on_here, advances_as, only_moves, both, spell_with_last, each_with_last}
 use Rattle.cilk_parser.proofs.Completed.{after_call_stands, after_statement_stands}
 use Rattle.cilk_parser.proofs.SoFar.{head_so_far, declare_so_far, declarators_so_far, right_so_far, arguments_so_far, awaited_so_far, named_so_far}
@@ -28,6 +28,10 @@ awaited_stands (VoidClose heading) h = record { valid = h; same = refl; settled 
 awaited_stands (BodyOpen heading formals) h = record { valid = (h, refl); same = simp append_assoc; settled = refl }
 awaited_stands (CallOpen outer spawned name) h = record { valid = h; same = simp append_assoc; settled = refl }
 awaited_stands (CalledEnd outer call) h = stands_as _ _ _ (after_statement_stands outer (Calling call) h.0 h.1 refl) (simp append_assoc)
+awaited_stands (AddOpen outer) h = record { valid = h; same = simp append_assoc; settled = refl }
+awaited_stands (AddIndexOpen outer name) h = record { valid = h; same = simp append_assoc; settled = refl }
+awaited_stands (AddComma outer name index) h = record { valid = h; same = simp append_assoc; settled = refl }
+awaited_stands (AddedEnd outer addition) h = stands_as _ _ _ (after_statement_stands outer (Adding addition) h.0 h.1 refl) (simp append_assoc)
 awaited_stands (SimpleEnd (AsStatement outer) simple) h = stands_as _ _ _ (after_statement_stands outer (Simply simple) h.0 h.1 refl) (simp append_assoc)
 awaited_stands (SimpleEnd (AsForStart outer) simple) h = record { valid = h; same = simp append_assoc; settled = refl }
 awaited_stands (SimpleEnd (AsForLast outer start condition) simple) h = record { valid = (h.0.0, h.0.1, h.0.2, h.1); same = refl; settled = refl }
@@ -54,6 +58,7 @@ named_stands (ParameterName heading before) name h = record {
 }
 named_stands (DeclaratorName outer before) name h = record { valid = h; same = refl; settled = refl }
 named_stands (SpawnedName outer) name h = record { valid = h; same = simp append_assoc; settled = refl }
+named_stands (AddedName outer) name h = record { valid = h; same = simp append_assoc; settled = refl }
 
 named_is : (awaited : NameAwaited) (name : List ℕ) → (named_token awaited name).token ≡ Name name
 named_is (FunctionName before is_cilk gives) name = refl
@@ -61,6 +66,7 @@ named_is (ArrayName before arrays) name = refl
 named_is (ParameterName heading before) name = refl
 named_is (DeclaratorName outer before) name = refl
 named_is (SpawnedName outer) name = refl
+named_is (AddedName outer) name = refl
 
 pub name_moves : (awaited : NameAwaited) (token : Token) → IsNameAwaitedValid awaited → IfSome (step_name awaited token) (Advances (named_so_far awaited) token)
 name_moves awaited (Name name) h = record { spelled = named_token awaited name; emitted = refl; same = named_is awaited name; stands = named_stands awaited name h }

@@ -19,7 +19,7 @@ use Rattle.cilk_parser.specs.declared.starts.StatementStart.TheVariants as state
 use Rattle.cilk_parser.specs.Contexts.{StatementIn, AsStatement, statement_level}
 use Rattle.cilk_parser.specs.Parts.{Spot, from, Refuses, HasPassed, IsOver, HasStatement, LacksStatement, is_sign, is_keyword, is_name_token, stepping, unexpected_of}
 use Rattle.cilk_parser.specs.Starts.{statement_start, starts_statement}
-use Rattle.cilk_parser.specs.Steps.{State, Next, Awaits, AwaitsName, AfterName, AfterReturn, SyncEnd, IfOpen, WhileOpen, ForOpen, PrintOpen, SpawnedName, after_statement, goes_on, step_statement}
+use Rattle.cilk_parser.specs.Steps.{State, Next, Awaits, AwaitsName, AfterName, AfterReturn, AddOpen, SyncEnd, IfOpen, WhileOpen, ForOpen, PrintOpen, SpawnedName, after_statement, goes_on, step_statement}
 use Rattle.cilk_parser.specs.Contexts.{Called}
 use Rattle.cilk_parser.proofs.Firsts.{keyword_there}
 use Rattle.cilk_parser.proofs.Stepping.{ExpectsName, over_refuses, passed_shorter, passes_on, sign_there, unexpected_refuses}
@@ -70,6 +70,7 @@ abbrev IsBeginning : StatementStart → Token → Type 0
 IsBeginning statement.Empty token = token ≡ Mark sign.Semicolon
 IsBeginning statement.Name token = IsTrue (is_name_token token)
 IsBeginning statement.Spawn token = token ≡ Word word.Spawn
+IsBeginning statement.Add token = token ≡ Word word.FetchAdd
 IsBeginning statement.Sync token = token ≡ Word word.Sync
 IsBeginning statement.If token = token ≡ Word word.If
 IsBeginning statement.While token = token ≡ Word word.While
@@ -82,6 +83,7 @@ beginning : (token : Token) → IsBeginning (statement_start token) token
 beginning (Name name) = refl
 beginning (Mark sign.Semicolon) = refl
 beginning (Word word.Spawn) = refl
+beginning (Word word.FetchAdd) = refl
 beginning (Word word.Sync) = refl
 beginning (Word word.If) = refl
 beginning (Word word.While) = refl
@@ -103,6 +105,9 @@ begun_empty = record { only = begins_so statement.Empty; goes = λ outer. refl }
 
 pub begun_spawn : IsBegun statement.Spawn (Word word.Spawn) (λ outer. AwaitsName (SpawnedName (Called outer)))
 begun_spawn = record { only = begins_so statement.Spawn; goes = λ outer. refl }
+
+pub begun_add : IsBegun statement.Add (Word word.FetchAdd) (λ outer. Awaits (AddOpen (Called outer)))
+begun_add = record { only = begins_so statement.Add; goes = λ outer. refl }
 
 pub begun_sync : IsBegun statement.Sync (Word word.Sync) (λ outer. Awaits (SyncEnd outer))
 begun_sync = record { only = begins_so statement.Sync; goes = λ outer. refl }
@@ -152,6 +157,7 @@ nowhere : (outer : StatementIn) (token : Token) → statement_start token ≡ st
 nowhere outer (Name name) other = absurd (cc)
 nowhere outer (Mark sign.Semicolon) other = absurd (cc)
 nowhere outer (Word word.Spawn) other = absurd (cc)
+nowhere outer (Word word.FetchAdd) other = absurd (cc)
 nowhere outer (Word word.Sync) other = absurd (cc)
 nowhere outer (Word word.If) other = absurd (cc)
 nowhere outer (Word word.While) other = absurd (cc)

@@ -12,7 +12,7 @@ use Rattle.cilk_tree.specs.declared.tree.BinaryOp.{BinaryOp}
 use Rattle.cilk_tree.specs.declared.tree.UnaryOp.{UnaryOp}
 use Rattle.cilk_tree.specs.Levels.{counting}
 use Rattle.cilk_tree.specs.Syntax.{Expression, Variable, Prefix, Infix, operator_strength}
-use Rattle.cilk_parser.specs.Contexts.{Around, ValueOf, ArgumentOf, ChangedBy, StoredAt, StoredIn, IfCondition, WhileCondition, ForCondition, Printed, Returned, RightOf, Under, InIndex, InGroup, level_of, least_strength}
+use Rattle.cilk_parser.specs.Contexts.{Around, ValueOf, ArgumentOf, AddedAt, AddendOf, ChangedBy, StoredAt, StoredIn, IfCondition, WhileCondition, ForCondition, Printed, Returned, RightOf, Under, InIndex, InGroup, level_of, least_strength}
 use Rattle.cilk_parser.specs.Parts.{Spot, from, is_sign, stepping, stops_below}
 use Rattle.cilk_parser.specs.Steps.{Wants, Has, goes_on, is_mark, step, step_end, step_has, step_operand, step_operator, token_operator, with_operator}
 use Rattle.cilk_parser.proofs.Signs.{strength_most}
@@ -24,6 +24,8 @@ operand_taken (RightOf around left before) operand operator strong = rw (lt-ltb 
 operand_taken (Under around before) operand operator strong = absurd (omega (arith, strength_most operator))
 operand_taken (ValueOf outer) operand operator strong = refl
 operand_taken (ArgumentOf outer spawned name before) operand operator strong = refl
+operand_taken (AddedAt outer name) operand operator strong = refl
+operand_taken (AddendOf outer name index) operand operator strong = refl
 operand_taken (ChangedBy outer name direction) operand operator strong = refl
 operand_taken (StoredAt outer name) operand operator strong = refl
 operand_taken (StoredIn outer name index) operand operator strong = refl

@@ -6,10 +6,10 @@ use Rattle.cilk_tree.specs.declared.token.Token.{Token}
 use Rattle.cilk_tree.specs.declared.token.Token.TheVariants.{Name, Number, Word, Mark}
 use Rattle.cilk_tree.specs.Levels.{Spelled}
 use Rattle.cilk_tree.specs.Syntax as syntax
-use Rattle.cilk_tree.specs.Syntax.{NoParameters, VoidParameters, Named, Array, NoStart, SimpleStart, DeclaringStart, Simply, Syncing, Printing, Declaration, Assignment, Change, Storing, Valued, Commas, Declarator, Expression, Numeral, Variable, Element, Group, Prefix, Infix, Right, Value, Call, Simple, Statement, IfAlone, IfElse, WhileLoop, ForLoop, Nothing, Returning, Start, Body, Braced, Single, Inners, NoInners, ThenInner, Block, Stated, Source}
-use Rattle.cilk_parser.specs.Contexts.{Heading, with_last, InnersIn, FunctionBody, InBlock, InBody, BodyIn, IfTaken, IfOtherwise, WhileBody, ForBody, StatementIn, InInners, AsBody, SimpleIn, AsStatement, AsForStart, AsForLast, DeclareIn, AsDeclaration, AsForDeclaration, RightIn, Assigned, Declared, CallIn, ResultOf, Called, Around, ValueOf, ArgumentOf, ChangedBy, StoredAt, StoredIn, IfCondition, WhileCondition, ForCondition, Printed, Returned, RightOf, Under, InIndex, InGroup}
+use Rattle.cilk_tree.specs.Syntax.{NoParameters, VoidParameters, Named, Array, NoStart, SimpleStart, DeclaringStart, Simply, Syncing, Printing, Declaration, Assignment, Change, Storing, Valued, Commas, Declarator, Expression, Numeral, Variable, Element, Group, Prefix, Infix, Right, Value, Call, Addition, Simple, Statement, IfAlone, IfElse, WhileLoop, ForLoop, Nothing, Returning, Start, Body, Braced, Single, Inners, NoInners, ThenInner, Block, Stated, Source}
+use Rattle.cilk_parser.specs.Contexts.{Heading, with_last, InnersIn, FunctionBody, InBlock, InBody, BodyIn, IfTaken, IfOtherwise, WhileBody, ForBody, StatementIn, InInners, AsBody, SimpleIn, AsStatement, AsForStart, AsForLast, DeclareIn, AsDeclaration, AsForDeclaration, RightIn, Assigned, Declared, CallIn, ResultOf, Called, Around, ValueOf, ArgumentOf, AddedAt, AddendOf, ChangedBy, StoredAt, StoredIn, IfCondition, WhileCondition, ForCondition, Printed, Returned, RightOf, Under, InIndex, InGroup}
 use Rattle.cilk_parser.specs.Run.{all_behind, reads, walk}
-use Rattle.cilk_parser.specs.Steps.{Awaited, ArrayOpen, ArrayClose, ParametersOpen, VoidClose, BodyOpen, CallOpen, CalledEnd, SimpleEnd, StoreAssign, SyncEnd, IfOpen, WhileOpen, ForOpen, PrintOpen, PrintEnd, NameAwaited, FunctionName, ArrayName, ParameterName, DeclaratorName, SpawnedName, State, Items, AfterCilk, AfterInt, AfterIntName, ArraySize, AfterArray, ParametersStart, AfterParameter, NextParameter, AtInner, AtBody, HasBody, AfterDeclarator, HasDeclarators, AtRight, AfterRightName, AtArguments, AfterName, AtForStart, AtForCondition, AtForLast, AfterReturn, Wants, Has, Awaits, AwaitsName, goes, after_statement, after_inners, after_right, after_call, ended_body, ended_statement, token_operator, call_of, named_state, step_awaited, step_declarators, step_end, step}
+use Rattle.cilk_parser.specs.Steps.{Awaited, ArrayOpen, ArrayClose, ParametersOpen, VoidClose, BodyOpen, CallOpen, CalledEnd, AddOpen, AddIndexOpen, AddComma, AddedEnd, SimpleEnd, StoreAssign, SyncEnd, IfOpen, WhileOpen, ForOpen, PrintOpen, PrintEnd, NameAwaited, FunctionName, ArrayName, ParameterName, DeclaratorName, SpawnedName, AddedName, State, Items, AfterCilk, AfterInt, AfterIntName, ArraySize, AfterArray, ParametersStart, AfterParameter, NextParameter, AtInner, AtBody, HasBody, AfterDeclarator, HasDeclarators, AtRight, AfterRightName, AtArguments, AfterName, AtForStart, AtForCondition, AtForLast, AfterReturn, Wants, Has, Awaits, AwaitsName, goes, after_statement, after_inners, after_right, after_call, after_addition, addition_of, ended_body, ended_statement, token_operator, call_of, named_state, step_awaited, step_declarators, step_end, step}
 use Rattle.cilk_parser.proofs.Operands.{is_index, end_step}
 use Rattle.cilk_parser.proofs.Walks.{reads_after_walk}
 
@@ -102,6 +102,11 @@ unfolding step
 call_ends (ResultOf outer) call = right_ends outer _
 call_ends (Called outer) call = ends_on (Awaits (CalledEnd outer call)) _ (Mark sign.Semicolon) _ refl (statement_ends outer _)
 
+addition_ends : (outer : CallIn) (addition : Addition) → Ends (after_addition outer addition)
+unfolding step
+addition_ends (ResultOf outer) addition = right_ends outer _
+addition_ends (Called outer) addition = ends_on (Awaits (AddedEnd outer addition)) _ (Mark sign.Semicolon) _ refl (statement_ends outer _)
+
 -- ---- expressions
 
 -- This token ends the operand, and then some lead to the end of a source.
@@ -145,6 +150,12 @@ stored_ends outer name index =
     ends_on (Awaits (StoreAssign outer name index)) _ (Mark sign.Assign) _ refl
     (wants_ends (StoredIn outer name index) (closed_simple (StoredIn outer name index) (Numeral (pos 0)) outer (Storing name index (Numeral (pos 0))) (λ token. refl)))
 
+index_ends : (outer : CallIn) (name : List ℕ) (index : Expression) → Ends (Awaits (AddComma outer name index))
+unfolding step
+index_ends outer name index =
+    ends_on (Awaits (AddComma outer name index)) _ (Mark sign.Comma) _ refl
+    (wants_ends (AddendOf outer name index) (closed_by (Mark sign.CloseParen) refl refl refl (addition_ends outer (addition_of name index (Numeral (pos 0))))))
+
 print_ends : (outer : StatementIn) (value : Expression) → Ends (Awaits (PrintEnd outer value))
 unfolding step
 print_ends outer value = ends_on (Awaits (PrintEnd outer value)) _ (Mark sign.Semicolon) _ refl (statement_ends outer (Printing value))
@@ -157,6 +168,8 @@ closed (InIndex around name) operand = closed_by (Mark sign.CloseBracket) refl r
 closed (ValueOf (Assigned outer name)) operand = closed_simple (ValueOf (Assigned outer name)) operand outer (Assignment name (Value operand)) (λ token. refl)
 closed (ValueOf (Declared outer before name)) operand = closed_declarators (ValueOf (Declared outer before name)) operand outer (with_last before (Valued name (Value operand))) (λ token. refl)
 closed (ArgumentOf outer spawned name before) operand = closed_by (Mark sign.CloseParen) refl refl refl (call_ends outer (call_of spawned name (Some (with_last before operand))))
+closed (AddedAt outer name) operand = closed_by (Mark sign.CloseBracket) refl refl refl (index_ends outer name operand)
+closed (AddendOf outer name index) operand = closed_by (Mark sign.CloseParen) refl refl refl (addition_ends outer (addition_of name index operand))
 closed (ChangedBy outer name direction) operand = closed_simple (ChangedBy outer name direction) operand outer (Change name direction operand) (λ token. refl)
 closed (StoredAt outer name) operand = closed_by (Mark sign.CloseBracket) refl refl refl (stored_ends outer name operand)
 closed (StoredIn outer name index) operand = closed_simple (StoredIn outer name index) operand outer (Storing name index operand) (λ token. refl)
@@ -203,6 +216,10 @@ start_ends : (outer : StatementIn) → Ends (AtForStart outer)
 unfolding step
 start_ends outer = ends_on (AtForStart outer) _ (Mark sign.Semicolon) _ refl (condition_ends outer NoStart)
 
+index_open_ends : (outer : CallIn) (name : List ℕ) → Ends (Awaits (AddIndexOpen outer name))
+unfolding step
+index_open_ends outer name = ends_on (Awaits (AddIndexOpen outer name)) _ (Mark sign.OpenBracket) _ refl (operand_ends (AddedAt outer name))
+
 awaited_ends : (awaited : Awaited) → Ends (Awaits awaited)
 unfolding step
 awaited_ends (ArrayOpen before arrays name) = ends_on (Awaits (ArrayOpen before arrays name)) _ (Mark sign.OpenBracket) _ refl (size_ends before arrays name)
@@ -212,6 +229,11 @@ awaited_ends (VoidClose heading) = ends_on (Awaits (VoidClose heading)) _ (Mark 
 awaited_ends (BodyOpen heading formals) = opened_end heading formals
 awaited_ends (CallOpen outer spawned name) = ends_on (Awaits (CallOpen outer spawned name)) _ (Mark sign.OpenParen) _ refl (arguments_end outer spawned name)
 awaited_ends (CalledEnd outer call) = call_ends (Called outer) call
+awaited_ends (AddOpen outer) =
+    ends_on (Awaits (AddOpen outer)) _ (Mark sign.OpenParen) _ refl (ends_on (AwaitsName (AddedName outer)) _ (Name (codes "x")) _ refl (index_open_ends outer (codes "x")))
+awaited_ends (AddIndexOpen outer name) = index_open_ends outer name
+awaited_ends (AddComma outer name index) = index_ends outer name index
+awaited_ends (AddedEnd outer addition) = addition_ends (Called outer) addition
 awaited_ends (SimpleEnd outer simple) = simple_ends outer simple
 awaited_ends (StoreAssign outer name index) = stored_ends outer name index
 awaited_ends (SyncEnd outer) = ends_on (Awaits (SyncEnd outer)) _ (Mark sign.Semicolon) _ refl (statement_ends outer Syncing)
@@ -232,6 +254,7 @@ named_ends (ArrayName before arrays) name = awaited_ends _
 named_ends (ParameterName heading before) name = parameter_ends heading _
 named_ends (DeclaratorName outer before) name = declarator_ends outer before name
 named_ends (SpawnedName outer) name = awaited_ends _
+named_ends (AddedName outer) name = index_open_ends outer name
 
 name_ends : (awaited : NameAwaited) → Ends (AwaitsName awaited)
 unfolding step

@@ -3,15 +3,15 @@ use Rattle.std.proofs.Common.{◌≡◌, ◌+◌, not, IsTrue, Option, List, [],
 use Rattle.std.specs.Option.{IfSome}
 use Rattle.cilk_tree.specs.declared.token.Keyword.TheVariants as word
 use Rattle.cilk_tree.specs.declared.token.Sign.TheVariants as sign
-use Rattle.cilk_tree.specs.Levels.{Spelled, mark, word_at, spell_call, spell_right, spell_declarator, spell_any, spell_whole, spell_simple, spell_start, spell_statement, spell_inners, spell_body}
-use Rattle.cilk_tree.specs.Syntax.{Expression, Right, Result, Call, Valued, Start, Simple, Statement, IfAlone, IfElse, WhileLoop, ForLoop, Inners, Body, Single, is_right, is_call, is_declarator, is_statement, are_inners, is_body, dangles, statement_dangles}
+use Rattle.cilk_tree.specs.Levels.{Spelled, mark, word_at, spell_call, spell_addition, spell_right, spell_declarator, spell_any, spell_whole, spell_simple, spell_start, spell_statement, spell_inners, spell_body}
+use Rattle.cilk_tree.specs.Syntax.{Expression, Right, Result, Fetched, Call, Addition, Valued, Start, Simple, Statement, IfAlone, IfElse, WhileLoop, ForLoop, Inners, Body, Single, is_right, is_call, is_addition, is_declarator, is_statement, are_inners, is_body, dangles, statement_dangles}
 use Rattle.cilk_parser.specs.Contexts.{InnersIn, FunctionBody, InBlock, InBody, BodyIn, IfTaken, IfOtherwise, WhileBody, ForBody, StatementIn, InInners, AsBody, inners_level, body_level, statement_level, owner_level, closing_level, RightIn, Assigned, Declared, right_level, declare_level, CallIn, ResultOf, Called, call_level}
-use Rattle.cilk_parser.specs.Steps.{Place, after_statement, after_inners, after_right, after_call, ended_body, ended_statement, otherwise_of_body, otherwise_of_statement}
+use Rattle.cilk_parser.specs.Steps.{Place, after_statement, after_inners, after_right, after_call, after_addition, ended_body, ended_statement, otherwise_of_body, otherwise_of_statement}
 use Rattle.cilk_parser.proofs.Advancing.{Stands, both, spell_with_last, each_with_last}
 use Rattle.cilk_parser.proofs.SoFar.{if_so_far, inners_so_far, body_so_far, statement_so_far, right_so_far, call_so_far, declare_so_far}
 use Rattle.cilk_parser.proofs.Valid.{AreInnersOpen, IsBodyOpen, IsStatementOpen, IsRightOpen, IsCallOpen}
 
--- ---- a call and what stands behind a `=`
+-- ---- a call, an addition and what stands behind a `=`
 
 pub after_right_stands : (outer : RightIn) (right : Right) → IsRightOpen outer → IsTrue (is_right right) → Stands (after_right outer right) (right_so_far outer ++ spell_right (right_level outer) right)
 after_right_stands (Assigned outer name) right opened formed = record { valid = (opened, formed); same = simp append_assoc; settled = refl }
@@ -24,6 +24,11 @@ after_right_stands (Declared outer before name) right opened formed = record {
 pub after_call_stands : (outer : CallIn) (call : Call) → IsCallOpen outer → IsTrue (is_call call) → Stands (after_call outer call) (call_so_far outer ++ spell_call (call_level outer) call)
 after_call_stands (ResultOf outer) call opened formed = after_right_stands outer (Result call) opened formed
 after_call_stands (Called outer) call opened formed = record { valid = (opened, formed); same = refl; settled = refl }
+
+pub after_addition_stands : (outer : CallIn) (addition : Addition) → IsCallOpen outer → IsTrue (is_addition addition) →
+    Stands (after_addition outer addition) (call_so_far outer ++ spell_addition (call_level outer) addition)
+after_addition_stands (ResultOf outer) addition opened formed = after_right_stands outer (Fetched addition) opened formed
+after_addition_stands (Called outer) addition opened formed = record { valid = (opened, formed); same = refl; settled = refl }
 
 -- ---- a statement and a list of statements
 

@@ -9,11 +9,11 @@ use Rattle.cilk_tree.specs.declared.count.Counted.TheVariants.{Operators}
 use Rattle.cilk_tree.specs.declared.count.Count.TheVariants.{OneMore}
 use Rattle.cilk_tree.specs.Levels.{counting, mark, operator_sign, spell_argument}
 use Rattle.cilk_tree.specs.Syntax.{Expression, Numeral, Variable, Element, Group, Prefix, Infix, Value, Change, Storing, Returning, is_grouped, strength}
-use Rattle.cilk_parser.specs.Contexts.{with_last, IfTaken, WhileBody, simple_level, statement_level, call_level, Around, ValueOf, ArgumentOf, ChangedBy, StoredAt, StoredIn, IfCondition, WhileCondition, ForCondition, Printed, Returned, RightOf, Under, InIndex, InGroup, level_of}
-use Rattle.cilk_parser.specs.Steps.{AtBody, AtForLast, Wants, Has, Awaits, SimpleEnd, StoreAssign, PrintEnd, after_statement, with_operator, token_operator, step_awaited, step_argument, step_end, step_operator, step_operand, step_has, step_wants}
+use Rattle.cilk_parser.specs.Contexts.{with_last, IfTaken, WhileBody, simple_level, statement_level, call_level, Around, ValueOf, ArgumentOf, AddedAt, AddendOf, ChangedBy, StoredAt, StoredIn, IfCondition, WhileCondition, ForCondition, Printed, Returned, RightOf, Under, InIndex, InGroup, level_of}
+use Rattle.cilk_parser.specs.Steps.{AtBody, AtForLast, Wants, Has, Awaits, AddComma, SimpleEnd, StoreAssign, PrintEnd, addition_of, after_addition, after_statement, with_operator, token_operator, step_awaited, step_argument, step_end, step_operator, step_operand, step_has, step_wants}
 use Rattle.cilk_parser.proofs.Advancing.{Advances, stands_as, on_here, advances_as, only_moves, spell_with_last, each_with_last, both}
 use Rattle.cilk_parser.proofs.AwaitedSteps.{awaited_moves, right_moves, argument_moves}
-use Rattle.cilk_parser.proofs.Completed.{after_statement_stands}
+use Rattle.cilk_parser.proofs.Completed.{after_addition_stands, after_statement_stands}
 use Rattle.cilk_parser.proofs.Operators.{least_most, infix_whole, prefix_whole, infix_spelled, prefix_spelled, operates}
 use Rattle.cilk_parser.proofs.Signs.{strength_most, operator_token}
 use Rattle.cilk_parser.proofs.SoFar.{arguments_so_far, around_so_far, has_so_far}
@@ -50,6 +50,11 @@ end_moves (ArgumentOf outer spawned name before) operand token h =
     advances_as _ _ token (step_argument outer spawned name (with_last before operand) token)
     (ap (λ s. arguments_so_far outer spawned name None ++ s) (spell_with_last (call_level outer) (spell_argument (call_level outer)) before operand) ∙ simp append_assoc)
     (argument_moves outer spawned name (with_last before operand) token h.opened.0 (each_with_last is_grouped before operand h.opened.1 h.grouped))
+end_moves (AddedAt outer name) operand token h =
+    only_moves _ (mark (call_level outer) sign.CloseBracket) (Awaits (AddComma outer name operand)) token (record { valid = (h.opened, h.grouped); same = simp append_assoc; settled = refl })
+end_moves (AddendOf outer name index) operand token h =
+    only_moves _ (mark (call_level outer) sign.CloseParen) (after_addition outer (addition_of name index operand)) token
+    (stands_as _ _ _ (after_addition_stands outer (addition_of name index operand) h.opened.0 (both h.opened.1 h.grouped)) (simp append_assoc))
 end_moves (ChangedBy outer name direction) operand token h =
     advances_as _ _ token (step_awaited (SimpleEnd outer (Change name direction operand)) token) (simp append_assoc) (awaited_moves (SimpleEnd outer (Change name direction operand)) token (h.opened, h.grouped))
 end_moves (StoredAt outer name) operand token h =

@@ -14,7 +14,7 @@ use Rattle.cilk_tree.specs.declared.count.Count.TheVariants.{OneMore}
 use Rattle.cilk_tree.specs.declared.count.Counted.TheVariants.{Operators}
 use Rattle.cilk_tree.specs.Levels.{counting, operator_sign, unary_sign, spell_expression}
 use Rattle.cilk_tree.specs.Syntax.{Expression, Numeral, Variable, Element, Group, Prefix, Infix, operator_strength, strength, is_grouped}
-use Rattle.cilk_parser.specs.Contexts.{Around, ValueOf, ArgumentOf, ChangedBy, StoredAt, StoredIn, IfCondition, WhileCondition, ForCondition, Printed, Returned, RightOf, Under, InIndex, InGroup, level_of, least_strength}
+use Rattle.cilk_parser.specs.Contexts.{Around, ValueOf, ArgumentOf, AddedAt, AddendOf, ChangedBy, StoredAt, StoredIn, IfCondition, WhileCondition, ForCondition, Printed, Returned, RightOf, Under, InIndex, InGroup, level_of, least_strength}
 use Rattle.cilk_parser.specs.Run.{reads, walk}
 use Rattle.cilk_parser.specs.Steps.{Wants, Has, step, goes_on, step_operator, step_end, token_operator, with_operator}
 use Rattle.cilk_parser.proofs.Ahead.{ahead, ahead_append}
@@ -93,6 +93,8 @@ operator_taken (RightOf around before other) left operator h = rw (lt-ltb (opera
 operator_taken (Under around other) left operator h = absurd (let most = strength_most operator in omega arith)
 operator_taken (ValueOf outer) left operator h = refl
 operator_taken (ArgumentOf outer spawned name before) left operator h = refl
+operator_taken (AddedAt outer name) left operator h = refl
+operator_taken (AddendOf outer name index) left operator h = refl
 operator_taken (ChangedBy outer name direction) left operator h = refl
 operator_taken (StoredAt outer name) left operator h = refl
 operator_taken (StoredIn outer name index) left operator h = refl

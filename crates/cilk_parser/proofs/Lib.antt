@@ -1,3 +1,4 @@
+pub mod Additions
 pub mod Advancing
 pub mod Ahead
 pub mod Answered

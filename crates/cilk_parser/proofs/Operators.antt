@@ -8,7 +8,7 @@ use Rattle.cilk_tree.specs.declared.count.Counted.TheVariants.{Operators}
 use Rattle.cilk_tree.specs.declared.count.Count.TheVariants.{OneMore}
 use Rattle.cilk_tree.specs.Levels.{Spelled, counting, operator_sign}
 use Rattle.cilk_tree.specs.Syntax.{Expression, Prefix, Infix, operator_strength, strength}
-use Rattle.cilk_parser.specs.Contexts.{Around, ValueOf, ArgumentOf, ChangedBy, StoredAt, StoredIn, IfCondition, WhileCondition, ForCondition, Printed, Returned, RightOf, Under, InIndex, InGroup, level_of, least_strength}
+use Rattle.cilk_parser.specs.Contexts.{Around, ValueOf, ArgumentOf, AddedAt, AddendOf, ChangedBy, StoredAt, StoredIn, IfCondition, WhileCondition, ForCondition, Printed, Returned, RightOf, Under, InIndex, InGroup, level_of, least_strength}
 use Rattle.cilk_parser.specs.Steps.{with_operator}
 use Rattle.cilk_parser.proofs.Advancing.{both}
 use Rattle.cilk_parser.proofs.Signs.{strength_most}
@@ -20,6 +20,8 @@ least_most (RightOf around left operator) = omega (arith, strength_most operator
 least_most (Under around operator) = omega arith
 least_most (ValueOf outer) = omega arith
 least_most (ArgumentOf outer spawned name before) = omega arith
+least_most (AddedAt outer name) = omega arith
+least_most (AddendOf outer name index) = omega arith
 least_most (ChangedBy outer name direction) = omega arith
 least_most (StoredAt outer name) = omega arith
 least_most (StoredIn outer name index) = omega arith
@@ -77,6 +79,8 @@ module _ (operator : BinaryOp) where
       (operates around (Prefix before operand) (prefix_whole around operand before h) (let a = strength_most operator in omega arith))
   operates (ValueOf outer) operand h weak = taken (ValueOf outer) operand h weak (omega arith)
   operates (ArgumentOf outer spawned name before) operand h weak = taken (ArgumentOf outer spawned name before) operand h weak (omega arith)
+  operates (AddedAt outer name) operand h weak = taken (AddedAt outer name) operand h weak (omega arith)
+  operates (AddendOf outer name index) operand h weak = taken (AddendOf outer name index) operand h weak (omega arith)
   operates (ChangedBy outer name direction) operand h weak = taken (ChangedBy outer name direction) operand h weak (omega arith)
   operates (StoredAt outer name) operand h weak = taken (StoredAt outer name) operand h weak (omega arith)
   operates (StoredIn outer name index) operand h weak = taken (StoredIn outer name index) operand h weak (omega arith)

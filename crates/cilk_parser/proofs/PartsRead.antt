@@ -1,5 +1,5 @@
 -- The machine reads each part of a statement.
-use Rattle.std.proofs.Common.{◌≡◌, ℕ, ℤ, ◌+◌, Bool, true, false, IsTrue, Option, Some, None, option_map, List, [], ◌∷◌, refl, ap, sym, ◌∙◌, arith}
+use Rattle.std.proofs.Common.{◌≡◌, ℕ, ℤ, ◌+◌, Bool, true, false, IsTrue, Option, Some, None, option_map, List, [], ◌∷◌, ◌++◌, refl, ap, sym, ◌∙◌, arith}
 use Rattle.std.proofs.lemmas.Bool.{and_parts}
 use Rattle.cilk_tree.specs.declared.token.Keyword.TheVariants as word
 use Rattle.cilk_tree.specs.declared.token.Sign.TheVariants as sign
@@ -11,11 +11,11 @@ use Rattle.cilk_tree.specs.declared.tree.UnaryOp.TheVariants as unary
 use Rattle.cilk_tree.specs.declared.count.Count.{Count}
 use Rattle.cilk_tree.specs.declared.count.Count.TheVariants.{Anew, OneMore}
 use Rattle.cilk_tree.specs.declared.count.Counted.TheVariants.{Operators}
-use Rattle.cilk_tree.specs.Levels.{Spelled, counting, operator_sign, spell_expression, spell_whole, spell_argument, spell_commas, spell_any, spell_call, spell_right, spell_declarator, spell_simple}
-use Rattle.cilk_tree.specs.Syntax.{Commas, One, More, Expression, Numeral, Variable, Element, Group, Prefix, Infix, Call, Right, Value, Result, Declarator, Bare, Valued, Up, Down, Simple, Assignment, Change, Step, Storing, is_grouped, each_of, is_call, if_any, is_right, is_declarator, is_simple}
-use Rattle.cilk_parser.specs.Contexts.{with_last, SimpleIn, DeclareIn, AsDeclaration, AsForDeclaration, RightIn, Assigned, Declared, right_level, CallIn, ResultOf, Around, ValueOf, ArgumentOf, ChangedBy, StoredAt, StoredIn, least_strength}
+use Rattle.cilk_tree.specs.Levels.{Spelled, counting, mark, operator_sign, spell_expression, spell_whole, spell_argument, spell_commas, spell_any, spell_call, spell_addition, spell_right, spell_declarator, spell_simple}
+use Rattle.cilk_tree.specs.Syntax.{Commas, One, More, Expression, Numeral, Variable, Element, Group, Prefix, Infix, Call, Addition, Right, Value, Result, Fetched, Declarator, Bare, Valued, Up, Down, Simple, Assignment, Change, Step, Storing, is_grouped, each_of, is_call, is_addition, if_any, is_right, is_declarator, is_simple}
+use Rattle.cilk_parser.specs.Contexts.{with_last, SimpleIn, DeclareIn, AsDeclaration, AsForDeclaration, RightIn, Assigned, Declared, right_level, CallIn, ResultOf, Around, ValueOf, ArgumentOf, AddedAt, AddendOf, ChangedBy, StoredAt, StoredIn, least_strength}
 use Rattle.cilk_parser.specs.Run.{reads, walk}
-use Rattle.cilk_parser.specs.Steps.{State, AfterDeclarator, HasDeclarators, AtRight, AfterRightName, AtArguments, AfterName, Wants, Has, Awaits, AwaitsName, SimpleEnd, StoreAssign, SpawnedName, DeclaratorName, Next, after_right, after_call, call_of, behind, token_operator, step, step_argument, step_end, step_has, step_right, step_right_name}
+use Rattle.cilk_parser.specs.Steps.{State, AfterDeclarator, HasDeclarators, AtRight, AfterRightName, AtArguments, AfterName, Wants, Has, Awaits, AwaitsName, AddOpen, AddIndexOpen, AddComma, AddedName, SimpleEnd, StoreAssign, SpawnedName, DeclaratorName, Next, after_right, after_call, after_addition, call_of, behind, token_operator, step, step_argument, step_end, step_has, step_right, step_right_name}
 use Rattle.cilk_parser.proofs.Ahead.{ahead, ahead_append}
 use Rattle.cilk_parser.proofs.ExpressionsRead.{end_read, expression_read}
 use Rattle.cilk_parser.proofs.Operands.{is_index}
@@ -144,6 +144,23 @@ pub call_read : (state : State) (outer : CallIn) → StartsCall state outer → 
     reads state (ahead (spell_call level call) rest) ≡ reads (after_call outer call) rest
 call_read state outer h call level rest grouped = called_read state outer h call.spawned call.name call.arguments level rest grouped
 
+-- ---- additions
+
+-- where an addition may begin in the state
+pub addition_read : (state : State) (outer : CallIn) → ((rest : List Token) → reads state (Word word.FetchAdd ∷ rest) ≡ reads (Awaits (AddOpen outer)) rest) →
+    (addition : Addition) (level : ℕ) (rest : List Token) → IsTrue (is_addition addition) → reads state (ahead (spell_addition level addition) rest) ≡ reads (after_addition outer addition) rest
+unfolding step
+addition_read state outer h addition level rest formed =
+    let parts = and_parts (is_grouped addition.index) (is_grouped addition.addend) formed in
+    let index = spell_whole (level + 1) addition.index in
+    let behind_index = mark level sign.CloseBracket ∷ mark level sign.Comma ∷ spell_whole level addition.addend in
+    h _ ∙ reads_step (Awaits (AddOpen outer)) (Mark sign.OpenParen) _ ∙ reads_step (AwaitsName (AddedName outer)) (Name addition.name) _ ∙
+    reads_step (Awaits (AddIndexOpen outer addition.name)) (Mark sign.OpenBracket) _ ∙
+    ap (reads (Wants (AddedAt outer addition.name))) (ahead_append (index ++ behind_index) (mark level sign.CloseParen ∷ []) rest ∙ ahead_append index behind_index (Mark sign.CloseParen ∷ rest)) ∙
+    value_read (AddedAt outer addition.name) refl addition.index (level + 1) _ (Mark sign.CloseBracket) _ parts.0 refl ∙
+    reads_step (Awaits (AddComma outer addition.name addition.index)) (Mark sign.Comma) _ ∙
+    value_read (AddendOf outer addition.name addition.index) refl addition.addend level _ (Mark sign.CloseParen) rest parts.1 refl
+
 -- ---- behind a `=`
 
 -- A name there may begin a call, but not before such a token.
@@ -181,6 +198,10 @@ right_call outer = record {
   calls = λ name rest. reads_after_walk (AtRight outer) (Name name ∷ Mark sign.OpenParen ∷ []) rest _ refl;
 }
 
+right_addition : (outer : RightIn) (rest : List Token) → reads (AtRight outer) (Word word.FetchAdd ∷ rest) ≡ reads (Awaits (AddOpen (ResultOf outer))) rest
+unfolding step
+right_addition outer rest = reads_step (AtRight outer) (Word word.FetchAdd) rest
+
 right_step : (outer : RightIn) (right : Right) (token : Token) → step (after_right outer right) token ≡ step_right outer right token
 unfolding step
 right_step (Assigned outer name) right token = refl
@@ -192,6 +213,7 @@ right_read (Value value) level outer token rest formed end =
     whole_read (AtRight outer) (ValueOf outer) (right_start outer) refl value level _ token rest formed end ∙
     ap (on_reads rest) (sym (right_step outer (Value value) token)) ∙ sym (reads_step (after_right outer (Value value)) token rest)
 right_read (Result call) level outer token rest formed end = call_read (AtRight outer) (ResultOf outer) (right_call outer) call level (token ∷ rest) formed
+right_read (Fetched addition) level outer token rest formed end = addition_read (AtRight outer) (ResultOf outer) (right_addition outer) addition level (token ∷ rest) formed
 
 -- ---- declarators
 

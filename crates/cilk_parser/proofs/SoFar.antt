@@ -5,11 +5,11 @@ use Rattle.cilk_tree.specs.declared.token.Sign.TheVariants as sign
 use Rattle.cilk_tree.specs.declared.token.Token.TheVariants.{Name, Number, Word, Mark}
 use Rattle.cilk_tree.specs.declared.count.Counted.TheVariants.{Operators, Parameters, Arguments, Variables, Arrays}
 use Rattle.cilk_tree.specs.declared.count.Count.TheVariants.{Anew, OneMore}
-use Rattle.cilk_tree.specs.Levels.{Spelled, counting, plain, mark, word_at, operator_sign, unary_sign, change_sign, spell_expression, spell_whole, spell_argument, spell_commas, spell_any, spawn_word, spell_call, spell_declarator, spell_simple, spell_start, spell_condition, spell_inners, spell_body, spell_parameter, spell_parameters, spell_head, spell_array, spell_source}
+use Rattle.cilk_tree.specs.Levels.{Spelled, counting, plain, mark, word_at, operator_sign, unary_sign, change_sign, spell_expression, spell_whole, spell_argument, spell_commas, spell_any, spawn_word, spell_call, spell_addition, spell_declarator, spell_simple, spell_start, spell_condition, spell_inners, spell_body, spell_parameter, spell_parameters, spell_head, spell_array, spell_source}
 use Rattle.cilk_tree.specs.Syntax as syntax
 use Rattle.cilk_tree.specs.Syntax.{Commas, Expression, Declarator, Simple, Array}
-use Rattle.cilk_parser.specs.Contexts.{Heading, InnersIn, FunctionBody, InBlock, InBody, BodyIn, IfTaken, IfOtherwise, WhileBody, ForBody, StatementIn, InInners, AsBody, inners_level, statement_level, owner_level, body_level, SimpleIn, AsStatement, AsForStart, AsForLast, simple_level, DeclareIn, AsDeclaration, AsForDeclaration, declare_level, RightIn, Assigned, Declared, CallIn, ResultOf, Called, call_level, Around, ValueOf, ArgumentOf, ChangedBy, StoredAt, StoredIn, IfCondition, WhileCondition, ForCondition, Printed, Returned, RightOf, Under, InIndex, InGroup, level_of, first_counts}
-use Rattle.cilk_parser.specs.Steps.{Awaited, ArrayOpen, ArrayClose, ParametersOpen, VoidClose, BodyOpen, CallOpen, CalledEnd, SimpleEnd, StoreAssign, SyncEnd, IfOpen, WhileOpen, ForOpen, PrintOpen, PrintEnd, NameAwaited, FunctionName, ArrayName, ParameterName, DeclaratorName, SpawnedName, State, Items, AfterCilk, AfterInt, AfterIntName, ArraySize, AfterArray, ParametersStart, AfterParameter, NextParameter, AtInner, AtBody, HasBody, AfterDeclarator, HasDeclarators, AtRight, AfterRightName, AtArguments, AfterName, AtForStart, AtForCondition, AtForLast, AfterReturn, Wants, Has, Awaits, AwaitsName, function_counts}
+use Rattle.cilk_parser.specs.Contexts.{Heading, InnersIn, FunctionBody, InBlock, InBody, BodyIn, IfTaken, IfOtherwise, WhileBody, ForBody, StatementIn, InInners, AsBody, inners_level, statement_level, owner_level, body_level, SimpleIn, AsStatement, AsForStart, AsForLast, simple_level, DeclareIn, AsDeclaration, AsForDeclaration, declare_level, RightIn, Assigned, Declared, CallIn, ResultOf, Called, call_level, Around, ValueOf, ArgumentOf, AddedAt, AddendOf, ChangedBy, StoredAt, StoredIn, IfCondition, WhileCondition, ForCondition, Printed, Returned, RightOf, Under, InIndex, InGroup, level_of, first_counts}
+use Rattle.cilk_parser.specs.Steps.{Awaited, ArrayOpen, ArrayClose, ParametersOpen, VoidClose, BodyOpen, CallOpen, CalledEnd, AddOpen, AddIndexOpen, AddComma, AddedEnd, SimpleEnd, StoreAssign, SyncEnd, IfOpen, WhileOpen, ForOpen, PrintOpen, PrintEnd, NameAwaited, FunctionName, ArrayName, ParameterName, DeclaratorName, SpawnedName, AddedName, State, Items, AfterCilk, AfterInt, AfterIntName, ArraySize, AfterArray, ParametersStart, AfterParameter, NextParameter, AtInner, AtBody, HasBody, AfterDeclarator, HasDeclarators, AtRight, AfterRightName, AtArguments, AfterName, AtForStart, AtForCondition, AtForLast, AfterReturn, Wants, Has, Awaits, AwaitsName, function_counts}
 
 -- what stands before the next of a list with commas
 abbrev pub commas_before : {T : Type 0} → ℕ → (T → List Spelled) → Option (Commas T) → List Spelled
@@ -91,11 +91,20 @@ arguments_so_far outer spawned name before =
     call_so_far outer ++ spawn_word (call_level outer) spawned ++ plain (call_level outer) (Name name) ∷ counting (call_level outer) (Anew Arguments ∷ []) (Mark sign.OpenParen)
     ∷ commas_before (call_level outer) (spell_argument (call_level outer)) before
 
+-- up to the index of an addition
+abbrev pub add_so_far : CallIn → List ℕ → List Spelled
+add_so_far outer name =
+    call_so_far outer ++ word_at (call_level outer) word.FetchAdd ∷ mark (call_level outer) sign.OpenParen ∷ plain (call_level outer) (Name name)
+    ∷ mark (call_level outer) sign.OpenBracket ∷ []
+
 -- ---- expressions
 
 abbrev pub around_so_far : Around → List Spelled
 around_so_far (ValueOf outer) = right_so_far outer
 around_so_far (ArgumentOf outer spawned name before) = arguments_so_far outer spawned name before
+around_so_far (AddedAt outer name) = add_so_far outer name
+around_so_far (AddendOf outer name index) =
+    add_so_far outer name ++ spell_whole (call_level outer + 1) index ++ mark (call_level outer) sign.CloseBracket ∷ mark (call_level outer) sign.Comma ∷ []
 around_so_far (ChangedBy outer name direction) =
     simple_so_far outer ++ plain (simple_level outer) (Name name)
     ∷ counting (simple_level outer) (Anew Operators ∷ OneMore Operators ∷ []) (Mark (change_sign direction)) ∷ []
@@ -131,6 +140,11 @@ awaited_so_far (VoidClose heading) = formals_so_far heading syntax.VoidParameter
 awaited_so_far (BodyOpen heading formals) = formals_so_far heading formals ++ mark 0 sign.CloseParen ∷ []
 awaited_so_far (CallOpen outer spawned name) = call_so_far outer ++ spawn_word (call_level outer) spawned ++ plain (call_level outer) (Name name) ∷ []
 awaited_so_far (CalledEnd outer call) = statement_so_far outer ++ spell_call (statement_level outer) call
+awaited_so_far (AddOpen outer) = call_so_far outer ++ word_at (call_level outer) word.FetchAdd ∷ []
+awaited_so_far (AddIndexOpen outer name) =
+    call_so_far outer ++ word_at (call_level outer) word.FetchAdd ∷ mark (call_level outer) sign.OpenParen ∷ plain (call_level outer) (Name name) ∷ []
+awaited_so_far (AddComma outer name index) = add_so_far outer name ++ spell_whole (call_level outer + 1) index ++ mark (call_level outer) sign.CloseBracket ∷ []
+awaited_so_far (AddedEnd outer addition) = statement_so_far outer ++ spell_addition (statement_level outer) addition
 awaited_so_far (SimpleEnd outer simple) = simple_so_far outer ++ spell_simple (simple_level outer) simple
 awaited_so_far (StoreAssign outer name index) =
     simple_so_far outer ++ plain (simple_level outer) (Name name) ∷ mark (simple_level outer) sign.OpenBracket ∷ spell_whole (simple_level outer + 1) index
@@ -149,6 +163,7 @@ named_so_far (ArrayName before arrays) = arrays_so_far before (Some arrays)
 named_so_far (ParameterName heading names) = parameters_so_far heading names ++ counting 0 (OneMore Parameters ∷ []) (Word word.Int) ∷ []
 named_so_far (DeclaratorName outer before) = declarators_so_far outer before
 named_so_far (SpawnedName outer) = call_so_far outer ++ word_at (call_level outer) word.Spawn ∷ []
+named_so_far (AddedName outer) = call_so_far outer ++ word_at (call_level outer) word.FetchAdd ∷ mark (call_level outer) sign.OpenParen ∷ []
 
 -- the tokens that were emitted up to this state
 abbrev pub so_far : State → List Spelled

@@ -50,6 +50,7 @@ pub statement_moves : (outer : StatementIn) (token : Token) → IsStatementOpen 
 statement_moves outer (Mark sign.Semicolon) opened = on _ _ _ _ (after_statement_stands outer Nothing opened refl refl) refl
 statement_moves outer (Name name) opened = on_here _ _ _ opened refl refl
 statement_moves outer (Word word.Spawn) opened = on_here _ _ _ opened refl refl
+statement_moves outer (Word word.FetchAdd) opened = on_here _ _ _ opened refl refl
 statement_moves outer (Word word.Sync) opened = on_here _ _ _ opened refl refl
 statement_moves outer (Word word.If) opened = on_here _ _ _ opened refl refl
 statement_moves outer (Word word.While) opened = on_here _ _ _ opened refl refl

@@ -10,16 +10,18 @@ use Rattle.cilk_tree.specs.declared.tree.Expr.{Expr}
 use Rattle.cilk_tree.specs.declared.tree.Stmt.{Stmt}
 use Rattle.cilk_tree.specs.declared.tree.Stmt.TheVariants as stmt
 use Rattle.cilk_tree.specs.Levels.{counting, mark}
-use Rattle.cilk_tree.specs.Syntax.{Simply, Calling, Syncing, Printing, Returning}
+use Rattle.cilk_tree.specs.Sugar.{expression_tree}
+use Rattle.cilk_tree.specs.Syntax.{Simply, Calling, Adding, Syncing, Printing, Returning}
+use Rattle.cilk_parser.specs.declared.addition.Addition.{Addition}
 use Rattle.cilk_parser.specs.declared.call.Call.{Call}
 use Rattle.cilk_parser.specs.declared.opening.Opening.TheVariants.{Whole}
 use Rattle.cilk_parser.specs.declared.refusal.ParseRefusal.{ParseRefusal}
 use Rattle.cilk_parser.specs.declared.starts.StatementStart.TheVariants as statement
 use Rattle.cilk_parser.specs.Contexts.{StatementIn, AsStatement, Called, Printed, Returned, statement_level}
-use Rattle.cilk_parser.specs.Parts.{Spot, from, HasPassed, IsOver, HasRead, LacksSign, HasNamed, LacksName, HasArguments, LacksArguments, HasSpawn, LacksSpawn, HasExpression, LacksExpression, HasCondition, LacksCondition, HasSimple, LacksSimple, HasStatement, LacksStatement, is_sign, stepping, stops_below}
+use Rattle.cilk_parser.specs.Parts.{Spot, from, HasPassed, IsOver, HasRead, LacksSign, HasNamed, LacksName, HasArguments, LacksArguments, HasSpawn, LacksSpawn, HasAddition, LacksAddition, HasExpression, LacksExpression, HasCondition, LacksCondition, HasSimple, LacksSimple, HasStatement, LacksStatement, is_sign, stepping, stops_below}
 use Rattle.cilk_parser.specs.Starts.{starts_statement}
-use Rattle.cilk_parser.specs.Steps.{Wants, Awaits, AwaitsName, AfterName, AfterReturn, AtArguments, CalledEnd, PrintEnd, PrintOpen, SpawnedName, SyncEnd, after_statement, call_of, goes_on, is_mark, step, step_only, step_return, step_statement, step_wants}
-use Rattle.cilk_parser.proofs.Beginnings.{begun_over, begun_passed, begun_print, begun_return, begun_spawn, begun_sync, expects_step_named, sign_begins, statement_named, step_named, token_over, token_passed}
+use Rattle.cilk_parser.specs.Steps.{Wants, Awaits, AwaitsName, AfterName, AfterReturn, AtArguments, AddOpen, AddedEnd, CalledEnd, PrintEnd, PrintOpen, SpawnedName, SyncEnd, addition_of, after_statement, call_of, goes_on, is_mark, step, step_only, step_return, step_statement, step_wants}
+use Rattle.cilk_parser.proofs.Beginnings.{begun_add, begun_over, begun_passed, begun_print, begun_return, begun_spawn, begun_sync, expects_step_named, sign_begins, statement_named, step_named, token_over, token_passed}
 use Rattle.cilk_parser.proofs.Conditions.{value_of_print}
 use Rattle.cilk_parser.proofs.Stepping.{awaits_lacks, awaits_sign, from_steps, lacks_name, passed_shorter, reads_name, refuses_as, sign_absent, stepping_same}
 use Rattle.cilk_parser.proofs.Enclosed.{Encloses, closed_lacks, closed_reads}
@@ -74,6 +76,36 @@ module _ (level : ℕ) (old middle : Spot) (there : starts_statement old.left �
       same = added ∙ ap (λ arguments. before ++ stmt.Spawn None call.name arguments ∷ []) read.same;
       shorter = let a = passed_shorter level [] old middle passed in let b = passed_shorter level [] later new ended.passed in let d = read.shorter in omega arith;
       leads = λ outer same. to_spawn_end outer same ∙ awaits_sign (CalledEnd outer (call_of true call.name read.arguments)) sign.Semicolon level (semicolon outer level same) later new ended;
+    }
+
+-- ---- `fetch_add`
+
+pub add_over : (level : ℕ) (old : Spot) (refusal : ParseRefusal) → starts_statement old.left ≡ statement.Add → IsOver level [] old refusal → LacksStatement level old refusal
+add_over level old refusal there over = begun_over statement.Add (Word word.FetchAdd) (λ outer. Awaits (AddOpen (Called outer))) begun_add level old there refusal over
+
+module _ (level : ℕ) (old middle : Spot) (there : starts_statement old.left ≡ statement.Add) (passed : HasPassed level [] old middle) where
+  to_added : (outer : StatementIn) → statement_level outer ≡ level → stepping (step_statement outer) old ≡ from (Awaits (AddOpen (Called outer))) middle
+  to_added = begun_passed statement.Add (Word word.FetchAdd) (λ outer. Awaits (AddOpen (Called outer))) begun_add level old there middle passed
+
+  pub add_lacks : (refusal : ParseRefusal) → LacksAddition level middle refusal → LacksStatement level old refusal
+  add_lacks refusal lacks outer same = refuses_as refusal _ _ (to_added outer same) (lacks (Called outer) same)
+
+  module _ (later : Spot) (addition : Addition) (read : HasAddition level middle later addition) where
+    to_add_end : (outer : StatementIn) → statement_level outer ≡ level → stepping (step_statement outer) old ≡ from (Awaits (AddedEnd outer (addition_of addition.name read.index read.addend))) later
+    to_add_end outer same = to_added outer same ∙ read.leads (Called outer) same
+
+    pub add_unended : (refusal : ParseRefusal) → LacksSign sign.Semicolon level later refusal → LacksStatement level old refusal
+    add_unended refusal lacks outer same =
+        refuses_as refusal _ _ (to_add_end outer same) (awaits_lacks (AddedEnd outer (addition_of addition.name read.index read.addend)) sign.Semicolon level (semicolon outer level same) later refusal lacks)
+
+    pub add_reads : (new : Spot) (before now : List Stmt) → HasRead sign.Semicolon level later new → now ≡ before ++ stmt.Add None addition.name addition.index addition.addend ∷ [] → HasStatement level old new before now
+    add_reads new before now ended added = record {
+      statement = Adding (addition_of addition.name read.index read.addend);
+      same =
+          added ∙ ap (λ index. before ++ stmt.Add None addition.name index addition.addend ∷ []) read.same_index
+          ∙ ap (λ addend. before ++ stmt.Add None addition.name (expression_tree read.index) addend ∷ []) read.same_addend;
+      shorter = let a = passed_shorter level [] old middle passed in let b = passed_shorter level [] later new ended.passed in let d = read.shorter in omega arith;
+      leads = λ outer same. to_add_end outer same ∙ awaits_sign (AddedEnd outer (addition_of addition.name read.index read.addend)) sign.Semicolon level (semicolon outer level same) later new ended;
     }
 
 -- ---- `print`

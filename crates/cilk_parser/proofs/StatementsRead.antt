@@ -5,13 +5,13 @@ use Rattle.cilk_tree.specs.declared.token.Keyword.TheVariants as word
 use Rattle.cilk_tree.specs.declared.token.Sign.TheVariants as sign
 use Rattle.cilk_tree.specs.declared.token.Token.{Token}
 use Rattle.cilk_tree.specs.declared.token.Token.TheVariants.{Name, Word, Mark}
-use Rattle.cilk_tree.specs.Levels.{Spelled, mark, spell_whole, spell_any, spell_call, spell_commas, spell_declarator, spell_simple, spell_start, spell_statement, spell_inner, spell_inners, spell_body}
-use Rattle.cilk_tree.specs.Syntax.{Commas, Expression, Simple, Assignment, Change, Step, Storing, Start, NoStart, SimpleStart, DeclaringStart, Statement, Nothing, Simply, Calling, Syncing, IfAlone, IfElse, WhileLoop, ForLoop, Printing, Returning, Inner, Declaration, Block, Stated, Inners, NoInners, ThenInner, Body, Braced, Single, is_grouped, if_any, is_simple, is_start, is_statement, is_inner, are_inners, is_body, dangles, statement_dangles}
+use Rattle.cilk_tree.specs.Levels.{Spelled, mark, spell_whole, spell_any, spell_call, spell_addition, spell_commas, spell_declarator, spell_simple, spell_start, spell_statement, spell_inner, spell_inners, spell_body}
+use Rattle.cilk_tree.specs.Syntax.{Commas, Expression, Simple, Assignment, Change, Step, Storing, Start, NoStart, SimpleStart, DeclaringStart, Statement, Nothing, Simply, Calling, Adding, Syncing, IfAlone, IfElse, WhileLoop, ForLoop, Printing, Returning, Inner, Declaration, Block, Stated, Inners, NoInners, ThenInner, Body, Braced, Single, is_grouped, if_any, is_simple, is_start, is_statement, is_inner, are_inners, is_body, dangles, statement_dangles}
 use Rattle.cilk_parser.specs.Contexts.{InnersIn, InBlock, InBody, BodyIn, IfTaken, IfOtherwise, WhileBody, ForBody, StatementIn, InInners, AsBody, AsStatement, AsForStart, AsForLast, AsDeclaration, AsForDeclaration, Called, Around, IfCondition, WhileCondition, ForCondition, Printed, Returned, least_strength}
 use Rattle.cilk_parser.specs.Run.{reads}
-use Rattle.cilk_parser.specs.Steps.{State, AtInner, AtBody, HasBody, HasDeclarators, AfterName, AtForStart, AtForCondition, AtForLast, AfterReturn, Wants, Awaits, AwaitsName, SimpleEnd, PrintEnd, DeclaratorName, IfOpen, WhileOpen, ForOpen, CalledEnd, SyncEnd, PrintOpen, Place, Next, call_of, finish, step_statement, step_inner, step_else, step_end, after_statement, ended_body, ended_statement, otherwise_of_body, otherwise_of_statement, step}
+use Rattle.cilk_parser.specs.Steps.{State, AtInner, AtBody, HasBody, HasDeclarators, AfterName, AtForStart, AtForCondition, AtForLast, AfterReturn, Wants, Awaits, AwaitsName, SimpleEnd, PrintEnd, DeclaratorName, IfOpen, WhileOpen, ForOpen, CalledEnd, AddOpen, AddedEnd, SyncEnd, PrintOpen, Place, Next, call_of, finish, step_statement, step_inner, step_else, step_end, after_statement, ended_body, ended_statement, otherwise_of_body, otherwise_of_statement, step}
 use Rattle.cilk_parser.proofs.Ahead.{ahead, ahead_append, four_ahead}
-use Rattle.cilk_parser.proofs.PartsRead.{StartsAs, StartsCall, value_read, whole_read, call_read, declarators_read, simple_read}
+use Rattle.cilk_parser.proofs.PartsRead.{StartsAs, StartsCall, value_read, whole_read, call_read, addition_read, declarators_read, simple_read}
 use Rattle.cilk_parser.proofs.Walks.{on_reads, reads_step, reads_same}
 
 -- ---- the parts of a `for`, and `return`
@@ -186,6 +186,7 @@ no_else (Stated (Simply (Change name direction value))) level rest = refl
 no_else (Stated (Simply (Step name direction))) level rest = refl
 no_else (Stated (Simply (Storing name index value))) level rest = refl
 no_else (Stated (Calling call)) level rest = no_else_call call.spawned call.name call.arguments level rest
+no_else (Stated (Adding addition)) level rest = refl
 no_else (Stated Syncing) level rest = refl
 no_else (Stated (IfAlone condition taken)) level rest = refl
 no_else (Stated (IfElse condition taken otherwise)) level rest = refl
@@ -217,6 +218,10 @@ mutual
       ap (reads (at_statement outer)) (ahead_append (spell_call level call) _ rest) ∙
       call_read (at_statement outer) (Called outer) (statement_call outer) call level (Mark sign.Semicolon ∷ rest) formed ∙
       reads_step (Awaits (CalledEnd outer call)) (Mark sign.Semicolon) rest
+  statement_read (Adding addition) level outer rest formed closed =
+      ap (reads (at_statement outer)) (ahead_append (spell_addition level addition) _ rest) ∙
+      addition_read (at_statement outer) (Called outer) (λ more. first_read outer (Word word.FetchAdd) more refl) addition level (Mark sign.Semicolon ∷ rest) formed ∙
+      reads_step (Awaits (AddedEnd outer addition)) (Mark sign.Semicolon) rest
   statement_read Syncing level outer rest formed closed = first_read outer (Word word.Sync) (Mark sign.Semicolon ∷ rest) refl ∙ reads_step (Awaits (SyncEnd outer)) (Mark sign.Semicolon) rest
   statement_read (IfAlone condition taken) level outer rest formed closed =
       let parts = and_parts (is_grouped condition) (is_body taken) formed in

@@ -57,6 +57,7 @@ int_name_sound before name _ formed = tt
 
 at_right_sound : (outer : RightIn) (token : Token) → IsRightOpen outer → IfSome (step_at_right outer token) (StepSound (AtRight outer) token)
 at_right_sound outer (Word word.Spawn) opened = advance_sound (AtRight outer) (Word word.Spawn) _ refl (on_here _ _ _ opened refl refl)
+at_right_sound outer (Word word.FetchAdd) opened = advance_sound (AtRight outer) (Word word.FetchAdd) _ refl (on_here _ _ _ opened refl refl)
 at_right_sound outer (Name name) opened = record { so_far = sym (append-nil (right_so_far outer)); tokens = refl; levels = (right_level outer, refl); valid = opened; waits = inl refl }
 at_right_sound outer token opened = sound_here (AtRight outer) token (step_wants (ValueOf outer) token) refl (wants_moves (ValueOf outer) token opened)
 

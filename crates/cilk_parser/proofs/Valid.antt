@@ -1,8 +1,8 @@
 -- What the machine carries is well formed.
 use Rattle.std.specs.Prelude.{◌≤◌, not, IsTrue, Option}
-use Rattle.cilk_tree.specs.Syntax.{Commas, Expression, Declarator, Body, is_grouped, is_simple, is_start, is_call, is_declarator, each_of, if_any, are_inners, is_body, dangles, operator_strength, strength, IsWellFormed}
-use Rattle.cilk_parser.specs.Contexts.{InnersIn, FunctionBody, InBlock, InBody, BodyIn, IfTaken, IfOtherwise, WhileBody, ForBody, StatementIn, InInners, AsBody, SimpleIn, AsStatement, AsForStart, AsForLast, DeclareIn, AsDeclaration, AsForDeclaration, RightIn, Assigned, Declared, CallIn, ResultOf, Called, Around, ValueOf, ArgumentOf, ChangedBy, StoredAt, StoredIn, IfCondition, WhileCondition, ForCondition, Printed, Returned, RightOf, Under, InIndex, InGroup, least_strength}
-use Rattle.cilk_parser.specs.Steps.{Awaited, ArrayOpen, ArrayClose, ParametersOpen, VoidClose, BodyOpen, CallOpen, CalledEnd, SimpleEnd, StoreAssign, SyncEnd, IfOpen, WhileOpen, ForOpen, PrintOpen, PrintEnd, NameAwaited, FunctionName, ArrayName, ParameterName, DeclaratorName, SpawnedName, State, Items, AfterCilk, AfterInt, AfterIntName, ArraySize, AfterArray, ParametersStart, AfterParameter, NextParameter, AtInner, AtBody, HasBody, AfterDeclarator, HasDeclarators, AtRight, AfterRightName, AtArguments, AfterName, AtForStart, AtForCondition, AtForLast, AfterReturn, Wants, Has, Awaits, AwaitsName}
+use Rattle.cilk_tree.specs.Syntax.{Commas, Expression, Declarator, Body, is_grouped, is_simple, is_start, is_call, is_addition, is_declarator, each_of, if_any, are_inners, is_body, dangles, operator_strength, strength, IsWellFormed}
+use Rattle.cilk_parser.specs.Contexts.{InnersIn, FunctionBody, InBlock, InBody, BodyIn, IfTaken, IfOtherwise, WhileBody, ForBody, StatementIn, InInners, AsBody, SimpleIn, AsStatement, AsForStart, AsForLast, DeclareIn, AsDeclaration, AsForDeclaration, RightIn, Assigned, Declared, CallIn, ResultOf, Called, Around, ValueOf, ArgumentOf, AddedAt, AddendOf, ChangedBy, StoredAt, StoredIn, IfCondition, WhileCondition, ForCondition, Printed, Returned, RightOf, Under, InIndex, InGroup, least_strength}
+use Rattle.cilk_parser.specs.Steps.{Awaited, ArrayOpen, ArrayClose, ParametersOpen, VoidClose, BodyOpen, CallOpen, CalledEnd, AddOpen, AddIndexOpen, AddComma, AddedEnd, SimpleEnd, StoreAssign, SyncEnd, IfOpen, WhileOpen, ForOpen, PrintOpen, PrintEnd, NameAwaited, FunctionName, ArrayName, ParameterName, DeclaratorName, SpawnedName, AddedName, State, Items, AfterCilk, AfterInt, AfterIntName, ArraySize, AfterArray, ParametersStart, AfterParameter, NextParameter, AtInner, AtBody, HasBody, AfterDeclarator, HasDeclarators, AtRight, AfterRightName, AtArguments, AfterName, AtForStart, AtForCondition, AtForLast, AfterReturn, Wants, Has, Awaits, AwaitsName}
 
 -- ---- contexts
 
@@ -45,6 +45,8 @@ IsCallOpen (Called outer) = IsStatementOpen outer
 abbrev pub IsOpen : Around → Type 0
 IsOpen (ValueOf outer) = IsRightOpen outer
 IsOpen (ArgumentOf outer spawned name before) = IsCallOpen outer × IsTrue (if_any (each_of is_grouped) before)
+IsOpen (AddedAt outer name) = IsCallOpen outer
+IsOpen (AddendOf outer name index) = IsCallOpen outer × IsTrue (is_grouped index)
 IsOpen (ChangedBy outer name direction) = IsSimpleOpen outer
 IsOpen (StoredAt outer name) = IsSimpleOpen outer
 IsOpen (StoredIn outer name index) = IsSimpleOpen outer × IsTrue (is_grouped index)
@@ -81,6 +83,10 @@ IsAwaitedValid (VoidClose heading) = IsWellFormed heading.before
 IsAwaitedValid (BodyOpen heading formals) = IsWellFormed heading.before
 IsAwaitedValid (CallOpen outer spawned name) = IsCallOpen outer
 IsAwaitedValid (CalledEnd outer call) = IsStatementOpen outer × IsTrue (is_call call)
+IsAwaitedValid (AddOpen outer) = IsCallOpen outer
+IsAwaitedValid (AddIndexOpen outer name) = IsCallOpen outer
+IsAwaitedValid (AddComma outer name index) = IsCallOpen outer × IsTrue (is_grouped index)
+IsAwaitedValid (AddedEnd outer addition) = IsStatementOpen outer × IsTrue (is_addition addition)
 IsAwaitedValid (SimpleEnd outer simple) = IsSimpleOpen outer × IsTrue (is_simple simple)
 IsAwaitedValid (StoreAssign outer name index) = IsSimpleOpen outer × IsTrue (is_grouped index)
 IsAwaitedValid (SyncEnd outer) = IsStatementOpen outer
@@ -96,6 +102,7 @@ IsNameAwaitedValid (ArrayName before arrays) = IsWellFormed before
 IsNameAwaitedValid (ParameterName heading names) = IsWellFormed heading.before
 IsNameAwaitedValid (DeclaratorName outer before) = IsDeclareOpen outer × AreDeclarators before
 IsNameAwaitedValid (SpawnedName outer) = IsCallOpen outer
+IsNameAwaitedValid (AddedName outer) = IsCallOpen outer
 
 abbrev pub IsValid : State → Type 0
 IsValid (Items before) = IsWellFormed before

@@ -99,7 +99,7 @@ abbrev pub right_level : RightIn → ℕ
 right_level (Assigned outer name) = simple_level outer
 right_level (Declared outer before name) = declare_level outer
 
--- where a call stands
+-- where a call or an addition stands
 pub data CallIn : Type 0 where
   ResultOf : (outer : RightIn) → CallIn
   Called : (outer : StatementIn) → CallIn
@@ -110,10 +110,13 @@ call_level (Called outer) = statement_level outer
 
 -- ---- expressions
 
--- What is open round an expression. The first ten hold a whole expression, an argument behind others; the last four hold a part of one.
+-- What is open round an expression. The last four hold a part of one, the others a whole expression: one of them an argument behind others,
+-- two the index and the addend of an addition.
 pub data Around : Type 0 where
   ValueOf : (outer : RightIn) → Around
   ArgumentOf : (outer : CallIn) (spawned : Bool) (name : List ℕ) (before : Option (Commas Expression)) → Around
+  AddedAt : (outer : CallIn) (name : List ℕ) → Around
+  AddendOf : (outer : CallIn) (name : List ℕ) (index : Expression) → Around
   ChangedBy : (outer : SimpleIn) (name : List ℕ) (direction : Direction) → Around
   StoredAt : (outer : SimpleIn) (name : List ℕ) → Around
   StoredIn : (outer : SimpleIn) (name : List ℕ) (index : Expression) → Around
@@ -131,6 +134,8 @@ pub data Around : Type 0 where
 abbrev pub level_of : Around → ℕ
 level_of (ValueOf outer) = right_level outer
 level_of (ArgumentOf outer spawned name before) = call_level outer
+level_of (AddedAt outer name) = call_level outer + 1
+level_of (AddendOf outer name index) = call_level outer
 level_of (ChangedBy outer name direction) = simple_level outer + 1
 level_of (StoredAt outer name) = simple_level outer + 1
 level_of (StoredIn outer name index) = simple_level outer
@@ -148,6 +153,8 @@ level_of (InGroup around) = level_of around + 1
 abbrev pub first_counts : Around → List Count
 first_counts (ValueOf outer) = Anew Operators ∷ []
 first_counts (ArgumentOf outer spawned name before) = OneMore Arguments ∷ Anew Operators ∷ []
+first_counts (AddedAt outer name) = Anew Operators ∷ []
+first_counts (AddendOf outer name index) = Anew Operators ∷ []
 first_counts (ChangedBy outer name direction) = []
 first_counts (StoredAt outer name) = Anew Operators ∷ []
 first_counts (StoredIn outer name index) = Anew Operators ∷ []
@@ -167,6 +174,8 @@ least_strength (RightOf around left operator) = operator_strength operator + 1
 least_strength (Under around operator) = 7
 least_strength (ValueOf outer) = 0
 least_strength (ArgumentOf outer spawned name before) = 0
+least_strength (AddedAt outer name) = 0
+least_strength (AddendOf outer name index) = 0
 least_strength (ChangedBy outer name direction) = 0
 least_strength (StoredAt outer name) = 0
 least_strength (StoredIn outer name index) = 0

@@ -26,6 +26,7 @@ use Rattle.cilk_tree.specs.Sugar.{expression_tree, commas_list, argument_trees, 
 use Rattle.cilk_tree.specs.Syntax as syntax
 use Rattle.cilk_tree.specs.Syntax.{Commas, One, More, Empty, Then, Expression, Variable, Right, Result, Declarator, Simple, Start, DeclaringStart, Statement, Inner, Declaration, Inners, NoInners, ThenInner, Body, Parameters, Array, Item, Defined, Source, operator_strength}
 use Rattle.cilk_tree.specs.Token.{keyword_text}
+use Rattle.cilk_parser.specs.declared.addition.Addition.{Addition}
 use Rattle.cilk_parser.specs.declared.call.Call.{Call}
 use Rattle.cilk_parser.specs.declared.opening.Opening.{Opening}
 use Rattle.cilk_parser.specs.declared.opening.Opening.TheVariants.{Part, Whole, Argument}
@@ -35,7 +36,7 @@ use Rattle.cilk_parser.specs.declared.refusal.ParseRefusal.TheVariants.{At, Memo
 use Rattle.cilk_parser.specs.declared.tallies.Tallies.{Tallies}
 use Rattle.cilk_parser.specs.Contexts.{with_last, Heading, InnersIn, BodyIn, ForBody, StatementIn, inners_level, body_level, statement_level, owner_level, closing_level, SimpleIn, AsStatement, AsForStart, AsForLast, simple_level, DeclareIn, AsDeclaration, AsForDeclaration, declare_level, RightIn, right_level, CallIn, call_level, Around, level_of, first_counts, least_strength}
 use Rattle.cilk_parser.specs.Run.{Answer, Accepted, Refused, Within, Over, at_end, judge_token, run, run_step}
-use Rattle.cilk_parser.specs.Steps.{State, Items, AfterCilk, AfterArray, ParametersStart, AfterParameter, NextParameter, AtInner, AtBody, HasBody, HasDeclarators, AtRight, AtArguments, AfterName, AtForStart, AtForCondition, AtForLast, Wants, Has, Awaits, AwaitsName, ArrayOpen, BodyOpen, CallOpen, SimpleEnd, FunctionName, DeclaratorName, SpawnedName, Next, after_call, after_right, after_statement, after_inners, call_of, finish, is_mark, step, step_end, step_only, step_operand, step_statement, token_operator}
+use Rattle.cilk_parser.specs.Steps.{State, Items, AfterCilk, AfterArray, ParametersStart, AfterParameter, NextParameter, AtInner, AtBody, HasBody, HasDeclarators, AtRight, AtArguments, AfterName, AtForStart, AtForCondition, AtForLast, Wants, Has, Awaits, AwaitsName, AddOpen, ArrayOpen, BodyOpen, CallOpen, SimpleEnd, FunctionName, DeclaratorName, SpawnedName, Next, addition_of, after_addition, after_call, after_right, after_statement, after_inners, call_of, finish, is_mark, step, step_end, step_only, step_operand, step_statement, token_operator}
 use Rattle.cilk_parser.specs.Tally.{none_counted}
 
 -- Where a reader is in a text: how the text ends, what was counted so far, and the tokens that are left.
@@ -234,6 +235,18 @@ pub record HasCall (level : ℕ) (old new : Spot) (call : Call) : Type 0 where
 
 abbrev pub LacksCall : ℕ → Spot → ParseRefusal → Type 0
 LacksCall level old refusal = (outer : RightIn) → right_level outer ≡ level → Refuses (from (AtRight outer) old) refusal
+
+-- An addition was read behind its word.
+pub record HasAddition (level : ℕ) (old new : Spot) (addition : Addition) : Type 0 where
+  pub index : Expression
+  pub addend : Expression
+  pub same_index : addition.index ≡ expression_tree index
+  pub same_addend : addition.addend ≡ expression_tree addend
+  pub shorter : length new.left < length old.left
+  pub leads : (outer : CallIn) → call_level outer ≡ level → from (Awaits (AddOpen outer)) old ≡ from (after_addition outer (addition_of addition.name index addend)) new
+
+abbrev pub LacksAddition : ℕ → Spot → ParseRefusal → Type 0
+LacksAddition level old refusal = (outer : CallIn) → call_level outer ≡ level → Refuses (from (Awaits (AddOpen outer)) old) refusal
 
 -- ---- parts of statements
 

@@ -28,6 +28,7 @@ abbrev pub statement_start : Token → StatementStart
 statement_start (Name name) = statement.Name
 statement_start (Mark sign.Semicolon) = statement.Empty
 statement_start (Word word.Spawn) = statement.Spawn
+statement_start (Word word.FetchAdd) = statement.Add
 statement_start (Word word.Sync) = statement.Sync
 statement_start (Word word.If) = statement.If
 statement_start (Word word.While) = statement.While

@@ -14,9 +14,9 @@ use Rattle.cilk_tree.specs.declared.count.Count.{Count}
 use Rattle.cilk_tree.specs.declared.count.Count.TheVariants.{Anew, OneMore}
 use Rattle.cilk_tree.specs.Levels.{Spelled, counting, plain, mark, word_at}
 use Rattle.cilk_tree.specs.Syntax as syntax
-use Rattle.cilk_tree.specs.Syntax.{Commas, Empty, Then, Expression, Numeral, Variable, Element, Group, Prefix, Infix, Call, Right, Value, Result, Declarator, Bare, Valued, Direction, Up, Down, Simple, Assignment, Change, Step, Storing, Start, NoStart, SimpleStart, DeclaringStart, Statement, Nothing, Simply, Calling, Syncing, IfAlone, IfElse, WhileLoop, ForLoop, Printing, Returning, Inner, Declaration, Block, Stated, Inners, NoInners, ThenInner, Body, Braced, Single, NoParameters, VoidParameters, Named, Array, Function, Defined, Source, operator_strength}
+use Rattle.cilk_tree.specs.Syntax.{Commas, Empty, Then, Expression, Numeral, Variable, Element, Group, Prefix, Infix, Call, Addition, Right, Value, Result, Fetched, Declarator, Bare, Valued, Direction, Up, Down, Simple, Assignment, Change, Step, Storing, Start, NoStart, SimpleStart, DeclaringStart, Statement, Nothing, Simply, Calling, Adding, Syncing, IfAlone, IfElse, WhileLoop, ForLoop, Printing, Returning, Inner, Declaration, Block, Stated, Inners, NoInners, ThenInner, Body, Braced, Single, NoParameters, VoidParameters, Named, Array, Function, Defined, Source, operator_strength}
 use Rattle.cilk_tree.specs.Token.{sign_text}
-use Rattle.cilk_parser.specs.Contexts.{with_last, Heading, InnersIn, FunctionBody, InBlock, InBody, BodyIn, IfTaken, IfOtherwise, WhileBody, ForBody, StatementIn, InInners, AsBody, inners_level, statement_level, owner_level, closing_level, SimpleIn, AsStatement, AsForStart, AsForLast, simple_level, DeclareIn, AsDeclaration, AsForDeclaration, declare_level, RightIn, Assigned, Declared, right_level, CallIn, ResultOf, Called, call_level, Around, ValueOf, ArgumentOf, ChangedBy, StoredAt, StoredIn, IfCondition, WhileCondition, ForCondition, Printed, Returned, RightOf, Under, InIndex, InGroup, level_of, first_counts}
+use Rattle.cilk_parser.specs.Contexts.{with_last, Heading, InnersIn, FunctionBody, InBlock, InBody, BodyIn, IfTaken, IfOtherwise, WhileBody, ForBody, StatementIn, InInners, AsBody, inners_level, statement_level, owner_level, closing_level, SimpleIn, AsStatement, AsForStart, AsForLast, simple_level, DeclareIn, AsDeclaration, AsForDeclaration, declare_level, RightIn, Assigned, Declared, right_level, CallIn, ResultOf, Called, call_level, Around, ValueOf, ArgumentOf, AddedAt, AddendOf, ChangedBy, StoredAt, StoredIn, IfCondition, WhileCondition, ForCondition, Printed, Returned, RightOf, Under, InIndex, InGroup, level_of, first_counts}
 
 -- ---- where the machine stands
 
@@ -29,6 +29,10 @@ pub data Awaited : Type 0 where
   BodyOpen : (heading : Heading) (formals : syntax.Parameters) → Awaited
   CallOpen : (outer : CallIn) (spawned : Bool) (name : List ℕ) → Awaited
   CalledEnd : (outer : StatementIn) (call : Call) → Awaited
+  AddOpen : (outer : CallIn) → Awaited
+  AddIndexOpen : (outer : CallIn) (name : List ℕ) → Awaited
+  AddComma : (outer : CallIn) (name : List ℕ) (index : Expression) → Awaited
+  AddedEnd : (outer : StatementIn) (addition : Addition) → Awaited
   SimpleEnd : (outer : SimpleIn) (simple : Simple) → Awaited
   StoreAssign : (outer : SimpleIn) (name : List ℕ) (index : Expression) → Awaited
   SyncEnd : (outer : StatementIn) → Awaited
@@ -45,6 +49,7 @@ pub data NameAwaited : Type 0 where
   ParameterName : (heading : Heading) (before : Option (Commas (List ℕ))) → NameAwaited
   DeclaratorName : (outer : DeclareIn) (before : Option (Commas Declarator)) → NameAwaited
   SpawnedName : (outer : CallIn) → NameAwaited
+  AddedName : (outer : CallIn) → NameAwaited
 
 -- `AfterInt` and `AfterIntName` stand behind `int` and `int NAME` between the items, which begin an array or a function, and
 -- `AfterRightName` behind a name that begins an expression or a call.
@@ -114,6 +119,11 @@ abbrev pub after_call : CallIn → Call → State
 after_call (ResultOf outer) call = after_right outer (Result call)
 after_call (Called outer) call = Awaits (CalledEnd outer call)
 
+-- an addition
+abbrev pub after_addition : CallIn → Addition → State
+after_addition (ResultOf outer) addition = after_right outer (Fetched addition)
+after_addition (Called outer) addition = Awaits (AddedEnd outer addition)
+
 -- A list of statements with those read so far.
 pub record Place : Type 0 where
   pub outer : InnersIn
@@ -153,6 +163,10 @@ awaited_token (VoidClose heading) = mark 0 sign.CloseParen
 awaited_token (BodyOpen heading formals) = mark 0 sign.OpenBrace
 awaited_token (CallOpen outer spawned name) = counting (call_level outer) (Anew Arguments ∷ []) (Mark sign.OpenParen)
 awaited_token (CalledEnd outer call) = mark (statement_level outer) sign.Semicolon
+awaited_token (AddOpen outer) = mark (call_level outer) sign.OpenParen
+awaited_token (AddIndexOpen outer name) = mark (call_level outer) sign.OpenBracket
+awaited_token (AddComma outer name index) = mark (call_level outer) sign.Comma
+awaited_token (AddedEnd outer addition) = mark (statement_level outer) sign.Semicolon
 awaited_token (SimpleEnd (AsStatement outer) simple) = mark (statement_level outer) sign.Semicolon
 awaited_token (SimpleEnd (AsForStart outer) simple) = mark (statement_level outer + 1) sign.Semicolon
 awaited_token (SimpleEnd (AsForLast outer start condition) simple) = mark (statement_level outer) sign.CloseParen
@@ -172,6 +186,10 @@ awaited_state (VoidClose heading) = Awaits (BodyOpen heading VoidParameters)
 awaited_state (BodyOpen heading formals) = AtInner (FunctionBody heading formals) NoInners
 awaited_state (CallOpen outer spawned name) = AtArguments outer spawned name
 awaited_state (CalledEnd outer call) = after_statement outer (Calling call)
+awaited_state (AddOpen outer) = AwaitsName (AddedName outer)
+awaited_state (AddIndexOpen outer name) = Wants (AddedAt outer name)
+awaited_state (AddComma outer name index) = Wants (AddendOf outer name index)
+awaited_state (AddedEnd outer addition) = after_statement outer (Adding addition)
 awaited_state (SimpleEnd (AsStatement outer) simple) = after_statement outer (Simply simple)
 awaited_state (SimpleEnd (AsForStart outer) simple) = AtForCondition outer (SimpleStart simple)
 awaited_state (SimpleEnd (AsForLast outer start condition) simple) = AtBody (ForBody outer start condition (Some simple))
@@ -207,6 +225,7 @@ named_token (ArrayName before arrays) name = counting 0 (OneMore Arrays ∷ []) 
 named_token (ParameterName heading before) name = counting 0 (OneMore Variables ∷ []) (Name name)
 named_token (DeclaratorName outer before) name = counting (declare_level outer) (OneMore Variables ∷ []) (Name name)
 named_token (SpawnedName outer) name = plain (call_level outer) (Name name)
+named_token (AddedName outer) name = plain (call_level outer) (Name name)
 
 abbrev pub named_state : NameAwaited → List ℕ → State
 named_state (FunctionName before is_cilk gives) name = Awaits (ParametersOpen (record { before = before; «cilk» = is_cilk; gives = gives; name = name }))
@@ -214,6 +233,7 @@ named_state (ArrayName before arrays) name = Awaits (ArrayOpen before (Some arra
 named_state (ParameterName heading before) name = AfterParameter heading (with_last before name)
 named_state (DeclaratorName outer before) name = AfterDeclarator outer before name
 named_state (SpawnedName outer) name = Awaits (CallOpen outer true name)
+named_state (AddedName outer) name = Awaits (AddIndexOpen outer name)
 
 abbrev pub step_name : NameAwaited → Token → Option Next
 step_name awaited (Name name) = goes_on (named_token awaited name) (named_state awaited name)
@@ -307,6 +327,8 @@ with_operator (RightOf around left before) operand operator =
 with_operator (Under around before) operand operator = with_operator around (Prefix before operand) operator
 with_operator (ValueOf outer) operand operator = RightOf (ValueOf outer) operand operator
 with_operator (ArgumentOf outer spawned name before) operand operator = RightOf (ArgumentOf outer spawned name before) operand operator
+with_operator (AddedAt outer name) operand operator = RightOf (AddedAt outer name) operand operator
+with_operator (AddendOf outer name index) operand operator = RightOf (AddendOf outer name index) operand operator
 with_operator (ChangedBy outer name direction) operand operator = RightOf (ChangedBy outer name direction) operand operator
 with_operator (StoredAt outer name) operand operator = RightOf (StoredAt outer name) operand operator
 with_operator (StoredIn outer name index) operand operator = RightOf (StoredIn outer name index) operand operator
@@ -333,6 +355,10 @@ step_right (Declared outer before name) right token = step_declarators outer (wi
 abbrev pub call_of : Bool → List ℕ → Option (Commas Expression) → Call
 call_of spawned name arguments = record { spawned = spawned; name = name; arguments = arguments }
 
+-- the addition of these parts
+abbrev pub addition_of : List ℕ → Expression → Expression → Addition
+addition_of name index addend = record { name = name; index = index; addend = addend }
+
 abbrev pub step_argument : CallIn → Bool → List ℕ → Commas Expression → Token → Option Next
 step_argument outer spawned name arguments (Mark sign.Comma) = goes_on (mark (call_level outer) sign.Comma) (Wants (ArgumentOf outer spawned name (Some arguments)))
 step_argument outer spawned name arguments (Mark sign.CloseParen) = goes_on (mark (call_level outer) sign.CloseParen) (after_call outer (call_of spawned name (Some arguments)))
@@ -350,6 +376,8 @@ step_end (InGroup around) operand token = step_only (mark (level_of around) sign
 step_end (InIndex around name) operand token = step_only (mark (level_of around) sign.CloseBracket) (Has around (Element name operand)) token
 step_end (ValueOf outer) operand token = step_right outer (Value operand) token
 step_end (ArgumentOf outer spawned name before) operand token = step_argument outer spawned name (with_last before operand) token
+step_end (AddedAt outer name) operand token = step_only (mark (call_level outer) sign.CloseBracket) (Awaits (AddComma outer name operand)) token
+step_end (AddendOf outer name index) operand token = step_only (mark (call_level outer) sign.CloseParen) (after_addition outer (addition_of name index operand)) token
 step_end (ChangedBy outer name direction) operand token = step_awaited (SimpleEnd outer (Change name direction operand)) token
 step_end (StoredAt outer name) operand token = step_only (mark (simple_level outer) sign.CloseBracket) (Awaits (StoreAssign outer name operand)) token
 step_end (StoredIn outer name index) operand token = step_awaited (SimpleEnd outer (Storing name index operand)) token
@@ -380,7 +408,7 @@ abbrev pub step_has : Around → Expression → Token → Option Next
 step_has around (Variable name) (Mark sign.OpenBracket) = goes_on (mark (level_of around) sign.OpenBracket) (Wants (InIndex around name))
 step_has around operand token = step_operand around operand token
 
--- ---- calls and what stands behind a `=`
+-- ---- calls, additions and what stands behind a `=`
 
 abbrev pub step_arguments : CallIn → Bool → List ℕ → Token → Option Next
 step_arguments outer spawned name (Mark sign.CloseParen) = goes_on (mark (call_level outer) sign.CloseParen) (after_call outer (call_of spawned name None))
@@ -388,6 +416,7 @@ step_arguments outer spawned name token = step_wants (ArgumentOf outer spawned n
 
 abbrev pub step_at_right : RightIn → Token → Option Next
 step_at_right outer (Word word.Spawn) = goes_on (word_at (right_level outer) word.Spawn) (AwaitsName (SpawnedName (ResultOf outer)))
+step_at_right outer (Word word.FetchAdd) = goes_on (word_at (right_level outer) word.FetchAdd) (Awaits (AddOpen (ResultOf outer)))
 step_at_right outer (Name name) = goes [] (AfterRightName outer name)
 step_at_right outer token = step_wants (ValueOf outer) token
 
@@ -428,6 +457,7 @@ abbrev pub step_statement : StatementIn → Token → Option Next
 step_statement outer (Mark sign.Semicolon) = goes_on (mark (statement_level outer) sign.Semicolon) (after_statement outer Nothing)
 step_statement outer (Name name) = goes_on (plain (statement_level outer) (Name name)) (AfterName (AsStatement outer) name)
 step_statement outer (Word word.Spawn) = goes_on (word_at (statement_level outer) word.Spawn) (AwaitsName (SpawnedName (Called outer)))
+step_statement outer (Word word.FetchAdd) = goes_on (word_at (statement_level outer) word.FetchAdd) (Awaits (AddOpen (Called outer)))
 step_statement outer (Word word.Sync) = goes_on (word_at (statement_level outer) word.Sync) (Awaits (SyncEnd outer))
 step_statement outer (Word word.If) = goes_on (word_at (statement_level outer) word.If) (Awaits (IfOpen outer))
 step_statement outer (Word word.While) = goes_on (word_at (statement_level outer) word.While) (Awaits (WhileOpen outer))

@@ -1,6 +1,7 @@
 //! Parses the tokens of a Cilk program into its syntax tree.
 #![tactic(auto)]
 
+mod addition;
 mod call;
 mod expression;
 mod item;

@@ -21,6 +21,11 @@ impl<'a> Reader<'a> {
             let call = self.spawned(level)?;
             return Ok(Stmt::Spawn(Some(target), call.name, call.arguments));
         }
+        if self.is_at_word(Keyword::FetchAdd) {
+            self.pass(level, &[])?;
+            let addition = self.added(level)?;
+            return Ok(Stmt::Add(Some(target), addition.name, addition.index, addition.addend));
+        }
         if self.is_at_call() {
             let call = self.called(level)?;
             return Ok(Stmt::Call(Some(target), call.name, call.arguments));

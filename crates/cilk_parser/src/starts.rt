@@ -37,6 +37,7 @@ pub(crate) enum StatementStart {
     Empty,
     Name,
     Spawn,
+    Add,
     Sync,
     If,
     While,
@@ -55,6 +56,7 @@ impl StatementStart {
             Token::Name(_) => StatementStart::Name,
             Token::Word(word) => match word {
                 Keyword::Spawn => StatementStart::Spawn,
+                Keyword::FetchAdd => StatementStart::Add,
                 Keyword::Sync => StatementStart::Sync,
                 Keyword::If => StatementStart::If,
                 Keyword::While => StatementStart::While,

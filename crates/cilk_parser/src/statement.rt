@@ -67,6 +67,7 @@ impl<'a> Reader<'a> {
             StatementStart::Empty => self.pass(level, &[]),
             StatementStart::Name => self.named(level, into),
             StatementStart::Spawn => self.spawning(level, into),
+            StatementStart::Add => self.adding(level, into),
             StatementStart::Sync => self.syncing(level, into),
             StatementStart::If => self.branch(level, into),
             StatementStart::While => self.while_loop(level, into),
@@ -209,6 +210,18 @@ impl<'a> Reader<'a> {
         let call = self.spawned(level)?;
         self.sign(Sign::Semicolon, level)?;
         into.push(Stmt::Spawn(None, call.name, call.arguments))?;
+        Ok(())
+    }
+
+    /// Reads an addition whose old value is dropped.
+    fn adding(&mut self, level: u64, into: &mut Items<Stmt>) -> Result<(), ParseRefusal>
+        requires { starts_statement self.old.left ≡ StatementStart.Add }
+        ensures { MatchResult result (λ _. HasStatement level self.old self.new into.old into.new) (λ refusal. LacksStatement level self.old refusal) }
+    {
+        self.pass(level, &[])?;
+        let addition = self.added(level)?;
+        self.sign(Sign::Semicolon, level)?;
+        into.push(Stmt::Add(None, addition.name, addition.index, addition.addend))?;
         Ok(())
     }
 

@@ -10,7 +10,7 @@ use std::test::Fail;
 
 /// Compares the answer of `check` with what is written: the end of its line on `err`, or nothing where the program is
 /// lawful.
-fn assert_checked(rt: &impl Abort, alloc: Global, source: &str, breach: &str) -> Result<(), Fail> {
+pub(super) fn assert_checked(rt: &impl Abort, alloc: Global, source: &str, breach: &str) -> Result<(), Fail> {
     let left = run(
         alloc,
         &["check", "f"],
@@ -33,7 +33,7 @@ fn assert_checked(rt: &impl Abort, alloc: Global, source: &str, breach: &str) ->
 }
 
 /// The same of a program whose main, which has this body, stands behind an array, and functions of each kind.
-fn assert_main(rt: &impl Abort, alloc: Global, body: &str, breach: &str) -> Result<(), Fail> {
+pub(super) fn assert_main(rt: &impl Abort, alloc: Global, body: &str, breach: &str) -> Result<(), Fail> {
     let mut source = String::from_str(
         alloc,
         "int a[2]; int f(int p) { return p; } cilk int c(int p) { return p; } void v() { } cilk void w() { } cilk int main() { ",
@@ -246,14 +246,14 @@ fn functions(rt: HostRuntime) -> Result<(), Fail> {
         ("int main[1]; int f() { main[0] = 1; }", "210 in program"),
         ("int f() { int main; }", "210 in program"),
         ("cilk void main(void) { }", ""),
-        ("int a[1048576]; int main() { }", ""),
-        ("int a[1048575], b[0]; int main() { } int c[1], d[0];", ""),
+        ("int a[4194304]; int main() { }", ""),
+        ("int a[4194303], b[0]; int main() { } int c[1], d[0];", ""),
         (
-            "int a[1048576]; int b[0], c[1], d[1]; int main() { }",
+            "int a[4194304]; int b[0], c[1], d[1]; int main() { }",
             "211 in array c",
         ),
         (
-            "int a[524288]; int main() { } int b[524289];",
+            "int a[2097152]; int main() { } int b[2097153];",
             "211 in array b",
         ),
         (
@@ -486,7 +486,7 @@ fn first_breach(rt: HostRuntime) -> Result<(), Fail> {
             "211 in array a",
         ),
         (
-            "int a[1], a[1], b[1048576]; int main() { }",
+            "int a[1], a[1], b[4194304]; int main() { }",
             "201 in array a",
         ),
         (
@@ -501,7 +501,7 @@ fn first_breach(rt: HostRuntime) -> Result<(), Fail> {
             "int main(int x) { sync; }",
             "206 in function main statement 0",
         ),
-        ("int a[1], a[1048576]; int main() { }", "201 in array a"),
+        ("int a[1], a[4194304]; int main() { }", "201 in array a"),
         (
             "cilk int main() { x = main; }",
             "202 in function main statement 0",

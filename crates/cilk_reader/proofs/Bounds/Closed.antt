@@ -10,9 +10,9 @@ use Rattle.cilk_tree.specs.declared.count.Counted.TheVariants.{Operators, Parame
 use Rattle.cilk_tree.specs.declared.count.Count.{Count}
 use Rattle.cilk_tree.specs.declared.count.Count.TheVariants.{Anew, OneMore}
 use Rattle.cilk_tree.specs.Counts.{tally, limit}
-use Rattle.cilk_tree.specs.Levels.{Spelled, counting, plain, mark, spawn_word, step_sign, change_sign, spell_expression, spell_whole, spell_argument, spell_commas, spell_any, spell_call, spell_right, spell_simple}
-use Rattle.cilk_tree.specs.Syntax.{Commas, Expression, Call, Right, Value, Result, Simple, Assignment, Change, Step, Storing}
-use Rattle.cilk_reader.proofs.Bounds.Covering.{Covers}
+use Rattle.cilk_tree.specs.Levels.{Spelled, counting, plain, mark, spawn_word, step_sign, change_sign, spell_expression, spell_whole, spell_argument, spell_commas, spell_any, spell_call, spell_addition, spell_right, spell_simple}
+use Rattle.cilk_tree.specs.Syntax.{Commas, Expression, Call, Addition, Right, Value, Result, Fetched, Simple, Assignment, Change, Step, Storing}
+use Rattle.cilk_reader.proofs.Bounds.Covering.{Covers, at_level, signs_add}
 use Rattle.cilk_reader.proofs.Bounds.PlainCalls.{Follows, commas_each}
 use Rattle.cilk_reader.proofs.Bounds.PlainExpressions.{weight, operators, operators-zero, stays_expression, after-expression, expression_bound}
 use Rattle.cilk_reader.proofs.Bounds.Tallies.{tally-one, Adds, adds_none, adds_token, adds_both, Begun, begun_adds, begun_both, matches_adds}
@@ -152,9 +152,23 @@ closed_call level call = record { amount = λ c. 0; begun = begun; adds = adds }
     adds Arrays is = quiet_call Arrays level call refl (λ n. refl) (λ n. omega arith)
     adds Functions is = quiet_call Functions level call refl (λ n. refl) (λ n. omega arith)
 
+pub closed_addition : (level : ℕ) (addition : Addition) → Closed (spell_addition level addition)
+closed_addition level addition =
+    let opening = Word word.FetchAdd ∷ Mark OpenParen ∷ Name addition.name ∷ Mark OpenBracket ∷ [] in
+    let between = Mark CloseBracket ∷ Mark Comma ∷ [] in
+    let index = spell_whole (level + 1) addition.index in
+    let addend = spell_whole level addition.addend in
+    let front = at_level level opening in
+    let middle = at_level level between in
+    closed_both ((front ++ index) ++ (middle ++ addend)) (mark level CloseParen ∷ [])
+    (closed_both (front ++ index) (middle ++ addend)
+    (closed_both front index (closed_quiet front (λ c. signs_add c level opening)) (closed_whole (level + 1) addition.index))
+    (closed_both middle addend (closed_quiet middle (λ c. signs_add c level between)) (closed_whole level addition.addend))) (closed_token level (Mark CloseParen))
+
 pub closed_right : (level : ℕ) (value : Right) → Closed (spell_right level value)
 closed_right level (Value value) = closed_whole level value
 closed_right level (Result call) = closed_call level call
+closed_right level (Fetched addition) = closed_addition level addition
 
 -- ---- what is declared and changed
 

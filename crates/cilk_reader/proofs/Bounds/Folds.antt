@@ -9,7 +9,7 @@ use Rattle.cilk_tree.specs.declared.tree.Expr.TheOpen as layer
 use Rattle.cilk_tree.specs.declared.tree.Expr.TheOpen.{Expr-F}
 use Rattle.cilk_tree.specs.declared.tree.Stmt.{Stmt, fold-Stmt, fold-roll-Stmt}
 use Rattle.cilk_tree.specs.declared.tree.Stmt.TheVariants as stmt
-use Rattle.cilk_tree.specs.declared.tree.Stmt.TheVariants.{rolls-Declare, rolls-Assign, rolls-Put, rolls-Print, rolls-If, rolls-While, rolls-Block, rolls-Call, rolls-Spawn, rolls-Sync, rolls-Return}
+use Rattle.cilk_tree.specs.declared.tree.Stmt.TheVariants.{rolls-Declare, rolls-Assign, rolls-Put, rolls-Print, rolls-If, rolls-While, rolls-Block, rolls-Call, rolls-Spawn, rolls-Add, rolls-Sync, rolls-Return}
 use Rattle.cilk_tree.specs.declared.tree.Stmt.TheOpen as head
 use Rattle.cilk_tree.specs.declared.tree.Stmt.TheOpen.{Stmt-F}
 
@@ -56,6 +56,9 @@ module _ {A : Type 0} (step : Stmt-F A → A) where
 
   pub fold_spawn : (target : Option (List ℕ)) (name : List ℕ) (arguments : List Expr) → fold-Stmt A step (stmt.Spawn target name arguments) ≡ step (head.Spawn target name arguments)
   fold_spawn target name arguments = ap (fold-Stmt A step) (sym (rolls-Spawn target name arguments)) ∙ fold-roll-Stmt A step (head.Spawn target name arguments)
+
+  pub fold_add : (target : Option (List ℕ)) (name : List ℕ) (index addend : Expr) → fold-Stmt A step (stmt.Add target name index addend) ≡ step (head.Add target name index addend)
+  fold_add target name index addend = ap (fold-Stmt A step) (sym (rolls-Add target name index addend)) ∙ fold-roll-Stmt A step (head.Add target name index addend)
 
   pub fold_sync : fold-Stmt A step stmt.Sync ≡ step head.Sync
   fold_sync = ap (fold-Stmt A step) (sym rolls-Sync) ∙ fold-roll-Stmt A step head.Sync

@@ -1,8 +1,9 @@
--- The canonical syntax of a call and of what stands behind `=` follows its own.
-use Rattle.std.proofs.Common.{◌≡◌, ℕ, Bool, true, false, IsTrue, Option, Some, None, List, [], ◌∷◌, ◌++◌, map, refl, sym, ap, ◌∙◌, subst}
+-- The canonical syntax of a call, of an addition and of what stands behind `=` follows its own.
+use Rattle.std.proofs.Common.{◌≡◌, ℕ, ◌+◌, Bool, true, false, IsTrue, Option, Some, None, List, [], ◌∷◌, ◌++◌, map, refl, sym, ap, ◌∙◌, subst}
 use Rattle.std.proofs.lemmas.Bool.{and_parts}
 use Rattle.std.proofs.lemmas.List.{map-append}
-use Rattle.cilk_tree.specs.declared.token.Sign.TheVariants.{OpenParen, CloseParen, Comma}
+use Rattle.cilk_tree.specs.declared.token.Keyword.TheVariants.{FetchAdd}
+use Rattle.cilk_tree.specs.declared.token.Sign.TheVariants.{OpenParen, CloseParen, OpenBracket, CloseBracket, Comma}
 use Rattle.cilk_tree.specs.declared.token.Token.TheVariants.{Name, Mark}
 use Rattle.cilk_tree.specs.declared.tree.Expr.{Expr}
 use Rattle.cilk_tree.specs.Canonical.{plain_expression}
@@ -10,12 +11,12 @@ use Rattle.cilk_tree.specs.declared.count.Counted.{Counted}
 use Rattle.cilk_tree.specs.declared.count.Counted.TheVariants.{Operators, Arguments}
 use Rattle.cilk_tree.specs.declared.count.Count.{Count}
 use Rattle.cilk_tree.specs.declared.count.Count.TheVariants.{Anew, OneMore}
-use Rattle.cilk_tree.specs.Levels.{Spelled, counting, plain, mark, spawn_word, spell_expression, spell_argument, spell_commas, spell_any, spell_call, spell_right}
-use Rattle.cilk_tree.specs.Sugar.{commas_list, one_expression, argument_trees, call_tree, right_tree}
-use Rattle.cilk_tree.specs.Syntax.{Commas, One, More, Expression, Call, Right, Value, Result, Assignment, Simply, Stated, is_grouped, each_of, if_any, is_call, is_right}
-use Rattle.cilk_tree.specs.Writable.{commas_after, commas_of, plain_call, plain_target, plain_inner_here, plain_statement}
+use Rattle.cilk_tree.specs.Levels.{Spelled, counting, plain, mark, word_at, spawn_word, spell_expression, spell_whole, spell_argument, spell_commas, spell_any, spell_call, spell_addition, spell_right}
+use Rattle.cilk_tree.specs.Sugar.{commas_list, one_expression, expression_tree, argument_trees, call_tree, addition_tree, right_tree}
+use Rattle.cilk_tree.specs.Syntax.{Commas, One, More, Expression, Call, Addition, Right, Value, Result, Fetched, Assignment, Simply, Stated, is_grouped, each_of, if_any, is_call, is_addition, is_right}
+use Rattle.cilk_tree.specs.Writable.{commas_after, commas_of, plain_call, plain_target, plain_added, plain_inner_here, plain_statement}
 use Rattle.cilk_reader.proofs.Bounds.Covering.{Fine, fine_each}
-use Rattle.cilk_reader.proofs.Bounds.Folds.{fold_assign, fold_call, fold_spawn}
+use Rattle.cilk_reader.proofs.Bounds.Folds.{fold_add, fold_assign, fold_call, fold_spawn}
 use Rattle.cilk_reader.proofs.Bounds.PlainExpressions.{regrouped, plain-regrouped, weight, operators-regrouped, matches_expressions}
 use Rattle.cilk_reader.proofs.Bounds.PlainLevels.{kept}
 use Rattle.cilk_reader.proofs.Bounds.Tallies.{Matches, matches_itself, matches_both}
@@ -107,18 +108,45 @@ follows_call level call is =
     follows_before (mark level CloseParen ∷ []) (spawn_word level call.spawned ++ (front ++ xs)) (spawn_word level call.spawned ++ (front ++ ys))
     (follows_behind (spawn_word level call.spawned) (front ++ xs) (front ++ ys) (follows_behind front xs ys (follows_arguments level call.arguments is)))
 
+-- the addition as it is printed
+abbrev pub printed_addition : Addition → Addition
+printed_addition addition = record { name = addition.name; index = regrouped addition.index; addend = regrouped addition.addend }
+
+pub follows_addition : (level : ℕ) (addition : Addition) → IsTrue (is_addition addition) → Follows (spell_addition level addition) (spell_addition level (printed_addition addition))
+follows_addition level addition is =
+    let parts = and_parts (is_grouped addition.index) (is_grouped addition.addend) is in
+    let front = word_at level FetchAdd ∷ mark level OpenParen ∷ plain level (Name addition.name) ∷ mark level OpenBracket ∷ [] in
+    let middle = mark level CloseBracket ∷ mark level Comma ∷ [] in
+    let index = spell_whole (level + 1) addition.index in
+    let printed_index = spell_whole (level + 1) (regrouped addition.index) in
+    let addend = spell_whole level addition.addend in
+    let printed_addend = spell_whole level (regrouped addition.addend) in
+    follows_before (mark level CloseParen ∷ []) ((front ++ index) ++ (middle ++ addend)) ((front ++ printed_index) ++ (middle ++ printed_addend))
+    (follows_both (front ++ index) (front ++ printed_index) (middle ++ addend) (middle ++ printed_addend)
+    (follows_behind front index printed_index (follows_expression (level + 1) (Anew Operators ∷ []) addition.index parts.0))
+    (follows_behind middle addend printed_addend (follows_expression level (Anew Operators ∷ []) addition.addend parts.1)))
+
 abbrev pub printed_right : Right → Right
 printed_right (Value value) = Value (regrouped value)
 printed_right (Result call) = Result (printed_call call)
+printed_right (Fetched addition) = Fetched (printed_addition addition)
 
 pub follows_right : (level : ℕ) (value : Right) → IsTrue (is_right value) → Follows (spell_right level value) (spell_right level (printed_right value))
 follows_right level (Value value) is = follows_expression level (Anew Operators ∷ []) value is
 follows_right level (Result call) is = follows_call level call is
+follows_right level (Fetched addition) is = follows_addition level addition is
 
 pub plain-call_tree : (target : Option (List ℕ)) (spawned : Bool) (name : List ℕ) (arguments : List Expr) → plain_statement (call_tree target spawned name arguments) ≡ plain_target target (plain_call spawned name arguments)
 plain-call_tree target false name arguments = fold_call plain_inner_here target name arguments
 plain-call_tree target true name arguments = fold_spawn plain_inner_here target name arguments
 
+pub plain-addition_tree : (target : Option (List ℕ)) (addition : Addition) → plain_statement (addition_tree target addition) ≡ plain_added target (printed_addition addition)
+plain-addition_tree target addition =
+    fold_add plain_inner_here target addition.name (expression_tree addition.index) (expression_tree addition.addend)
+    ∙ ap (λ e. plain_added target (record { name = addition.name; index = e; addend = plain_expression (expression_tree addition.addend) })) (plain-regrouped addition.index)
+    ∙ ap (λ e. plain_added target (record { name = addition.name; index = regrouped addition.index; addend = e })) (plain-regrouped addition.addend)
+
 pub plain-right_tree : (name : List ℕ) (value : Right) → plain_statement (right_tree name value) ≡ Stated (Simply (Assignment name (printed_right value)))
 plain-right_tree name (Value value) = fold_assign plain_inner_here name _ ∙ ap (λ e. Stated (Simply (Assignment name (Value e)))) (plain-regrouped value)
 plain-right_tree name (Result call) = plain-call_tree (Some name) call.spawned call.name (argument_trees call.arguments)
+plain-right_tree name (Fetched addition) = plain-addition_tree (Some name) addition

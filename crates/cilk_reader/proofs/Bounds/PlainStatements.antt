@@ -13,14 +13,14 @@ use Rattle.cilk_tree.specs.declared.count.Counted.{Counted}
 use Rattle.cilk_tree.specs.declared.count.Counted.TheVariants.{Operators, Parameters, Arguments, Variables, Arrays, Functions}
 use Rattle.cilk_tree.specs.declared.count.Count.TheVariants.{Anew}
 use Rattle.cilk_tree.specs.Counts.{is_same}
-use Rattle.cilk_tree.specs.Levels.{Spelled, plain, mark, word_at, spell_whole, spell_any, spell_call, spell_simple, spell_start, spell_condition, spell_statement, spell_inner, spell_inners, spell_body, spell_declaration}
-use Rattle.cilk_tree.specs.Sugar.{expression_tree, commas_list, if_there, argument_trees, call_tree, one_simple, declarator_trees, start_trees, condition_tree, statement_trees, inner_trees, inners_trees, body_trees}
-use Rattle.cilk_tree.specs.Syntax.{Expression, Numeral, Call, Statement, Nothing, Simply, Calling, Syncing, IfAlone, IfElse, WhileLoop, ForLoop, Printing, Returning, Inner, Declaration, Block, Stated, Inners, NoInners, ThenInner, Body, Braced, Single, is_grouped, is_call, is_simple, is_start, if_any, dangles, is_statement, is_inner, are_inners, is_body}
+use Rattle.cilk_tree.specs.Levels.{Spelled, plain, mark, word_at, spell_whole, spell_any, spell_call, spell_addition, spell_simple, spell_start, spell_condition, spell_statement, spell_inner, spell_inners, spell_body, spell_declaration}
+use Rattle.cilk_tree.specs.Sugar.{expression_tree, commas_list, if_there, argument_trees, call_tree, addition_tree, one_simple, declarator_trees, start_trees, condition_tree, statement_trees, inner_trees, inners_trees, body_trees}
+use Rattle.cilk_tree.specs.Syntax.{Expression, Numeral, Call, Addition, Statement, Nothing, Simply, Calling, Adding, Syncing, IfAlone, IfElse, WhileLoop, ForLoop, Printing, Returning, Inner, Declaration, Block, Stated, Inners, NoInners, ThenInner, Body, Braced, Single, is_grouped, is_call, is_addition, is_simple, is_start, if_any, dangles, is_statement, is_inner, are_inners, is_body}
 use Rattle.cilk_tree.specs.Writable.{inners_after, plain_inner_here, plain_statement}
-use Rattle.cilk_reader.proofs.Bounds.Closed.{in_statement, quiet_token, quiet_expression, closed_token, closed_whole, closed_call, covers_followed}
+use Rattle.cilk_reader.proofs.Bounds.Closed.{in_statement, quiet_token, quiet_expression, closed_token, closed_whole, closed_addition, closed_call, covers_followed}
 use Rattle.cilk_reader.proofs.Bounds.Covering.{fine_first, level_of_fine, at_level, Safe, Agrees, Covers, covers_none, covers_both, covers_swap, covers_around, covers_same, covers_without_front, covers_without_end}
 use Rattle.cilk_reader.proofs.Bounds.Folds.{fold_if, fold_while, fold_block, fold_print, fold_return, fold_sync}
-use Rattle.cilk_reader.proofs.Bounds.PlainCalls.{follows_itself, follows_expression, follows_call, printed_call, plain-call_tree}
+use Rattle.cilk_reader.proofs.Bounds.PlainCalls.{follows_itself, follows_expression, follows_addition, follows_call, printed_addition, printed_call, plain-addition_tree, plain-call_tree}
 use Rattle.cilk_reader.proofs.Bounds.PlainExpressions.{regrouped, plain-regrouped}
 use Rattle.cilk_reader.proofs.Bounds.Tallies.{begun_adds}
 use Rattle.cilk_reader.proofs.Bounds.PlainSimples.{apart, lines, lines-append, one_line, one_simple_covers, declaration_covers, start_covers, last_covers}
@@ -218,6 +218,15 @@ calling_covers level call is =
     (covers_both in_statement (spell_call level call) (spell_call level (printed_call call)) (mark level Semicolon ∷ []) (mark level Semicolon ∷ [])
     (covers_followed (spell_call level call) (spell_call level (printed_call call)) (closed_call level call) (follows_call level call is)) (same_token level (Mark Semicolon))))
 
+adding_covers : (level : ℕ) (addition : Addition) → IsTrue (is_addition addition) → Covers in_statement (spell_statement level (Adding addition)) (lines level (statement_trees (Adding addition)))
+adding_covers level addition is =
+    let xs = spell_statement level (Adding addition) in
+    let tree = addition_tree None addition in
+    subst (Covers in_statement xs) (one_line level tree)
+    (subst (λ i. Covers in_statement xs (spell_inner level i)) (sym (plain-addition_tree None addition))
+    (covers_both in_statement (spell_addition level addition) (spell_addition level (printed_addition addition)) (mark level Semicolon ∷ []) (mark level Semicolon ∷ [])
+    (covers_followed (spell_addition level addition) (spell_addition level (printed_addition addition)) (closed_addition level addition) (follows_addition level addition is)) (same_token level (Mark Semicolon))))
+
 syncing_covers : (level : ℕ) → Covers in_statement (spell_statement level Syncing) (lines level (statement_trees Syncing))
 syncing_covers level =
     subst (λ i. Covers in_statement (spell_statement level Syncing) (spell_inner level i ++ [])) (sym (fold_sync plain_inner_here))
@@ -252,6 +261,7 @@ mutual
   statement_covers level (Simply simple) is =
       covers_without_end in_statement level (Mark Semicolon ∷ []) (spell_simple level simple) (lines level (one_simple simple)) (one_simple_covers level simple is)
   statement_covers level (Calling call) is = calling_covers level call is
+  statement_covers level (Adding addition) is = adding_covers level addition is
   statement_covers level Syncing is = syncing_covers level
   statement_covers level (IfAlone condition taken) is =
       let parts = and_parts (is_grouped condition) (is_body taken) is in

@@ -9,12 +9,12 @@ use Rattle.cilk_tree.specs.declared.tree.Stmt.TheVariants as stmt
 use Rattle.cilk_tree.specs.declared.count.Counted.TheVariants.{Operators, Arguments}
 use Rattle.cilk_tree.specs.declared.count.Count.{Count}
 use Rattle.cilk_tree.specs.declared.count.Count.TheVariants.{Anew, OneMore}
-use Rattle.cilk_tree.specs.Levels.{Spelled, mark, spell_expression, spell_whole, spell_argument, spell_commas, spell_any, spell_call, spell_right, spell_declarator, spell_declaration, spell_simple, spell_start, spell_statement, spell_inner, spell_inners, spell_body, spell_array, spell_item, spell_source, source_tokens}
+use Rattle.cilk_tree.specs.Levels.{Spelled, mark, spell_expression, spell_whole, spell_argument, spell_commas, spell_any, spell_call, spell_addition, spell_right, spell_declarator, spell_declaration, spell_simple, spell_start, spell_statement, spell_inner, spell_inners, spell_body, spell_array, spell_item, spell_source, source_tokens}
 use Rattle.cilk_tree.specs.declared.token.Sign.TheVariants.{Semicolon}
 use Rattle.cilk_tree.specs.Size.{value_size, expression_size, expression_size_here, statement_size, statement_size_here, function_size, program_size}
-use Rattle.cilk_tree.specs.Sugar.{expression_tree, commas_list, if_there, one_expression, argument_trees, call_tree, right_tree, declarator_trees, direction_operator, change_tree, simple_tree, one_simple, start_trees, condition_tree, statement_trees, inner_trees, inners_trees, body_trees, one_array, item_arrays, item_functions, row_list, source_tree}
-use Rattle.cilk_tree.specs.Syntax.{Commas, One, More, Empty, Then, Expression, Numeral, Variable, Element, Group, Prefix, Infix, Call, Right, Value, Result, Declarator, Bare, Valued, Direction, Simple, Assignment, Change, Step, Storing, Start, NoStart, SimpleStart, DeclaringStart, Statement, Nothing, Simply, Calling, Syncing, IfAlone, IfElse, WhileLoop, ForLoop, Printing, Returning, Inner, Declaration, Block, Stated, Inners, NoInners, ThenInner, Body, Braced, Single, Array, Item, Arrays, Defined, Source}
-use Rattle.cilk_reader.proofs.Bounds.Folds.{fold_number, fold_local, fold_get, fold_unary, fold_binary, fold_declare, fold_assign, fold_put, fold_print, fold_if, fold_while, fold_block, fold_call, fold_spawn, fold_sync, fold_return}
+use Rattle.cilk_tree.specs.Sugar.{expression_tree, commas_list, if_there, one_expression, argument_trees, call_tree, addition_tree, right_tree, declarator_trees, direction_operator, change_tree, simple_tree, one_simple, start_trees, condition_tree, statement_trees, inner_trees, inners_trees, body_trees, one_array, item_arrays, item_functions, row_list, source_tree}
+use Rattle.cilk_tree.specs.Syntax.{Commas, One, More, Empty, Then, Expression, Numeral, Variable, Element, Group, Prefix, Infix, Call, Addition, Right, Value, Result, Fetched, Declarator, Bare, Valued, Direction, Simple, Assignment, Change, Step, Storing, Start, NoStart, SimpleStart, DeclaringStart, Statement, Nothing, Simply, Calling, Adding, Syncing, IfAlone, IfElse, WhileLoop, ForLoop, Printing, Returning, Inner, Declaration, Block, Stated, Inners, NoInners, ThenInner, Body, Braced, Single, Array, Item, Arrays, Defined, Source}
+use Rattle.cilk_reader.proofs.Bounds.Folds.{fold_number, fold_local, fold_get, fold_unary, fold_binary, fold_declare, fold_assign, fold_put, fold_print, fold_if, fold_while, fold_block, fold_call, fold_spawn, fold_add, fold_sync, fold_return}
 
 abbrev sizes : List Stmt → ℕ
 sizes statements = sum_by statement_size statements
@@ -53,10 +53,15 @@ call_small : (level : ℕ) (target : Option (List ℕ)) (call : Call) → statem
 call_small level target call =
     simp length-append (omega (arith, call_size target call.spawned call.name (argument_trees call.arguments), arguments_small level call.arguments))
 
+addition_small : (level : ℕ) (target : Option (List ℕ)) (addition : Addition) → statement_size (addition_tree target addition) ≤ 2 * length (spell_addition level addition)
+addition_small level target addition =
+    simp length-append (omega (arith, fold_add statement_size_here target addition.name (expression_tree addition.index) (expression_tree addition.addend), expression_small (level + 1) (Anew Operators ∷ []) addition.index, expression_small level (Anew Operators ∷ []) addition.addend))
+
 right_small : (level : ℕ) (name : List ℕ) (value : Right) → statement_size (right_tree name value) ≤ 1 + 2 * length (spell_right level value)
 right_small level name (Value value) =
     omega (arith, fold_assign statement_size_here name (expression_tree value), expression_small level (Anew Operators ∷ []) value)
 right_small level name (Result call) = omega (arith, call_small level (Some name) call)
+right_small level name (Fetched addition) = omega (arith, addition_small level (Some name) addition)
 
 declarator_small : (level : ℕ) (declarator : Declarator) → sizes (declarator_trees declarator) ≤ 2 * length (spell_declarator level declarator)
 declarator_small level (Bare name) = omega (arith, fold_declare statement_size_here name)
@@ -110,6 +115,7 @@ mutual
   statement_small level Nothing = omega arith
   statement_small level (Simply simple) = simp length-append (omega (arith, simple_small level simple))
   statement_small level (Calling call) = omega (arith, length-append (spell_call level call) (mark level Semicolon ∷ []), call_small level None call)
+  statement_small level (Adding addition) = omega (arith, length-append (spell_addition level addition) (mark level Semicolon ∷ []), addition_small level None addition)
   statement_small level Syncing = omega (arith, fold_sync statement_size_here)
   statement_small level (IfAlone condition taken) =
       simp length-append (omega (arith, if_size condition (body_trees taken) [], expression_small level (Anew Operators ∷ []) condition, body_small level (level + 1) taken))

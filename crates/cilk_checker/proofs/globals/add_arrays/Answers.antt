@@ -1,4 +1,5 @@
 use Rattle.std.proofs.Common.{◌+◌, ◌<◌, ◌≤◌, ◌^◌, length, get_or, [], take, sum_by, sym, ap, ◌∙◌, inr, subst, arith}
+use Rattle.cilk_tree.specs.Lawful.Rules.{most_shared_words}
 use Rattle.cilk_tree.specs.Lawful.Scope.{is_known}
 use Rattle.cilk_checker.specs.Meanings.{global_meaning}
 use Rattle.cilk_checker.specs.Names.{value_at}
@@ -25,7 +26,7 @@ returns-then-array-words-clause-answer c =
     let within : loop.number < length shared = subst (λ xs. loop.number < length xs) c.as_slice-array-items.ensures c.loop-number-test.true in
     let item = c.array-item.is ∙ ap (λ xs. get_or xs loop.number array) c.as_slice-array-items.ensures in
     let taken = c.is_known.ensures ∙ ap is_known (c.global_named.ensures ∙ loop.invariant.names array.name) in
-    let many : 2 ^ 20 < loop.words + array.words = omega arith in
+    let many : most_shared_words < loop.words + array.words = omega arith in
     inr (loop.invariant.left ∙ too_many_stops c.args.program.now loop.number loop.words array c.is_known.result within item loop.invariant.words taken c.if-is_known.false many)
 
 pub loop-number-preserved : goal.loop-number-preserved
@@ -36,7 +37,7 @@ loop-number-preserved c =
     let within : loop.number < length shared = subst (λ xs. loop.number < length xs) c.as_slice-array-items.ensures c.loop-number-test.true in
     let item = c.array-item.is ∙ ap (λ xs. get_or xs loop.number array) c.as_slice-array-items.ensures in
     let taken = c.is_known.ensures ∙ ap is_known (c.global_named.ensures ∙ loop.invariant.names array.name) in
-    let few : loop.words + array.words ≤ 2 ^ 20 = omega arith in
+    let few : loop.words + array.words ≤ most_shared_words = omega arith in
     let next = next_taken shared loop.number array within item in
     record {
       names = λ name.

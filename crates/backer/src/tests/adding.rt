@@ -1,0 +1,215 @@
+//! The rows of `fetch_add`: what text is one, where its levels and counts end, how it is printed, and which are lawful.
+use super::checking::{assert_checked, assert_main};
+use super::{assert_refused, canonical, is_read, numbered, refusal_of, repeated, repeating, wrong};
+use cilk_reader::read_program;
+use cilk_tree::print_program;
+use std::test::Fail;
+
+#[test]
+fn refused_additions(rt: HostRuntime) -> Result<(), Fail> {
+    let rows = [
+        wrong("int main() { fetch_add(a", ", 1); }", 103),
+        wrong("int main() { fetch_add(a[0]", "); }", 103),
+        wrong("int main() { fetch_add(a[0] ", "1); }", 103),
+        wrong("int main() { fetch_add(a[0], 1", "; }", 103),
+        wrong("int main() { fetch_add(a[0], 1", ", 2); }", 103),
+        wrong("int main() { fetch_add(a[0", ", 1); }", 103),
+        wrong("int main() { fetch_add(a[", "], 1); }", 103),
+        wrong("int main() { fetch_add(a[0], ", "); }", 103),
+        wrong("int main() { fetch_add", "[0]; }", 103),
+        wrong("int main() { fetch_add(", "1[0], 1); }", 103),
+        wrong("int main() { fetch_add ", "= 1; }", 103),
+        wrong("int main() { fetch_add(a[0], 1) ", "+ 1; }", 103),
+        wrong(
+            "int main() { x = fetch_add(a[0], ",
+            "fetch_add(a[0], 1)); }",
+            103,
+        ),
+        wrong("int main() { print(", "fetch_add(a[0], 1)); }", 103),
+        wrong("int main() { x += ", "fetch_add(a[0], 1); }", 103),
+        wrong("int main() { a[0] = ", "fetch_add(a[0], 1); }", 103),
+        wrong("int main() { x = 1 + ", "fetch_add(a[0], 1); }", 103),
+        wrong("int main() { spawn ", "fetch_add(a[0], 1); }", 103),
+        wrong("int main() { x = spawn ", "fetch_add(a[0], 1); }", 103),
+        wrong("int main() { for (", "fetch_add(a[0], 1); ; ) ; }", 103),
+        wrong("int main() { for (; ; ", "fetch_add(a[0], 1)) ; }", 103),
+        wrong("int main() { int ", "fetch_add; }", 103),
+        wrong("int f(int ", "fetch_add) { }", 103),
+        wrong("int ", "fetch_add[1];", 103),
+        wrong("void ", "fetch_add() { }", 103),
+    ];
+    for row in rows {
+        assert_refused(&rt, rt.alloc(), row)?;
+    }
+    let ends = [
+        "fetch_add",
+        "fetch_add(",
+        "fetch_add(a",
+        "fetch_add(a[",
+        "fetch_add(a[0",
+        "fetch_add(a[0]",
+        "fetch_add(a[0],",
+        "fetch_add(a[0], 1",
+        "fetch_add(a[0], 1)",
+        "x = fetch_add",
+        "x = fetch_add(a[0], 1)",
+        "int x = fetch_add(a[0], 1)",
+    ];
+    for end in ends {
+        let source = repeating(rt.alloc(), "int main() { ", "", 0, end)?;
+        assert_eq!(rt;
+            refusal_of(rt.alloc(), source.as_str()),
+            Some((103, source.len() as u64)),
+            "{end}"
+        );
+    }
+    Ok(())
+}
+
+/// The brackets make one level, the parentheses none.
+#[test]
+fn levels_of_additions(rt: HostRuntime) -> Result<(), Fail> {
+    let rows = [
+        repeated("int main() {", "{", 63, "fetch_add(a[", "0], 1); }", 104),
+        repeated("int main() {", "{", 63, "x = fetch_add(a[", "0], 1); }", 104),
+        repeated("int main() {", "{", 62, "fetch_add(a[(", "0)], 1); }", 104),
+        repeated("int main() {", "{", 62, "fetch_add(a[0], ((", "1))); }", 104),
+    ];
+    for row in rows {
+        assert_refused(&rt, rt.alloc(), row)?;
+    }
+    for inside in ["fetch_add(a[0], 1);", "int x = fetch_add(a[-y], (1));"] {
+        let most = if inside.contains("-") { 61 } else { 62 };
+        let mut source = repeating(rt.alloc(), "int main() {", "{", most, inside)?;
+        source.push_str(repeating(rt.alloc(), "", "}", most, "}")?.as_str())?;
+        assert!(rt; is_read(rt.alloc(), source.as_str()), "{inside}");
+    }
+    let mut source = repeating(rt.alloc(), "int main() {", "{", 62, "fetch_add(a[0], (1));")?;
+    source.push_str(repeating(rt.alloc(), "", "}", 62, "}")?.as_str())?;
+    assert!(rt; is_read(rt.alloc(), source.as_str()));
+    Ok(())
+}
+
+/// Index and addend are counted apart.
+#[test]
+fn counts_of_additions(rt: HostRuntime) -> Result<(), Fail> {
+    let operators = numbered(rt.alloc(), "+", 256, "")?;
+    let mut index = String::from_str(rt.alloc(), "int main() { fetch_add(a[0")?;
+    index.push_str(operators.as_str())?;
+    let mut addend = index.clone()?;
+    addend.push_str("], 0")?;
+    addend.push_str(operators.as_str())?;
+    let mut kept = addend.clone()?;
+    kept.push_str("); print(1 + 1); }")?;
+    assert!(rt; is_read(rt.alloc(), kept.as_str()));
+    for (before, more) in [(index, "+1], 1); }"), (addend, "+1); }")] {
+        let mut past = before.clone()?;
+        past.push_str(more)?;
+        assert_eq!(rt;
+            refusal_of(rt.alloc(), past.as_str()),
+            Some((105, before.len() as u64)),
+            "{more}"
+        );
+    }
+    Ok(())
+}
+
+#[test]
+fn canonical_additions(rt: HostRuntime) -> Result<(), Fail> {
+    let rows = [
+        ("fetch_add(a[0],1);", "  fetch_add(a[0], 1);\n"),
+        (
+            "x = fetch_add(a[(i) + 1], ((-y) * 2));",
+            "  x = fetch_add(a[i + 1], -y * 2);\n",
+        ),
+        (
+            "int x = fetch_add(a[0], 1), y;",
+            "  int x;\n  x = fetch_add(a[0], 1);\n  int y;\n",
+        ),
+        (
+            "for (x = fetch_add(a[0], 1); x < 9; y = fetch_add(a[1], 2)) fetch_add(b[x], x);",
+            "  {\n    x = fetch_add(a[0], 1);\n    while (x < 9) {\n      fetch_add(b[x], x);\n      y = fetch_add(a[1], 2);\n    }\n  }\n",
+        ),
+        (
+            "for (int i = fetch_add(a[0], 1); ; ) ;",
+            "  {\n    int i;\n    i = fetch_add(a[0], 1);\n    while (1) {\n    }\n  }\n",
+        ),
+        (
+            "if (x) fetch_add(a[0], 1); else while (x) y = fetch_add(a[b[0]], a[1]);",
+            "  if (x) {\n    fetch_add(a[0], 1);\n  } else {\n    while (x) {\n      y = fetch_add(a[b[0]], a[1]);\n    }\n  }\n",
+        ),
+    ];
+    for (source, lines) in rows {
+        let text = canonical(rt.alloc(), source)?;
+        let wanted = repeating(rt.alloc(), "int main() {\n", lines, 1, "}\n")?;
+        assert_eq!(rt; text.as_str(), wanted.as_str(), "{source}");
+        let again = read_program(rt.alloc(), text.as_bytes()).expect(&rt, "read again");
+        assert_eq!(rt;
+            print_program(rt.alloc(), &again)?.as_slice(),
+            wanted.as_bytes()
+        );
+    }
+    Ok(())
+}
+
+#[test]
+fn lawful_additions(rt: HostRuntime) -> Result<(), Fail> {
+    let rows = [
+        ("fetch_add(a[0], 1); int x; x = fetch_add(a[x], x);", ""),
+        (
+            "int x; fetch_add(x[0], 1);",
+            "203 in function main statement 1",
+        ),
+        ("fetch_add(f[0], 1);", "203 in function main statement 0"),
+        ("fetch_add(u[0], 1);", "202 in function main statement 0"),
+        ("fetch_add(a[u], 1);", "202 in function main statement 0"),
+        ("fetch_add(a[0], u);", "202 in function main statement 0"),
+        ("fetch_add(a[0], a);", "203 in function main statement 0"),
+        ("fetch_add(a[a], 1);", "203 in function main statement 0"),
+        (
+            "a = fetch_add(a[0], 1);",
+            "203 in function main statement 0",
+        ),
+        (
+            "f = fetch_add(a[0], 1);",
+            "203 in function main statement 0",
+        ),
+        (
+            "u = fetch_add(a[0], 1);",
+            "202 in function main statement 0",
+        ),
+        (
+            "int x = spawn c(1); x = fetch_add(a[0], 1);",
+            "209 in function main statement 2",
+        ),
+        (
+            "int x = spawn c(1); fetch_add(a[x], 1);",
+            "209 in function main statement 2",
+        ),
+        (
+            "int x = spawn c(1); fetch_add(a[0], 1 + x);",
+            "209 in function main statement 2",
+        ),
+        (
+            "int x = spawn c(1); fetch_add(a[0], 1); print(x);",
+            "209 in function main statement 3",
+        ),
+        (
+            "int x = spawn c(1); int y; y = fetch_add(a[0], 1); sync; print(x + y);",
+            "",
+        ),
+        (
+            "int x = spawn c(1); sync; x = fetch_add(a[x], x); print(x);",
+            "",
+        ),
+    ];
+    for (body, breach) in rows {
+        assert_main(&rt, rt.alloc(), body, breach)?;
+    }
+    assert_checked(
+        &rt,
+        rt.alloc(),
+        "int a[1]; int f(int p) { p = fetch_add(a[0], p); fetch_add(a[0], 1); return p; } int main() { }",
+        "",
+    )
+}

@@ -1,0 +1,36 @@
+ghost use Rattle.cilk_parser.specs.Parts.{HasAddition, LacksAddition};
+ghost use Rattle.std.specs.Prelude.{MatchResult};
+
+use crate::opening::Opening;
+use crate::reader::Reader;
+use crate::refusal::ParseRefusal;
+use cilk_tree::{Expr, Name, Sign};
+
+/// The array, the index and the addend of a `fetch_add`.
+#[derive(Drop)]
+pub(crate) struct Addition {
+    pub(crate) name: Name,
+    pub(crate) index: Expr,
+    pub(crate) addend: Expr,
+}
+
+impl<'a> Reader<'a> {
+    /// Reads `(a[i], e)` behind `fetch_add`. The index is one level deeper, since it stands in brackets.
+    pub(crate) fn added(&mut self, level: u64) -> Result<Addition, ParseRefusal>
+        ensures { MatchResult result (λ addition. HasAddition level self.old self.new addition) (λ refusal. LacksAddition level self.old refusal) }
+    {
+        self.sign(Sign::OpenParen, level)?;
+        let name = self.name(level, &[])?;
+        self.sign(Sign::OpenBracket, level)?;
+        let index = self.expression(0, level + 1, Opening::Whole)?;
+        self.sign(Sign::CloseBracket, level)?;
+        self.sign(Sign::Comma, level)?;
+        let addend = self.expression(0, level, Opening::Whole)?;
+        self.sign(Sign::CloseParen, level)?;
+        Ok(Addition {
+            name,
+            index,
+            addend,
+        })
+    }
+}
