@@ -87,10 +87,10 @@ calls_nothing level old refusal call lacks outer same = elim lacks [
 -- ---- a value
 
 -- no call by `spawn`, no addition and no call stands first
-record BeginsNone (left : List Placed) : Type 0 where
-  spawn : is_keyword Spawn left ≡ false
-  add : is_keyword FetchAdd left ≡ false
-  call : is_name_before OpenParen left ≡ false
+pub record BeginsNone (left : List Placed) : Type 0 where
+  pub spawn : is_keyword Spawn left ≡ false
+  pub add : is_keyword FetchAdd left ≡ false
+  pub call : is_name_before OpenParen left ≡ false
 
 pub begins_none : (left : List Placed) → is_keyword Spawn left ≡ false → is_keyword FetchAdd left ≡ false → is_name_before OpenParen left ≡ false → BeginsNone left
 begins_none left spawn add call = record { spawn = spawn; add = add; call = call }

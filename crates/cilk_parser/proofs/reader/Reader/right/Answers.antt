@@ -25,7 +25,7 @@ pub returns-in_err-addition : goal.returns-in_err-addition
 returns-in_err-addition c =
     let e = err_from_is_err_and c.from_residual-in_err-addition.result c.from_residual-in_err-addition.ensures.1 in
     rw (e.1, e.2)
-    (right_add_lacks c.args.level c.args.self.now c.pass-2.new.self (sym c.is_at_word-2.ensures ∙ c.if-is_at_word-2.true) (c.in_ok-pass-2.ensures {u = tt}) c.in_err-addition.field-0.0 c.in_err-addition.ensures)
+    (right_add_lacks c.args.level c.args.self.now c.pass-then-is_at_word-2.new.self (sym c.is_at_word-2.ensures ∙ c.if-is_at_word-2.true) (c.in_ok-pass-2.ensures {u = tt}) c.in_err-addition.field-0.0 c.in_err-addition.ensures)
 
 pub returns-then-is_at_word-2 : goal.returns-then-is_at_word-2
 returns-then-is_at_word-2 c = right_adds _ _ _ (sym c.is_at_word-2.ensures ∙ c.if-is_at_word-2.true) (c.in_ok-pass-2.ensures {u = tt}) _ _ _ c.in_ok-addition.ensures
