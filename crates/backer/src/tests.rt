@@ -135,11 +135,7 @@ fn sources(rt: HostRuntime) -> Result<(), Fail> {
         ),
         ("void main() { print(1); }", Status::Done, "1\n"),
         ("int a[1]; int main() { }", NOT_YET, ""),
-        (
-            "int a[1]; int main() { fetch_add(a[0], 1); }",
-            NOT_YET,
-            "",
-        ),
+        ("int a[1]; int main() { fetch_add(a[0], 1); }", NOT_YET, ""),
         ("cilk int main() { }", NOT_YET, ""),
         ("int main() { } int f() { }", NOT_YET, ""),
         ("int main() { print(-1); }", NOT_YET, ""),

@@ -10,7 +10,12 @@ use std::test::Fail;
 
 /// Compares the answer of `check` with what is written: the end of its line on `err`, or nothing where the program is
 /// lawful.
-pub(super) fn assert_checked(rt: &impl Abort, alloc: Global, source: &str, breach: &str) -> Result<(), Fail> {
+pub(super) fn assert_checked(
+    rt: &impl Abort,
+    alloc: Global,
+    source: &str,
+    breach: &str,
+) -> Result<(), Fail> {
     let left = run(
         alloc,
         &["check", "f"],
@@ -33,7 +38,12 @@ pub(super) fn assert_checked(rt: &impl Abort, alloc: Global, source: &str, breac
 }
 
 /// The same of a program whose main, which has this body, stands behind an array, and functions of each kind.
-pub(super) fn assert_main(rt: &impl Abort, alloc: Global, body: &str, breach: &str) -> Result<(), Fail> {
+pub(super) fn assert_main(
+    rt: &impl Abort,
+    alloc: Global,
+    body: &str,
+    breach: &str,
+) -> Result<(), Fail> {
     let mut source = String::from_str(
         alloc,
         "int a[2]; int f(int p) { return p; } cilk int c(int p) { return p; } void v() { } cilk void w() { } cilk int main() { ",
@@ -444,7 +454,7 @@ fn pending_locals_in_loops(rt: HostRuntime) -> Result<(), Fail> {
 #[test]
 fn first_breach(rt: HostRuntime) -> Result<(), Fail> {
     let rows = [
-        ("int a[1048577]; int main() { }", "211 in array a"),
+        ("int a[4194305]; int main() { }", "211 in array a"),
         ("int a[1]; int a() { } int main() { }", "201 in function a"),
         ("int f() { }", "210 in program"),
         ("   ", "210 in program"),
@@ -482,7 +492,7 @@ fn first_breach(rt: HostRuntime) -> Result<(), Fail> {
             "202 in function f statement 0",
         ),
         (
-            "int main() { int x; int x; } int a[1048577];",
+            "int main() { int x; int x; } int a[4194305];",
             "211 in array a",
         ),
         (
