@@ -1,7 +1,7 @@
 #!/usr/bin/env python3
 """Times `backer check` on lawful sources of one shape, as long as 1 MiB and the counts allow.
 
-Usage: bench/check.py, from a checkout where ./backer has been built. Prints a table of bytes, seconds and answers.
+Usage: bench/check.py, from a checkout where `rt ci` has built the program. Prints a table of bytes, seconds and answers.
 `bench/check.py --write FOLDER` only writes the sources.
 """
 import itertools

@@ -1,7 +1,7 @@
 #!/usr/bin/env python3
 """Times `backer serial` on sources of one shape that the reader refuses or accepts, 1 MiB where the limit allows it.
 
-Usage: bench/read.py, from a checkout where ./backer has been built. Prints a table of seconds and answers.
+Usage: bench/read.py, from a checkout where `rt ci` has built the program. Prints a table of seconds and answers.
 """
 import random
 

@@ -1,7 +1,7 @@
 #!/usr/bin/env python3
 """Times `backer serial` on sources of 64, 256 and 1,024 KiB, beside python3 and gcc -O0 on the same sums.
 
-Usage: bench/serial.py, from a checkout where ./backer has been built. Prints a table of seconds.
+Usage: bench/serial.py, from a checkout where `rt ci` has built the program. Prints a table of seconds.
 """
 import pathlib
 import subprocess

@@ -13,6 +13,7 @@ use Rattle.backer_top.specs.declared.walk.End.TheVariants.{Finished, Trapped}
 use Rattle.backer_top.specs.declared.words.Command.{Command}
 use Rattle.backer_top.specs.declared.words.Command.TheVariants.{Check, Serial}
 use Rattle.backer_top.specs.Due.{Accepts, meaning, Makes, StopsWith, IsDueOf, IsDue, IsOfAccepted}
+use Rattle.backer_top.specs.Reading.{source_limit}
 use Rattle.backer_top.specs.SerialMain.{IsSerialMain}
 use Rattle.backer_top.specs.Status.{HasFixedLine}
 
@@ -144,7 +145,7 @@ due_broken command program kind place unlawful once Memory is = absurd is
 -- ---- what a text calls for
 
 -- one that is too long
-pub due_too_long : (command : Command) (text : List ℕ) → 1048576 < length text → (due : Status) → IsDue command text due → due ≡ Source source.TooLong
+pub due_too_long : (command : Command) (text : List ℕ) → source_limit < length text → (due : Status) → IsDue command text due → due ≡ Source source.TooLong
 due_too_long command text long (Source source.TooLong) is = refl
 due_too_long command text long (Source (source.Read number offset)) is = absurd (omega (arith, is.0))
 due_too_long command text long (Source source.NotYet) is = absurd (omega (arith, is.1.0))
@@ -156,7 +157,7 @@ due_too_long command text long ReadFault is = absurd is.2
 due_too_long command text long WriteFault is = absurd is.2
 due_too_long command text long Memory is = absurd is.2
 
-module _ (command : Command) (text : List ℕ) (short : length text ≤ 1048576) where
+module _ (command : Command) (text : List ℕ) (short : length text ≤ source_limit) where
   -- one that spells no program
   pub due_unread : (number offset : ℕ) → ((program : Program) → ¬ Spells text program)
       → ((other place : ℕ) → IsRefusedAt text other place → Source (source.Read number offset) ≡ Source (source.Read other place))

@@ -1,5 +1,5 @@
 -- How a command ends, by how its parts ended.
-use Rattle.std.proofs.Common.{◌≡◌, ◌⊎◌, inl, inr, ℕ, ◌<◌, ◌≤◌, Option, Some, None, IfSome, IfNone, IsSomeAnd, Ok, Err, unwrap_or, List, [], ◌∷◌, ◌++◌, length, refl, sym, ap, ◌∙◌, subst, arith}
+use Rattle.std.proofs.Common.{◌≡◌, ◌⊎◌, inl, inr, ℕ, ◌<◌, ◌≤◌, Option, Some, None, IfSome, IfNone, IsSomeAnd, Ok, Err, unwrap_or, List, [], ◌∷◌, ◌++◌, append-nil, length, refl, sym, ap, ◌∙◌, subst, arith}
 use Rattle.std.specs.FinMap as map
 use Rattle.cilk_tree.specs.declared.kind.Kind.{Kind}
 use Rattle.cilk_tree.specs.declared.place.CheckPlace.{CheckPlace}
@@ -13,14 +13,17 @@ use Rattle.cilk_reader.specs.declared.refusal.ReadRefusal.TheVariants as read
 use Rattle.cilk_checker.specs.Sound.{IsRefusal as IsBreach}
 use Rattle.cilk_checker.specs.declared.refusal.CheckRefusal.{CheckRefusal}
 use Rattle.cilk_checker.specs.declared.refusal.CheckRefusal.TheVariants as check
+use Rattle.outside.proofs.Joining.{joined-append}
 use Rattle.outside.specs.Shelf.{AreSome, Reads, Texts, joined}
 use Rattle.backer_top.specs.declared.status.SourceRefusal.{SourceRefusal}
 use Rattle.backer_top.specs.declared.status.SourceRefusal.TheVariants as source
 use Rattle.backer_top.specs.declared.status.Status.{Status}
 use Rattle.backer_top.specs.declared.status.Status.TheVariants.{Done, Words, Source, ReadFault, WriteFault, Trap, Memory}
 use Rattle.backer_top.specs.declared.words.Command.{Command}
-use Rattle.backer_top.specs.Due.{Accepts, Makes, IsDueOf, IsDue, IsOfAccepted, IsReading, IsOutcome}
-use Rattle.backer_top.specs.Reading.{IsHeld, IsTextOf, GaveSome, GaveUp, ReadsWhole, StopsReading}
+use Rattle.backer_top.specs.Due.{Accepts, Makes, IsDueOf, IsDue, IsOfAccepted}
+use Rattle.backer_top.specs.Outcome.{IsReading, IsOutcome}
+use Rattle.backer_top.specs.Output.{IsCutShort, IsWritten, SinkUse, WriteFailed}
+use Rattle.backer_top.specs.Reading.{IsHeld, IsTextOf, GaveSome, GaveUp, ReadFailed, ReadsWhole, ShelfUse, StopsReading, source_limit}
 use Rattle.backer_top.specs.Run.{IsRun}
 use Rattle.backer_top.proofs.Dues.{accepted_stop, due_broken, due_made, due_of_stopped, due_read, due_stopped, due_too_long, due_unread, made_once, undone_stop}
 
@@ -60,7 +63,7 @@ module _ (text : List ℕ) where
     unaccepted = λ program accepted. absurd (unaccepted program accepted);
   })
 
-  module _ (short : length text ≤ 1048576) where
+  module _ (short : length text ≤ source_limit) where
     reading_at : (number offset : ℕ) → IsRefusedAt text number offset → ((program : Program) → Spells text program → read.At number offset ≡ read.Memory)
         → ((kind : Kind) (place : ℕ) → IsRefusal text kind place → (read.At number offset ≡ read.At (kind_number kind) place) ⊎ (read.At number offset ≡ read.Memory))
         → (status : Status) → (status ≡ Source (source.Read number offset)) ⊎ (status ≡ Memory) → IsReading text (Err status)
@@ -127,7 +130,7 @@ module _ (command : Command) (text : List ℕ) where
     accepted = λ program accepted. subst (IsOfAccepted command) (sym (reading.unaccepted program accepted)) tt;
   }
 
-  module _ (short : length text ≤ 1048576) (program : Program) (reading : IsReading text (Ok program)) where
+  module _ (short : length text ≤ source_limit) (program : Program) (reading : IsReading text (Ok program)) where
     calls_for : (due : Status) → IsDue command text due → IsDueOf command program due
     calls_for = due_read command text short program reading.only reading.unrefused
 
@@ -182,34 +185,34 @@ pub front_some : (pieces later : List (List ℕ)) → AreSome (pieces ++ later) 
 front_some [] later some = tt
 front_some (piece ∷ pieces) later some = (some.0, front_some pieces later some.1)
 
-module _ {S : Type 0} (texts : Option Texts) (gave : S → List ℕ → ℕ → ℕ → List ℕ → S → Type 0) (failed : S → List ℕ → ℕ → ℕ → S → Type 0) (file : List ℕ) (old new : S) (read_failed : Type 0) where
+module _ {S : Type 0} (shelf : ShelfUse S) where
   -- a text within the limit was given whole
-  some_of_whole : (text : List ℕ) → ReadsWhole texts gave file old new text → GaveSome gave file old new
+  some_of_whole : (text : List ℕ) → ReadsWhole shelf text → GaveSome shelf
   some_of_whole text whole =
-      record { pieces = whole.calls.pieces; last = []; some = whole.calls.some; calls = whole.calls.calls; within = subst (λ bytes. length bytes ≤ 1048576) whole.calls.same whole.short }
+      record { pieces = whole.calls.pieces; last = []; some = whole.calls.some; calls = whole.calls.calls; within = subst (λ bytes. length bytes ≤ source_limit) (whole.calls.same ∙ sym (joined-append whole.calls.pieces [] ∙ append-nil (joined whole.calls.pieces))) whole.short }
 
   -- the shelf failed
-  pub source_failed : read_failed → GaveUp gave failed file old new → (text : List ℕ) × StopsReading texts gave failed file old new read_failed text ReadFault
-  source_failed fault calls = (told_or texts file [], record { told = told_or_is texts file []; calls = calls; cause = fault })
+  pub source_failed : ReadFailed shelf → GaveUp shelf → (text : List ℕ) × StopsReading shelf text ReadFault
+  source_failed fault calls = (told_or (shelf.texts shelf.old) shelf.file [], record { told = told_or_is (shelf.texts shelf.old) shelf.file []; calls = calls; cause = fault })
 
   -- memory ran out before the text was known
-  pub source_unread : GaveSome gave file old new → (text : List ℕ) × StopsReading texts gave failed file old new read_failed text Memory
-  source_unread calls = (told_or texts file [], record { told = told_or_is texts file []; calls = calls; cause = tt })
+  pub source_unread : GaveSome shelf → (text : List ℕ) × StopsReading shelf text Memory
+  source_unread calls = (told_or (shelf.texts shelf.old) shelf.file [], record { told = told_or_is (shelf.texts shelf.old) shelf.file []; calls = calls; cause = tt })
 
-  pub source_too_long : (pieces : List (List ℕ)) (last : List ℕ) → AreSome (pieces ++ last ∷ []) → Reads gave file old 0 (pieces ++ last ∷ []) new → length (joined pieces) ≤ 1048576 → 1048576 < length (joined (pieces ++ last ∷ []))
-      → IfSome texts (λ held. IsSomeAnd (map.get held file) (λ text. 1048576 < length text))
-      → (text : List ℕ) × StopsReading texts gave failed file old new read_failed text (Source source.TooLong)
+  pub source_too_long : (pieces : List (List ℕ)) (last : List ℕ) → AreSome (pieces ++ last ∷ []) → Reads shelf.gave shelf.file shelf.old 0 (pieces ++ last ∷ []) shelf.new → length (joined pieces) ≤ source_limit → source_limit < length (joined (pieces ++ last ∷ []))
+      → IfSome (shelf.texts shelf.old) (λ held. IsSomeAnd (map.get held shelf.file) (λ text. source_limit < length text))
+      → (text : List ℕ) × StopsReading shelf text (Source source.TooLong)
   source_too_long pieces last some calls within long told =
-      let text = told_or texts file (joined (pieces ++ last ∷ [])) in
-      let more = long_text texts file (joined (pieces ++ last ∷ [])) 1048576 long told in
+      let text = told_or (shelf.texts shelf.old) shelf.file (joined (pieces ++ last ∷ [])) in
+      let more = long_text (shelf.texts shelf.old) shelf.file (joined (pieces ++ last ∷ [])) source_limit long told in
       (text, record { told = more.1; calls = record { pieces = pieces; last = last; some = some; calls = calls; within = within; long = long; same = more.2 }; cause = more.0 })
 
-  module _ (write_failed : Type 0) (written cut_short : List ℕ → Type 0) (command : Command) (text : List ℕ) where
+  module _ {O : Type 0} (out : SinkUse O) (command : Command) (text : List ℕ) where
     abbrev Ends : Status → Type 0
-    Ends = IsRun texts gave failed file old new read_failed write_failed written cut_short command text
+    Ends = IsRun shelf out command text
 
     -- no text within the limit was read
-    pub run_unread : (status : Status) → StopsReading texts gave failed file old new read_failed text status → Ends status
+    pub run_unread : (status : Status) → StopsReading shelf text status → Ends status
     run_unread (Source source.TooLong) stops = record {
       told = stops.told;
       calls = stops.calls;
@@ -237,7 +240,7 @@ module _ {S : Type 0} (texts : Option Texts) (gave : S → List ℕ → ℕ → 
     run_unread WriteFault stops = absurd stops.cause
     run_unread (Trap kind node) stops = absurd stops.cause
 
-    module _ (whole : ReadsWhole texts gave file old new text) where
+    module _ (whole : ReadsWhole shelf text) where
       unless_memory : {P : Type 0} (status : Status) → ¬ (status ≡ Memory) → P ⊎ (status ≡ Memory) → P
       unless_memory status other (inl p) = p
       unless_memory status other (inr memory) = absurd (other memory)
@@ -281,7 +284,7 @@ module _ {S : Type 0} (texts : Option Texts) (gave : S → List ℕ → ℕ → 
         unwritten = λ unwritten. cc;
       }
       run_stopped Memory outcome = record {
-        told = text_of_held texts file text whole.told;
+        told = text_of_held (shelf.texts shelf.old) shelf.file text whole.told;
         calls = some_of_whole text whole;
         cause = tt;
         due = λ _ _. tt;
@@ -300,19 +303,19 @@ module _ {S : Type 0} (texts : Option Texts) (gave : S → List ℕ → ℕ → 
         is_due = let prints = outcome.cause in (prints.0, prints.1.0, (prints.1.1, (printed, prints.2)))
 
         -- what was made of it was written
-        pub run_done : written printed → Ends Done
+        pub run_done : IsWritten out.held out.took out.old out.new printed → Ends Done
         run_done put = record {
           told = whole.told;
           calls = whole.calls;
           cause = is_due;
           due = λ due is. sym (outcome.due due is);
           accepted = λ _ _ _ _. tt;
-          output = λ _ other prints. subst written (outcome.only other prints) put;
+          output = λ _ other prints. subst (IsWritten out.held out.took out.old out.new) (outcome.only other prints) put;
           unwritten = λ unwritten. cc;
         }
 
         -- writing it failed
-        pub run_unwritten : write_failed → cut_short printed → Ends WriteFault
+        pub run_unwritten : WriteFailed out → IsCutShort out.held out.took out.failed out.old out.new printed → Ends WriteFault
         run_unwritten fault short = record {
           told = whole.told;
           calls = whole.calls;
@@ -320,5 +323,5 @@ module _ {S : Type 0} (texts : Option Texts) (gave : S → List ℕ → ℕ → 
           due = λ due is. (fault, outcome.due due is);
           accepted = λ _ unfailed _ _. absurd (unfailed fault);
           output = λ done. cc;
-          unwritten = λ _ other prints. subst cut_short (outcome.only other prints) short;
+          unwritten = λ _ other prints. subst (IsCutShort out.held out.took out.failed out.old out.new) (outcome.only other prints) short;
         }

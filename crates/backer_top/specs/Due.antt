@@ -1,7 +1,6 @@
 -- What a command makes of a text.
-use Rattle.std.specs.Prelude.{◌≡◌, ◌⊎◌, ℕ, ◌<◌, ◌≤◌, Result, Ok, Err, IfErr, IfOk, MatchResult, List, length}
+use Rattle.std.specs.Prelude.{◌≡◌, ℕ, ◌<◌, ◌≤◌, Result, Ok, Err, List, length}
 use Rattle.cilk_reader.specs.Refusals.{IsRefusedAt}
-use Rattle.cilk_tree.specs.declared.place.CheckPlace.{CheckPlace}
 use Rattle.cilk_tree.specs.declared.tree.Program.{Program}
 use Rattle.cilk_tree.specs.Canonical.{canonical_text}
 use Rattle.cilk_tree.specs.Lawful.Lawful.{IsCheckRefusal, IsLawful}
@@ -15,19 +14,24 @@ use Rattle.backer_top.specs.declared.words.Command.{Command}
 use Rattle.backer_top.specs.declared.words.Command.TheVariants.{Check, Serial}
 use Rattle.backer_top.specs.Elision.{elision}
 use Rattle.backer_top.specs.Output.{lines}
+use Rattle.backer_top.specs.Reading.{source_limit}
 use Rattle.backer_top.specs.SerialMain.{IsSerialMain}
 
 -- The text is within the limit, and spells this program.
 abbrev pub IsProgramOf : List ℕ → Program → Type 0
-IsProgramOf text program = (length text ≤ 1048576) × Spells text program
+IsProgramOf text program = (length text ≤ source_limit) × Spells text program
 
 -- The text is accepted: it spells this program, which is lawful.
 abbrev pub Accepts : List ℕ → Program → Type 0
 Accepts text program = IsProgramOf text program × IsLawful program
 
--- the serial elision within the budget, which no program of a text within the limit spends
+-- How many ticks a serial run may make. A print is one, and no program of a text within the limit has as many.
+abbrev pub tick_budget : ℕ
+tick_budget = 2000000
+
+-- the serial elision within the budget
 abbrev pub meaning : Program → Run
-meaning program = elision program 2000000
+meaning program = elision program tick_budget
 
 -- the status with which `serial` ends in place of a text
 abbrev pub StopsWith : Program → Status → Type 0
@@ -57,8 +61,8 @@ IsDueOf command program _ = ⊥
 
 -- What a text calls for, where memory suffices and no device fails. None calls for Words, ReadFault, WriteFault or Memory.
 abbrev pub IsDue : Command → List ℕ → Status → Type 0
-IsDue command text (Source source.TooLong) = 1048576 < length text
-IsDue command text (Source (source.Read number offset)) = (length text ≤ 1048576) × IsRefusedAt text number offset
+IsDue command text (Source source.TooLong) = source_limit < length text
+IsDue command text (Source (source.Read number offset)) = (length text ≤ source_limit) × IsRefusedAt text number offset
 IsDue command text status = (program : Program) × IsProgramOf text program × IsDueOf command program status
 
 -- a status that an accepted text may have where no device fails
@@ -68,23 +72,3 @@ IsOfAccepted command Memory = Unit {0}
 IsOfAccepted Serial (Trap kind node) = Unit {0}
 IsOfAccepted Serial (Source source.NotYet) = Unit {0}
 IsOfAccepted command _ = ⊥
-
--- How a text within the limit was read and checked: whichever the command is, what the text calls for is what its program
--- calls for, or it is the status of a refusal.
-pub record IsReading (text : List ℕ) (result : Result Program Status) : Type 0 where
-  pub accepted : IfOk result (Accepts text)
-  pub only : (other : Program) → Spells text other → IfOk result (λ program. program ≡ other)
-  pub unbroken : (kind : ℕ) (place : CheckPlace) → IfOk result (λ program. ¬ IsCheckRefusal program kind place)
-  pub unrefused : (number offset : ℕ) → IfOk result (λ _. ¬ IsRefusedAt text number offset)
-  pub cause : (command : Command) → IfErr result (λ status. IsDue command text status ⊎ (status ≡ Memory))
-  pub stops : IfErr result (λ status. ¬ (status ≡ Done))
-  pub due : (command : Command) (due : Status) → IsDue command text due → IfErr result (λ status. (status ≡ due) ⊎ (status ≡ Memory))
-  pub unaccepted : (program : Program) → Accepts text program → IfErr result (λ status. status ≡ Memory)
-
--- How a command on a text within the limit ended: with a text for `out`, or with a status in place of one.
-pub record IsOutcome (command : Command) (text : List ℕ) (result : Result (List ℕ) Status) : Type 0 where
-  pub cause : MatchResult result (Prints command text) (λ status. IsDue command text status ⊎ (status ≡ Memory))
-  pub stops : IfErr result (λ status. ¬ (status ≡ Done))
-  pub due : (due : Status) → IsDue command text due → MatchResult result (λ _. due ≡ Done) (λ status. (status ≡ due) ⊎ (status ≡ Memory))
-  pub only : (other : List ℕ) → Prints command text other → IfOk result (λ printed. printed ≡ other)
-  pub accepted : (program : Program) → Accepts text program → IfErr result (IsOfAccepted command)

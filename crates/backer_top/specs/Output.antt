@@ -2,6 +2,7 @@
 use Rattle.std.specs.Prelude.{◌≡◌, ℕ, ◌<◌, ◌≤◌, ℤ, Option, Some, IfSome, List, [], ◌∷◌, ◌++◌, length, take}
 use Rattle.std.specs.Fmt.{signed_decimal}
 use Rattle.std.specs.List.{flat_map}
+use Rattle.outside.specs.Device.{Rose}
 use Rattle.outside.specs.Shelf.{joined}
 
 -- a value in decimal on a line of its own
@@ -10,6 +11,22 @@ line value = signed_decimal value ++ 10 ∷ []
 
 abbrev pub lines : List ℤ → List ℕ
 lines = flat_map line
+
+-- How a sink was used: what it tells, what its puts did, and the sink before and after.
+pub record SinkUse (S : Type 0) : Type 1 where
+  pub held : S → Option (List ℕ)
+  pub faults : S → ℕ
+  pub took : S → List ℕ → S → Type 0
+  pub failed : S → List ℕ → S → Type 0
+  pub old : S
+  pub new : S
+
+abbrev pub sink_use : {S : Type 0} → (S → Option (List ℕ)) → (S → ℕ) → (S → List ℕ → S → Type 0) → (S → List ℕ → S → Type 0) → S → S → SinkUse S
+sink_use held faults took failed old new = record { held = held; faults = faults; took = took; failed = failed; old = old; new = new }
+
+-- its count of faults rose
+abbrev pub WriteFailed : {S : Type 0} → SinkUse S → Type 0
+WriteFailed sink = Rose (sink.faults sink.old) (sink.faults sink.new)
 
 -- pieces of 4,096 bytes, of which the last may be shorter, and none is empty
 abbrev pub ArePieces : List (List ℕ) → Type 0

@@ -1,10 +1,10 @@
 ghost use Rattle.std.specs.Prelude.{◌≡◌, ◌≢◌, ◌↔◌, ◌≤◌, List, ℕ, true, false, None, Some, map, length, string_bytes, IfOk, IfErr};
 ghost use Rattle.backer_top.specs.declared.words.Command.{Command};
 ghost use Rattle.backer_top.specs.Command.{request_of};
-ghost use Rattle.backer_top.specs.Due.{IsOutcome, IsReading};
 ghost use Rattle.backer_top.specs.Lines.{IsLineOf, IsTelling, line_bytes};
-ghost use Rattle.backer_top.specs.Output.{IsCutShort, IsHalfTold, IsTold, IsWritten};
-ghost use Rattle.backer_top.specs.Reading.{ReadsWhole, StopsReading};
+ghost use Rattle.backer_top.specs.Outcome.{IsOutcome, IsReading};
+ghost use Rattle.backer_top.specs.Output.{IsHalfTold, IsTold, sink_use};
+ghost use Rattle.backer_top.specs.Reading.{ReadsWhole, StopsReading, shelf_use, source_limit};
 ghost use Rattle.backer_top.specs.Run.{IsRun};
 ghost use Rattle.backer_top.specs.Status.{HasFixedLine};
 ghost use Rattle.outside.specs.Device.{Rose};
@@ -38,9 +38,8 @@ pub fn backer<L: Shelf, O: Sink, E: Sink>(
 
     // One text serves all that is said of a command.
     ensures command { (command : Command) (file : List ℕ) → request_of (map string_bytes words.now) ≡ Some (command, file) →
-        ((text : List ℕ) × IsRun (L.texts shelf.old) L.gave L.failed file shelf.old shelf.new
-        (Rose (L.faults shelf.old file) (L.faults shelf.new file)) (Rose (O.faults out.old) (O.faults out.new))
-        (IsWritten O.held O.took out.old out.new) (IsCutShort O.held O.took O.failed out.old out.new) command text result.status
+        ((text : List ℕ) × IsRun (shelf_use L.texts L.faults L.gave L.failed file shelf.old shelf.new)
+        (sink_use O.held O.faults O.took O.failed out.old out.new) command text result.status
         × IsTelling E.held E.took E.failed err.old err.new text result) }
     ensures nothing_written { result.status ≢ Status.Done → result.status ≢ Status.WriteFault → out.new ≡ out.old }
 
@@ -64,9 +63,8 @@ fn run<L: Shelf, O: Sink>(alloc: Global, words: &[String], shelf: &mut L, out: &
     ensures no_call { result.status ≡ Status.Words → shelf.new ≡ shelf.old }
     ensures words_line { result.status ≡ Status.Words → (text : List ℕ) → IsLineOf text result.status (line_bytes result.line) }
     ensures command { (command : Command) (file : List ℕ) → request_of (map string_bytes words.now) ≡ Some (command, file) →
-        ((text : List ℕ) × IsRun (L.texts shelf.old) L.gave L.failed file shelf.old shelf.new
-        (Rose (L.faults shelf.old file) (L.faults shelf.new file)) (Rose (O.faults out.old) (O.faults out.new))
-        (IsWritten O.held O.took out.old out.new) (IsCutShort O.held O.took O.failed out.old out.new) command text result.status
+        ((text : List ℕ) × IsRun (shelf_use L.texts L.faults L.gave L.failed file shelf.old shelf.new)
+        (sink_use O.held O.faults O.took O.failed out.old out.new) command text result.status
         × IsLineOf text result.status (line_bytes result.line)) }
     ensures nothing_written { result.status ≢ Status.Done → result.status ≢ Status.WriteFault → out.new ≡ out.old }
     ensures texts { L.texts shelf.new ≡ L.texts shelf.old }
@@ -94,9 +92,8 @@ fn tell<E: Sink>(answer: &Answer, err: &mut E) -> Ended
 
 /// Reads the file, and puts what the command makes of its program on `out`.
 fn perform<L: Shelf, O: Sink>(alloc: Global, request: Request, shelf: &mut L, out: &mut O) -> Answer
-    ensures run { (text : List ℕ) × IsRun (L.texts shelf.old) L.gave L.failed request.entry.file.now shelf.old shelf.new
-        (Rose (L.faults shelf.old request.entry.file.now) (L.faults shelf.new request.entry.file.now)) (Rose (O.faults out.old) (O.faults out.new))
-        (IsWritten O.held O.took out.old out.new) (IsCutShort O.held O.took O.failed out.old out.new) request.entry.command text result.status
+    ensures run { (text : List ℕ) × IsRun (shelf_use L.texts L.faults L.gave L.failed request.entry.file.now shelf.old shelf.new)
+        (sink_use O.held O.faults O.took O.failed out.old out.new) request.entry.command text result.status
         × IsLineOf text result.status (line_bytes result.line) }
     ensures nothing_written { result.status ≢ Status.Done → result.status ≢ Status.WriteFault → out.new ≡ out.old }
     ensures words { result.status ≢ Status.Words }
@@ -120,9 +117,8 @@ fn perform<L: Shelf, O: Sink>(alloc: Global, request: Request, shelf: &mut L, ou
 
 /// The text of the file.
 fn source<L: Shelf>(alloc: Global, file: &str, shelf: &mut L) -> Result<Vec<u8>, Status>
-    ensures whole { IfOk result (λ text. ReadsWhole (L.texts shelf.old) L.gave file.now shelf.old shelf.new text.items) }
-    ensures stopped { IfErr result (λ status. (text : List ℕ) × StopsReading (L.texts shelf.old) L.gave L.failed file.now shelf.old shelf.new
-        (Rose (L.faults shelf.old file.now) (L.faults shelf.new file.now)) text status) }
+    ensures whole { IfOk result (λ text. ReadsWhole (shelf_use L.texts L.faults L.gave L.failed file.now shelf.old shelf.new) text.items) }
+    ensures stopped { IfErr result (λ status. (text : List ℕ) × StopsReading (shelf_use L.texts L.faults L.gave L.failed file.now shelf.old shelf.new) text status) }
     ensures fixed { IfErr result HasFixedLine }
     ensures texts { L.texts shelf.new ≡ L.texts shelf.old }
     ensures shelf_faults { (name : List ℕ) → L.faults shelf.old name ≤ L.faults shelf.new name }
@@ -137,7 +133,7 @@ fn source<L: Shelf>(alloc: Global, file: &str, shelf: &mut L) -> Result<Vec<u8>,
 
 /// What the command makes of the text.
 fn outcome(alloc: Global, command: Command, text: &[u8]) -> Result<Vec<u8>, Answer>
-    requires { length text.now ≤ 1048576 }
+    requires { length text.now ≤ source_limit }
     ensures printed { IfOk result (λ printed. IsOutcome command text.now (Ok printed.items)) }
     ensures stopped { IfErr result (λ answer. IsOutcome command text.now (Err answer.status)) }
     ensures line { IfErr result (λ answer. IsLineOf text.now answer.status (line_bytes answer.line)) }
@@ -154,7 +150,7 @@ fn outcome(alloc: Global, command: Command, text: &[u8]) -> Result<Vec<u8>, Answ
 
 /// The program that the text spells, checked.
 fn accepted(alloc: Global, text: &[u8]) -> Result<Checked, Answer>
-    requires { length text.now ≤ 1048576 }
+    requires { length text.now ≤ source_limit }
     ensures accepted { IfOk result (λ program. IsReading text.now (Ok program)) }
     ensures refused { IfErr result (λ answer. IsReading text.now (Err answer.status)) }
     ensures line { IfErr result (λ answer. IsLineOf text.now answer.status (line_bytes answer.line)) }

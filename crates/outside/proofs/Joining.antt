@@ -22,33 +22,25 @@ pub AreSome-append : (pieces : List (List ℕ)) (piece : List ℕ) → AreSome p
 AreSome-append [] piece before some = (some, tt)
 AreSome-append (first ∷ pieces) piece (first_some, before) some = (first_some, AreSome-append pieces piece before some)
 
--- No call was made once the limit was passed.
-abbrev pub StopsAt : ℕ → List (List ℕ) → Type 0
-StopsAt limit pieces = (pieces ≡ []) ⊎ ((before : List (List ℕ)) × (last : List ℕ) × (pieces ≡ before ++ last ∷ []) × (length (joined before) ≤ limit) × (length before ≤ limit))
+-- each piece has a byte at least
+few : (pieces : List (List ℕ)) → AreSome pieces → length pieces ≤ length (joined pieces)
+few [] some = omega arith
+few (piece ∷ pieces) (some, rest) = omega (arith, some, few pieces rest, length-append piece (joined pieces))
 
 -- The calls that gave what was read so far.
-abbrev pub CallsSoFar : {S : Type 0} → (S → List ℕ → ℕ → ℕ → List ℕ → S → Type 0) → List ℕ → ℕ → S → List ℕ → S → Type 0
-CallsSoFar gave name limit old items new = (pieces : List (List ℕ)) × (items ≡ joined pieces) × AreSome pieces × (length pieces ≤ length items) × StopsAt limit pieces
-    × Reads gave name old 0 pieces new
-
-pub CallsSoFar-longer : {S : Type 0} (gave : S → List ℕ → ℕ → ℕ → List ℕ → S → Type 0) (name : List ℕ) (limit : ℕ) (old : S) (items : List ℕ) (new : S)
-    → CallsSoFar gave name limit old items new → limit < length items
-    → (pieces : List (List ℕ)) × (last : List ℕ) × AreSome (pieces ++ last ∷ []) × (length (joined pieces) ≤ limit) × (limit < length (joined (pieces ++ last ∷ []))) × (length pieces ≤ limit)
-    × Reads gave name old 0 (pieces ++ last ∷ []) new
-CallsSoFar-longer gave name limit old items new (pieces, is, some, few, inl none, reads) longer = absurd (omega (arith, ap length is, ap (λ x. length (joined x)) none))
-CallsSoFar-longer gave name limit old items new (pieces, is, some, few, inr (before, last, ends, short, bounded), reads) longer =
-    (before, last, subst AreSome ends some, short, omega (arith, ap length is, ap (λ x. length (joined x)) ends), bounded, subst (λ x. Reads gave name old 0 x new) ends reads)
+abbrev pub CallsSoFar : {S : Type 0} → (S → List ℕ → ℕ → ℕ → List ℕ → S → Type 0) → List ℕ → S → List ℕ → S → Type 0
+CallsSoFar gave name old items new = (pieces : List (List ℕ)) × (items ≡ joined pieces) × AreSome pieces × Reads gave name old 0 pieces new
 
 pub CallsSoFar-fault : {S : Type 0} (gave : S → List ℕ → ℕ → ℕ → List ℕ → S → Type 0) (failed : S → List ℕ → ℕ → ℕ → S → Type 0) (name : List ℕ) (limit : ℕ) (old mid new : S) (items : List ℕ) (at room : ℕ)
-    → at ≡ length items → room ≡ 4096 → failed mid name at room new → CallsSoFar gave name limit old items mid → at ≤ limit
+    → at ≡ length items → room ≡ 4096 → failed mid name at room new → CallsSoFar gave name old items mid → length items ≤ limit
     → (pieces : List (List ℕ)) × (last : S) × AreSome pieces × (length (joined pieces) ≤ limit) × (length pieces ≤ limit)
     × Reads gave name old 0 pieces last × failed last name (length (joined pieces)) 4096 new
-CallsSoFar-fault gave failed name limit old mid new items at room at_end full fails (pieces, is, some, few, stops, reads) short =
+CallsSoFar-fault gave failed name limit old mid new items at room at_end full fails (pieces, is, some, reads) short =
     let at_full : failed mid name at 4096 new = subst (λ k. failed mid name at k new) full fails in
-    (pieces, mid, some, omega (arith, ap length is), omega arith, reads, subst (λ k. failed mid name k 4096 new) (at_end ∙ ap length is) at_full)
+    (pieces, mid, some, omega (arith, ap length is), omega (arith, ap length is, few pieces some), reads, subst (λ k. failed mid name k 4096 new) (at_end ∙ ap length is) at_full)
 
 -- A further call at the place reached, and what follows from it.
-module _ {S : Type 0} (gave : S → List ℕ → ℕ → ℕ → List ℕ → S → Type 0) (name : List ℕ) (limit : ℕ) (old mid new : S) (items given : List ℕ) (at room : ℕ)
+module _ {S : Type 0} (gave : S → List ℕ → ℕ → ℕ → List ℕ → S → Type 0) (name : List ℕ) (old mid new : S) (items given : List ℕ) (at room : ℕ)
     (at_end : at ≡ length items) (full : room ≡ 4096) (last : gave mid name at room given new) where
   pub Reads-next : (pieces : List (List ℕ)) → items ≡ joined pieces → Reads gave name old 0 pieces mid → Reads gave name old 0 (pieces ++ given ∷ []) new
   Reads-next pieces is reads =
@@ -56,25 +48,28 @@ module _ {S : Type 0} (gave : S → List ℕ → ℕ → ℕ → List ℕ → S 
       let place : at ≡ 0 + length (joined pieces) = omega (arith, ap length is) in
       Reads-append gave name old 0 pieces mid given new reads (subst (λ k. gave mid name k 4096 given new) place at_full)
 
-  pub CallsSoFar-append : CallsSoFar gave name limit old items mid → at ≤ limit → 0 < length given → CallsSoFar gave name limit old (items ++ given) new
-  CallsSoFar-append (pieces, is, before, few, stops, reads) short some = (
-    pieces ++ given ∷ [],
-    ap (λ x. x ++ given) is ∙ sym (joined-append pieces given),
+  pub CallsSoFar-append : CallsSoFar gave name old items mid → 0 < length given → CallsSoFar gave name old (items ++ given) new
+  CallsSoFar-append (pieces, is, before, reads) some =
+      (pieces ++ given ∷ [], ap (λ x. x ++ given) is ∙ sym (joined-append pieces given), AreSome-append pieces given before some, Reads-next pieces is reads)
+
+  -- all that was given, of which the bytes before the last piece are within a limit
+  pub CallsSoFar-last : (limit : ℕ) → CallsSoFar gave name old items mid → length items ≤ limit → 0 < length given
+      → (pieces : List (List ℕ)) × (last : List ℕ) × AreSome (pieces ++ last ∷ []) × (length (joined pieces) ≤ limit) × (length (joined (pieces ++ last ∷ [])) ≡ length items + length given) × (length pieces ≤ limit)
+      × Reads gave name old 0 (pieces ++ last ∷ []) new
+  CallsSoFar-last limit (pieces, is, before, reads) short some = (
+    pieces,
+    given,
     AreSome-append pieces given before some,
-    omega (arith, length-append pieces (given ∷ []), length-append items given),
-    inr (pieces, given, refl, omega (arith, ap length is), omega arith),
+    omega (arith, ap length is),
+    omega (arith, ap length is, ap length (joined-append pieces given), length-append (joined pieces) given),
+    omega (arith, ap length is, few pieces before),
     Reads-next pieces is reads,
   )
 
-  pub CallsSoFar-last : CallsSoFar gave name limit old items mid → at ≤ limit → 0 < length given
-      → (pieces : List (List ℕ)) × (last : List ℕ) × AreSome (pieces ++ last ∷ []) × (length (joined pieces) ≤ limit) × (length pieces ≤ limit) × Reads gave name old 0 (pieces ++ last ∷ []) new
-  CallsSoFar-last (pieces, is, before, few, stops, reads) short some =
-      (pieces, given, AreSome-append pieces given before some, omega (arith, ap length is), omega arith, Reads-next pieces is reads)
-
-  pub CallsSoFar-whole : CallsSoFar gave name limit old items mid → at ≤ limit → given ≡ []
+  pub CallsSoFar-whole : (limit : ℕ) → CallsSoFar gave name old items mid → length items ≤ limit → given ≡ []
       → (pieces : List (List ℕ)) × (items ≡ joined pieces) × AreSome pieces × (length pieces ≤ limit) × Reads gave name old 0 (pieces ++ [] ∷ []) new
-  CallsSoFar-whole (pieces, is, before, few, stops, reads) short none =
-      (pieces, is, before, omega arith, subst (λ x. Reads gave name old 0 (pieces ++ x ∷ []) new) none (Reads-next pieces is reads))
+  CallsSoFar-whole limit (pieces, is, before, reads) short none =
+      (pieces, is, before, omega (arith, ap length is, few pieces before), subst (λ x. Reads gave name old 0 (pieces ++ x ∷ []) new) none (Reads-next pieces is reads))
 
 -- What was read so far is a front part of the told text.
 abbrev pub ReadSoFar : Option Texts → List ℕ → List ℕ → Type 0

@@ -1,4 +1,5 @@
 pub mod Device
 pub mod MemShelf
 pub mod MemSink
+pub mod RealShelf
 pub mod Shelf

@@ -1,5 +1,5 @@
 -- A sink in memory, as its callers see it.
-use Rattle.std.specs.Prelude.{ℕ, ◌+◌, List, Option, Bool, length, take, ◌==◌, nat_le}
+use Rattle.std.specs.Prelude.{ℕ, ◌+◌, List, ◌++◌, Option, Bool, if◌then◌else◌, length, take, ◌==◌, nat_le}
 use Rattle.std.specs.List.{find}
 use Rattle.std.specs.Option.{option_map, unwrap_or}
 use Rattle.outside.specs.Device.{one_more}
@@ -27,3 +27,11 @@ wanted s piece = take (unwrap_or (planned s) (length piece)) piece
 -- there is room for them
 abbrev pub has_room : SinkState → List ℕ → Bool
 has_room s piece = nat_le (length s.bytes + length (wanted s piece)) s.room
+
+-- the sink after a put that took the whole piece
+abbrev pub with_piece : SinkState → List ℕ → SinkState
+with_piece s piece = record s { bytes = s.bytes ++ piece; puts = one_more s.puts }
+
+-- the sink after a put that failed, which keeps what it is to keep where there is room for that
+abbrev pub with_failure : SinkState → List ℕ → SinkState
+with_failure s piece = record s { bytes = if has_room s piece then s.bytes ++ wanted s piece else s.bytes; puts = one_more s.puts; faults = one_more s.faults }

@@ -137,6 +137,8 @@ impl Shelf for MemShelf {
         ensures within { IfOk result (λ count. count ≤ length into.old) }
         ensures told { IfOk result (λ count. IfSome (Some (held self.old)) (λ texts.
             IsSomeAnd (finite.get texts name.now) (λ text. GivesFrom text at (length into.old) (take count into.new)))) }
+
+        // An answered call is counted. One that fails is too, and counts one fault of the name. Nothing else changes.
         ensures gave { IfOk result (λ count. (self.new ≡ with_call self.old)
             × IsSomeAnd (finite.get (held self.old) name.now) (λ text. take count into.new ≡ take (min (length into.old) (length text - at)) (drop at text))) }
         ensures failed { OnErr result (self.new ≡ with_fault (with_call self.old) (place self.old name.now)) }
@@ -149,10 +151,6 @@ impl Shelf for MemShelf {
             IsSomeAnd (finite.get (held self.old) name.now) (λ text. count ≡ min (length into.old) (length text - at))) }
         ensures others { IfOk result (λ count. drop count into.new ≡ drop count into.old) }
         ensures untouched { OnErr result (into.new ≡ into.old) }
-
-        // A call that fails counts one fault of the name, and nothing else changes.
-        ensures answered { OnOk result (self.new ≡ with_call self.old) }
-        ensures faulted { OnErr result (self.new ≡ with_fault (with_call self.old) (place self.old name.now)) }
     {
         self.count_call();
         match self.answer(name) {

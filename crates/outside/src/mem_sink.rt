@@ -1,6 +1,6 @@
 ghost use Rattle.std.specs.Prelude.{◌≡◌, ℕ, ◌+◌, ◌<◌, ◌≤◌, ◌⊎◌, ◌↔◌, List, [], ◌++◌, Option, Some, Bool, length, take, min, unwrap_or, if◌then◌else◌, is_ok, IfOk, OnOk, OnErr, IsErr, IfSome, IsSome, IsTrue, IsFalse, vec_len};
 ghost use Rattle.outside.specs.Device.{Rose, one_more};
-ghost use Rattle.outside.specs.MemSink.{SinkState, planned, wanted, has_room};
+ghost use Rattle.outside.specs.MemSink.{SinkState, planned, has_room, with_failure, with_piece};
 
 use crate::Failed;
 use crate::sink::Sink;
@@ -107,13 +107,9 @@ impl Sink for MemSink {
 
     ghost faults = { λ s. s.faults };
 
-    ghost took = { λ s piece t. t ≡ record s { bytes = s.bytes ++ piece; puts = one_more s.puts } };
+    ghost took = { λ s piece t. t ≡ with_piece s piece };
 
-    ghost failed = { λ s piece t. t ≡ record s {
-      bytes = if has_room s piece then s.bytes ++ wanted s piece else s.bytes;
-      puts = one_more s.puts;
-      faults = one_more s.faults;
-    } };
+    ghost failed = { λ s piece t. t ≡ with_failure s piece };
 
     fn put(&mut self, piece: &[u8]) -> Result<(), Failed>
         ensures faults { self.old.faults ≤ self.new.faults }
@@ -121,23 +117,14 @@ impl Sink for MemSink {
         ensures whole { OnOk result (IfSome (Some self.old.bytes) (λ before. Some self.new.bytes ≡ Some (before ++ piece.now))) }
         ensures part { OnErr result (IfSome (Some self.old.bytes) (λ before.
             (kept : ℕ) × (Some self.new.bytes ≡ Some (before ++ take kept piece.now)))) }
-        ensures took { OnOk result (self.new ≡ record self.old { bytes = self.old.bytes ++ piece.now; puts = one_more self.old.puts }) }
-        ensures failed { OnErr result (self.new ≡ record self.old {
-          bytes = if has_room self.old piece.now then self.old.bytes ++ wanted self.old piece.now else self.old.bytes;
-          puts = one_more self.old.puts;
-          faults = one_more self.old.faults;
-        }) }
-
-        // It fails exactly at the puts with the given numbers, and where there is no room for what it is to keep.
-        ensures fails { IsErr result ↔ (IsSome (planned self.old) ⊎ IsFalse (has_room self.old piece.now)) }
 
         // It keeps the whole piece, or as much of it as the put that fails is to keep, or nothing where
         // there is no room for that; it is counted, and nothing else changes.
-        ensures after { self.new ≡ record self.old {
-          bytes = if has_room self.old piece.now then self.old.bytes ++ wanted self.old piece.now else self.old.bytes;
-          puts = one_more self.old.puts;
-          faults = if is_ok result then self.old.faults else one_more self.old.faults;
-        } }
+        ensures took { OnOk result (self.new ≡ with_piece self.old piece.now) }
+        ensures failed { OnErr result (self.new ≡ with_failure self.old piece.now) }
+
+        // It fails exactly at the puts with the given numbers, and where there is no room for what it is to keep.
+        ensures fails { IsErr result ↔ (IsSome (planned self.old) ⊎ IsFalse (has_room self.old piece.now)) }
     {
         let planned = self.planned();
         let wanted = planned.unwrap_or(piece.len()).min(piece.len());

@@ -43,7 +43,7 @@ pub fn read_text<L: Shelf>(
     ensures fault { result ≡ Err TextRefusal.Fault → Rose (L.faults shelf.old name.now) (L.faults shelf.new name.now) }
 
     // The calls, at most limit + 2 of them, and what they gave: each but the last of Ok gave bytes, and none was made
-    // once the limit was passed.
+    // once the limit was passed. Memory is told only of bytes within the limit.
     ensures whole_calls { IfOk result (λ text. (pieces : List (List ℕ)) × (text.items ≡ joined pieces) × AreSome pieces
         × (length pieces ≤ limit) × Reads L.gave name.now shelf.old 0 (pieces ++ [] ∷ []) shelf.new) }
     ensures too_long_calls { result ≡ Err TextRefusal.TooLong → ((pieces : List (List ℕ)) × (last : List ℕ) × AreSome (pieces ++ last ∷ [])
@@ -53,22 +53,26 @@ pub fn read_text<L: Shelf>(
         × (length (joined pieces) ≤ limit) × (length pieces ≤ limit)
         × Reads L.gave name.now shelf.old 0 pieces last × L.failed last name.now (length (joined pieces)) 4096 shelf.new) }
     ensures memory_calls { result ≡ Err TextRefusal.Memory → ((pieces : List (List ℕ)) × (last : List ℕ) × AreSome (pieces ++ last ∷ [])
-        × (length (joined pieces) ≤ limit) × (length pieces ≤ limit)
+        × (length (joined (pieces ++ last ∷ [])) ≤ limit) × (length pieces ≤ limit)
         × Reads L.gave name.now shelf.old 0 (pieces ++ last ∷ []) shelf.new) }
 {
     let mut text = Vec::new(alloc);
     let mut piece = [0; PIECE];
-    while text.len() as u64 <= limit {
-        let count = match shelf.read_at(name, text.len() as u64, &mut piece) {
+    loop {
+        let reached = text.len() as u64;
+        let count = match shelf.read_at(name, reached, &mut piece) {
             Ok(count) => count,
             Err(Failed) => return Err(TextRefusal::Fault),
         };
         if count == 0 {
             return Ok(text);
         }
+        // before memory is asked for, so that a text that is too long is never refused for want of it
+        if count as u64 > limit - reached {
+            return Err(TextRefusal::TooLong);
+        }
         if text.extend_from_slice(&piece[..count]).is_err() {
             return Err(TextRefusal::Memory);
         }
     }
-    Err(TextRefusal::TooLong)
 }

@@ -1,7 +1,8 @@
-ghost use Rattle.std.specs.Prelude.{◌≡◌, ℕ, ◌<◌, ◌≤◌, List, Option, None, length, take, if◌then◌else◌, is_ok, IfOk, OnOk, OnErr, IfSome, IsSomeAnd};
+ghost use Rattle.std.specs.Prelude.{◌≡◌, ℕ, ◌<◌, ◌≤◌, List, Option, None, length, take, string_bytes, if◌then◌else◌, is_ok, IfOk, OnErr, IfSome, IsSomeAnd};
 ghost use Rattle.std.specs.FinMap as map;
-ghost use Rattle.std.specs.Io.KnownBytes.{IsAtEnd};
+ghost use Rattle.std.specs.Io.KnownBytes.{Consumes, IsAtEnd};
 ghost use Rattle.outside.specs.Device.{Rose, one_more};
+ghost use Rattle.outside.specs.RealShelf.{IsReadTo, ReadsOn};
 ghost use Rattle.outside.specs.Shelf.{Texts, GivesFrom};
 
 use crate::Failed;
@@ -43,6 +44,10 @@ impl<R: Files + AllocGlobal> RealShelf<R> {
     fn read_from(&mut self, name: &str, at: u64, into: &mut [u8]) -> IoResult<usize>
         ensures within { IfOk result (λ count. count ≤ length into.old) }
         ensures ended { IfOk result (λ count. count ≡ 0 → 0 < length into.old → IsSomeAnd self.new.current (λ text. IsAtEnd (R.File.remaining text.file))) }
+        ensures reached { IfOk result (λ count. IsSomeAnd self.new.current (λ text. IsReadTo (string_bytes text.name) text.reached name.now at count)) }
+        ensures goes_on { IfOk result (λ count. IfSome self.old.current (λ before. ReadsOn (string_bytes before.name) before.reached name.now at →
+            IsSomeAnd self.new.current (λ after. Consumes (R.File.remaining before.file) (R.File.remaining after.file) (take count into.new)))) }
+        ensures closed { OnErr result (self.new.current ≡ None) }
         ensures faults { self.new.faults ≡ self.old.faults }
     {
         let mut text = self.text_at(name, at)?;
@@ -58,7 +63,11 @@ impl<R: Files + AllocGlobal> RealShelf<R> {
 
     // The named file, read up to a place, or to its end where that comes first. At place 0 it is opened anew.
     fn text_at(&mut self, name: &str, at: u64) -> IoResult<OpenText<R::File>>
+        ensures named { IfOk result (λ text. string_bytes text.name ≡ name.now) }
+        ensures within { IfOk result (λ text. text.reached ≤ at) }
         ensures ended { IfOk result (λ text. text.reached < at → IsAtEnd (R.File.remaining text.file)) }
+        ensures goes_on { IfOk result (λ text. IfSome self.old.current (λ before. ReadsOn (string_bytes before.name) before.reached name.now at → text ≡ before)) }
+        ensures taken { self.new.current ≡ None }
         ensures faults { self.new.faults ≡ self.old.faults }
     {
         if let Some(text) = self.current.take() {
@@ -66,31 +75,34 @@ impl<R: Files + AllocGlobal> RealShelf<R> {
                 return Ok(text);
             }
         }
-        let mut text = OpenText {
-            name: String::from_str(self.rt.alloc(), name)?,
-            file: fs::open(&self.rt, name)?,
-            reached: 0,
-        };
-        text.skip_to(at)?;
-        Ok(text)
+        let name = String::from_str(self.rt.alloc(), name)?;
+        OpenText::read_up_to(fs::open(&self.rt, name.as_str())?, name, at)
     }
 }
 
-impl<F: Read> OpenText<F> {
-    // Reads up to a place, or to the end where that comes first.
-    fn skip_to(&mut self, at: u64) -> IoResult<()>
-        ensures { OnOk result (self.new.reached < at → IsAtEnd (F.remaining self.new.file)) }
+impl<F: Read + Drop> OpenText<F> {
+    // A file that is just opened, read up to a place, or to its end where that comes first.
+    fn read_up_to(file: F, name: String, at: u64) -> IoResult<Self>
+        ensures named { IfOk result (λ text. text.name ≡ name) }
+        ensures passed { IfOk result (λ text. (passed : List ℕ) × (length passed ≡ text.reached) × Consumes (F.remaining file) (F.remaining text.file) passed) }
+        ensures within { IfOk result (λ text. text.reached ≤ at) }
+        ensures ended { IfOk result (λ text. text.reached < at → IsAtEnd (F.remaining text.file)) }
     {
+        let mut text = OpenText {
+            name,
+            file,
+            reached: 0,
+        };
         let mut passed = [0; 4096];
-        while self.reached < at {
-            let most = (at - self.reached).min(4096) as usize;
-            let count = read_some(&mut self.file, &mut passed[..most])?;
+        while text.reached < at {
+            let most = (at - text.reached).min(4096) as usize;
+            let count = read_some(&mut text.file, &mut passed[..most])?;
             if count == 0 {
-                return Ok(());
+                return Ok(text);
             }
-            self.reached += count as u64;
+            text.reached += count as u64;
         }
-        Ok(())
+        Ok(text)
     }
 }
 
@@ -106,6 +118,13 @@ impl<R: Files + AllocGlobal> Shelf for RealShelf<R> {
 
         // It gives no bytes only at the end of the file, or where there is no room for them.
         ensures ended { IfOk result (λ count. count ≡ 0 → 0 < length into.old → IsSomeAnd self.new.current (λ text. IsAtEnd (R.File.remaining text.file))) }
+
+        // The file of this name is then open, and read up to the end of what was given.
+        ensures reached { IfOk result (λ count. IsSomeAnd self.new.current (λ text. IsReadTo (string_bytes text.name) text.reached name.now at count)) }
+
+        // Where the call before ended there in this file, the bytes that come next in it are given.
+        ensures goes_on { IfOk result (λ count. IfSome self.old.current (λ before. ReadsOn (string_bytes before.name) before.reached name.now at →
+            IsSomeAnd self.new.current (λ after. Consumes (R.File.remaining before.file) (R.File.remaining after.file) (take count into.new)))) }
 
         // A call that fails is one fault.
         ensures counted { self.new.faults ≡ (if is_ok result then self.old.faults else one_more self.old.faults) }

@@ -2,6 +2,7 @@ use crate::{
     Failed, MemShelf, MemSink, RealShelf, RealSink, Shelf, Sink, TextRefusal, Words, read_text,
 };
 use std::alloc::{AllocError, Global};
+use std::io::{Error, ErrorKind, Result as IoResult, Write};
 use std::test::Fail;
 
 fn text(alloc: Global) -> Result<Vec<u8>, AllocError> {
@@ -34,6 +35,8 @@ fn refuses_a_text(rt: HostRuntime) -> Result<(), Fail> {
     assert_eq!(rt; not_held, Some(TextRefusal::Fault));
     let too_long = read_text(alloc, &mut shelf(alloc, 0)?, "a.cilk", 4999).err();
     assert_eq!(rt; too_long, Some(TextRefusal::TooLong));
+    let none_fits = read_text(alloc, &mut shelf(alloc, 0)?, "a.cilk", 0).err();
+    assert_eq!(rt; none_fits, Some(TextRefusal::TooLong));
     Ok(())
 }
 
@@ -49,6 +52,12 @@ fn reads_files(rt: HostRuntime) -> Result<(), Fail> {
     let mut piece = [1; 4];
     assert_eq!(rt; shelf.read_at("/dev/zero", 9000, &mut piece), Ok(4));
     assert_eq!(rt; piece, [0; 4]);
+    // the other file is opened, though its place is the one that was reached
+    assert_eq!(rt; shelf.read_at("/dev/null", 9004, &mut piece), Ok(0));
+    assert_eq!(rt;
+        shelf.read_at("/dev/null/a.cilk", 9004, &mut piece),
+        Err(Failed)
+    );
     Ok(())
 }
 
@@ -73,6 +82,40 @@ fn puts_into_a_writer(rt: HostRuntime) -> Result<(), Fail> {
     assert_eq!(rt; sink.put(b"d"), Ok(()));
     drop(sink);
     assert_eq!(rt; bytes.as_slice(), b"abcd".as_slice());
+    Ok(())
+}
+
+/// A writer that counts its flushes, of which those after the first fail.
+#[derive(Drop)]
+struct Flushed<'a> {
+    flushes: &'a mut u64,
+}
+
+impl<'a> Write for Flushed<'a> {
+    fn write(&mut self, piece: &[u8]) -> IoResult<usize> {
+        Ok(piece.len())
+    }
+
+    fn flush(&mut self) -> IoResult<()> {
+        *self.flushes = self.flushes.saturating_add(1);
+        if *self.flushes == 1 {
+            Ok(())
+        } else {
+            Err(Error::from(ErrorKind::BrokenPipe))
+        }
+    }
+}
+
+#[test]
+fn flushes_each_piece(rt: HostRuntime) -> Result<(), Fail> {
+    let mut flushes = 0;
+    let mut sink = RealSink::new(Flushed {
+        flushes: &mut flushes,
+    });
+    assert_eq!(rt; sink.put(b"abc"), Ok(()));
+    assert_eq!(rt; sink.put(b"d"), Err(Failed));
+    drop(sink);
+    assert_eq!(rt; flushes, 2);
     Ok(())
 }
 

@@ -1,5 +1,5 @@
 use Rattle.std.proofs.Common.{Err, Ok, sym, subst}
-use Rattle.backer_top.specs.Due.{IsOutcome, IsReading}
+use Rattle.backer_top.specs.Outcome.{IsOutcome, IsReading}
 use Rattle.backer_top.proofs.Dues.{fixed_line}
 use Rattle.backer_top.proofs.Ends.{outcome_made, outcome_refused, outcome_stopped}
 use Rattle.backer_top.proofs.Told.{line_of_status}
