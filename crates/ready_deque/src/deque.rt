@@ -1,4 +1,4 @@
-ghost use Rattle.std.specs.Prelude.{◌≡◌, ◌<◌, [], ◌∷◌, ◌++◌, length, slice_get, option_to_list, OnOk, IfErr, OnErr, IsSome, IsNone, ◌↔◌};
+ghost use Rattle.std.specs.Prelude.{◌≡◌, ◌↔◌, [], ◌∷◌, ◌++◌, length, slice_get, OnOk, OnErr, IfErr, IsNone, IsTrue};
 ghost use Rattle.std.specs.Option.{option_copied_mut, option_to_list};
 ghost use Rattle.std.specs.Borrow.{sem};
 
@@ -44,7 +44,7 @@ impl<T> Deque<T> {
 
     /// Takes the item at the bottom, the latest one. None exactly where there is none.
     pub fn pop_bottom(&mut self) -> Option<T>
-        ensures { self.old ≡ self.new ++ option_to_list result }
+        ensures item { self.old ≡ self.new ++ option_to_list result }
         ensures none { IsNone result ↔ (self.old ≡ []) }
     {
         self.items.pop_back()
@@ -52,7 +52,7 @@ impl<T> Deque<T> {
 
     /// Takes the item at the top, the oldest one. None exactly where there is none.
     pub fn take_top(&mut self) -> Option<T>
-        ensures { self.old ≡ option_to_list result ++ self.new }
+        ensures item { self.old ≡ option_to_list result ++ self.new }
         ensures none { IsNone result ↔ (self.old ≡ []) }
     {
         self.items.pop_front()
@@ -63,6 +63,13 @@ impl<T> Deque<T> {
         ensures { result ≡ length self.now }
     {
         self.items.len()
+    }
+
+    /// Whether there is no item.
+    pub fn is_empty(&self) -> bool
+        ensures { IsTrue result ↔ (self.now ≡ []) }
+    {
+        self.items.is_empty()
     }
 
     /// Lends the item at this place, counted from the top. None exactly where there are no more than that many.
