@@ -52,7 +52,7 @@ lookup_left k q pages distinct = lookup-remove_entry nat_eq_equiv (nat_eq k) (na
 pub same_numbers : (numbers : BTreeSet ℕ) (old new : List (ℕ × Page)) → keys_of new ≡ keys_of old → AreNumbers numbers old → AreNumbers numbers new
 same_numbers numbers old new same are = record {
   same = λ q. are.same q ∙ is_some-lookup (nat_eq q) old ∙ ap (list_any (nat_eq q)) (sym same) ∙ sym (is_some-lookup (nat_eq q) new);
-  distinct = subst (IsDistinct nat_eq) (sym same) are.distinct
+  distinct = subst (IsDistinct nat_eq) (sym same) are.distinct;
 }
 
 pub no_numbers : (numbers : BTreeSet ℕ) → IsEmpty numbers → AreNumbers numbers []
@@ -62,16 +62,16 @@ no_numbers numbers empty = record { same = λ q. ap (list_any (is_at (nat_cmp q)
 pub numbers_added : (old new : BTreeSet ℕ) (pages : List (ℕ × Page)) (k : ℕ) (page : Page) → is_resident pages k ≡ false → Updates nat_cmp old new k true → AreNumbers old pages → AreNumbers new ((k, page) ∷ pages)
 numbers_added old new pages k page absent updates are = record {
   same = λ q. updates.0 q ∙ ap (λ b. cond b true (contains nat_cmp old q)) (tied k q ∙ nat_eq_equiv.symm k q)
-    ∙ elim (nat_eq q k) as (λ b. cond b true (contains nat_cmp old q) ≡ is_some (cond b (Some page) (page_at pages q))) [ true ↦ refl | false ↦ are.same q ];
-  distinct = IsDistinct-cons nat_eq k (keys_of pages) (others k pages absent) are.distinct
+      ∙ elim (nat_eq q k) as (λ b. cond b true (contains nat_cmp old q) ≡ is_some (cond b (Some page) (page_at pages q))) [ true ↦ refl | false ↦ are.same q ];
+  distinct = IsDistinct-cons nat_eq k (keys_of pages) (others k pages absent) are.distinct;
 }
 
 pub numbers_left : (old new : BTreeSet ℕ) (pages : List (ℕ × Page)) (k : ℕ) → Updates nat_cmp old new k false → AreNumbers old pages → AreNumbers new (without pages k)
 numbers_left old new pages k updates are = record {
   same = λ q. updates.0 q ∙ ap (λ b. cond b false (contains nat_cmp old q)) (tied k q)
-    ∙ elim (nat_eq k q) as (λ b. cond b false (contains nat_cmp old q) ≡ is_some (cond b None (page_at pages q))) [ true ↦ refl | false ↦ are.same q ]
-    ∙ ap is_some (sym (lookup_left k q pages are.distinct));
-  distinct = distinct_left k pages are.distinct
+      ∙ elim (nat_eq k q) as (λ b. cond b false (contains nat_cmp old q) ≡ is_some (cond b None (page_at pages q))) [ true ↦ refl | false ↦ are.same q ]
+      ∙ ap is_some (sym (lookup_left k q pages are.distinct));
+  distinct = distinct_left k pages are.distinct;
 }
 
 -- the page at this number goes first, changed
@@ -81,7 +81,7 @@ numbers_used numbers pages k page resident are = record {
     | true ↦ λ is. subst (λ n. is_resident pages n ≡ true) (sym ((unsigned_Decides q k).0 is)) resident
     | false ↦ λ other. sym (ap is_some (lookup_left k q pages are.distinct ∙ ap (λ b. cond b None (page_at pages q)) (nat_eq_equiv.symm k q ∙ other)))
   ]) refl;
-  distinct = IsDistinct-cons nat_eq k (keys_of (without pages k)) (others k (without pages k) gone) (distinct_left k pages are.distinct)
+  distinct = IsDistinct-cons nat_eq k (keys_of (without pages k)) (others k (without pages k) gone) (distinct_left k pages are.distinct);
 }
   where
     gone : is_resident (without pages k) k ≡ false
@@ -91,8 +91,8 @@ numbers_used numbers pages k page resident are = record {
 module _ (k : ℕ) (pages : List (ℕ × Page)) (page : Page) where
   set_first : (e : ℕ × Page) → lookup_entry (nat_eq k) pages ≡ Some e → set_value (nat_eq k) (e ∷ without pages k) page ≡ (k, page) ∷ without pages k
   set_first e found =
-    let is : nat_eq k e.0 ≡ true = (Contains-lookup_entry (nat_eq k) pages e found).1 in
-    ap (λ b. cond b ((e.0, page) ∷ without pages k) (e ∷ set_value (nat_eq k) (without pages k) page)) is ∙ ap (λ n. (n, page) ∷ without pages k) (sym ((unsigned_Decides k e.0).0 is))
+      let is : nat_eq k e.0 ≡ true = (Contains-lookup_entry (nat_eq k) pages e found).1 in
+      ap (λ b. cond b ((e.0, page) ∷ without pages k) (e ∷ set_value (nat_eq k) (without pages k) page)) is ∙ ap (λ n. (n, page) ∷ without pages k) (sym ((unsigned_Decides k e.0).0 is))
 
   found_resident : (o : Option (ℕ × Page)) → lookup_entry (nat_eq k) pages ≡ o → is_resident pages k ≡ is_some o
   found_resident o is = ap is_some (sym (lookup-lookup_entry (nat_eq k) pages) ∙ ap (option_map (λ e. e.1)) is) ∙ elim o as (λ p. is_some (option_map (λ e. e.1) p) ≡ is_some p) [ None ↦ refl | Some e ↦ refl ]

@@ -53,9 +53,13 @@ module _ (test : ℕ → Bool) (least : ℕ) where
         | false ↦ λ below. same_least (is_listed ks) (is_listed (k ∷ ks)) least (left_out k ks (ap (λ b. b && test k) below)) (find test (filter (λ n. nat_le least n) ks)) rest
         | true ↦ λ above. (elim (test k) as (λ b. test k ≡ b → IsLeastFrom (is_listed (k ∷ ks)) least (cond b (Some k) (find test (filter (λ n. nat_le least n) ks)))) [
           | false ↦ λ fails. same_least (is_listed ks) (is_listed (k ∷ ks)) least (left_out k ks (ap (λ b. b && test k) above ∙ fails)) (find test (filter (λ n. nat_le least n) ks)) rest
-          | true ↦ λ passes. (grind (arith, nat_tests), rw (passes, nat_eq_equiv.refl k), λ n from before.
-              let other : nat_eq n k ≡ false = grind (arith, nat_tests) in
-              rw (other, none_below k n ks before (sorted_head nat_cmp k ks sorted)) (none (test n)))
+          | true ↦ λ passes. (
+            grind (arith, nat_tests),
+            rw (passes, nat_eq_equiv.refl k),
+            λ n from before.
+                let other : nat_eq n k ≡ false = grind (arith, nat_tests) in
+                rw (other, none_below k n ks before (sorted_head nat_cmp k ks sorted)) (none (test n)),
+          )
         ]) refl
       ]) refl
 
@@ -69,9 +73,9 @@ in_range least n = grind (arith, nat_tests)
 
 -- the least number of a set that passes, from a number on, where none outside the set does
 least_in_set : (test : ℕ → Bool) (least : ℕ) (numbers : BTreeSet ℕ) → IsOrdered nat_cmp numbers → ((n : ℕ) → test n ≡ true → contains nat_cmp numbers n ≡ true)
-  → IsLeastFrom test least (find test (keys_between nat_cmp (Bound.Included least) Bound.Unbounded numbers))
+    → IsLeastFrom test least (find test (keys_between nat_cmp (Bound.Included least) Bound.Unbounded numbers))
 least_in_set test least numbers ordered inside = subst (IsLeastFrom test least) (ap (λ p. find test (filter p numbers.keys)) (λ i n. sym (in_range least n) i))
-  (same_least (is_listed test least numbers.keys) test least
+    (same_least (is_listed test least numbers.keys) test least
     (λ n from. (elim (test n) as (λ b. test n ≡ b → b ≡ b && list_any (nat_eq n) numbers.keys) [
       | true ↦ λ passes. sym (sym (contains_listed n numbers.keys) ∙ inside n passes)
       | false ↦ λ _. refl
@@ -80,7 +84,7 @@ least_in_set test least numbers ordered inside = subst (IsLeastFrom test least) 
 
 -- what a walk through the numbers from one on finds
 pub least_dirty : (pages : List (ℕ × Page)) (numbers : BTreeSet ℕ) (least : ℕ) → AreNumbers numbers pages → IsOrdered nat_cmp numbers
-  → IsLeastFrom (is_dirty pages) least (find (is_dirty pages) (keys_between nat_cmp (Bound.Included least) Bound.Unbounded numbers))
+    → IsLeastFrom (is_dirty pages) least (find (is_dirty pages) (keys_between nat_cmp (Bound.Included least) Bound.Unbounded numbers))
 least_dirty pages numbers least are ordered = least_in_set (is_dirty pages) least numbers ordered (λ n dirty. are.same n ∙ resident n dirty)
   where
     resident : (n : ℕ) → is_dirty pages n ≡ true → is_resident pages n ≡ true

@@ -1,5 +1,5 @@
 -- What a contract sees of a cache.
-use Rattle.std.specs.Prelude.{◌≡◌, ◌≢◌, ℕ, ◌<◌, ◌≤◌, ◌==◌, Bool, true, false, not, List, ◌∷◌, length, Option, Some, None, is_some, nat_eq}
+use Rattle.std.specs.Prelude.{◌≡◌, ℕ, ◌-◌, ◌<◌, ◌≤◌, ◌==◌, Bool, true, false, not, List, ◌∷◌, length, Option, Some, None, is_some, option_map, slice_get, nat_eq}
 use Rattle.std.specs.List.{IsDistinct}
 use Rattle.std.specs.Map.{keys_of, lookup, remove_entry, set_value}
 use Rattle.std.specs.Option.{option_map_or}
@@ -18,15 +18,20 @@ pub record IsCache (cache : Cache) : Type 0 where
   pub bounded : length cache.pages ≤ cache.capacity
   pub distinct : IsDistinct nat_eq (keys_of cache.pages)
 
+-- the number of the least recently used page
+abbrev pub last_number : List (ℕ × Page) → Option ℕ
+last_number pages = option_map (λ entry. entry.0) (slice_get pages (length pages - 1))
+
 module _ (pages : List (ℕ × Page)) (number : ℕ) where
   -- the page of this number, where it is resident
   abbrev pub page_at : Option Page
   page_at = lookup (nat_eq number) pages
 
+  -- whether there is one
   abbrev pub is_resident : Bool
   is_resident = is_some page_at
 
-  -- whether it is resident and has a mark
+  -- whether there is one with a mark
   abbrev pub is_dirty : Bool
   is_dirty = option_map_or (λ page. not (page.dirty == 0)) page_at false
 
@@ -34,7 +39,7 @@ module _ (pages : List (ℕ × Page)) (number : ℕ) where
   abbrev pub without : List (ℕ × Page)
   without = remove_entry (nat_eq number) pages
 
-  -- with this page in the place of that number's
+  -- all, with this one in the place of that number's
   abbrev pub with_page : Page → List (ℕ × Page)
   with_page page = set_value (nat_eq number) pages page
 

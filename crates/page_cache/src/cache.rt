@@ -1,7 +1,7 @@
-ghost use Rattle.std.specs.Prelude.{◌≡◌, ◌<◌, ◌≤◌, ◌-◌, ◌↔◌, [], ◌∷◌, true, false, length, slice_get, option_map, IsSome, IfOk, OnOk, OnErr, OnSome};
+ghost use Rattle.std.specs.Prelude.{◌≡◌, ◌<◌, ◌≤◌, ◌↔◌, [], ◌∷◌, true, false, length, IsSome, IsNone, IfOk, OnOk, OnErr, OnSome};
 ghost use Rattle.std.specs.Option.{option_copied_mut};
 ghost use Rattle.std.specs.Borrow.{sem};
-ghost use Rattle.page_cache.specs.Cache.{IsCache, IsLeastFrom, page_at, is_dirty, is_resident, without};
+ghost use Rattle.page_cache.specs.Cache.{IsCache, IsLeastFrom, last_number, page_at, is_dirty, is_resident, without};
 
 use lru::LruCache;
 use page_words::Page;
@@ -12,7 +12,7 @@ use std::num::NonZeroUsize;
 
 /// The bounded cache of a node. Contracts see its capacity and the list of its pages, each with its number,
 /// the most recently used first.
-#[derive(Drop)]
+#[derive(Debug, Drop)]
 pub struct Cache {
     pages: LruCache<u32, Page>,
     /// The numbers of the pages, in order.
@@ -56,7 +56,8 @@ impl Cache {
     /// The least recently used page, where the cache is full.
     pub fn victim(&self) -> Option<u32>
         ensures full { IsSome result ↔ (length self.now.pages ≡ self.now.capacity) }
-        ensures last { OnSome result (result ≡ option_map (λ entry. entry.0) (slice_get self.now.pages (length self.now.pages - 1))) }
+        ensures room { IsNone result ↔ (length self.now.pages < self.now.capacity) }
+        ensures last { OnSome result (result ≡ last_number self.now.pages) }
         ensures cache { IsCache self.now }
     {
         if self.pages.len() < self.pages.cap().get() {
@@ -87,7 +88,9 @@ impl Cache {
     pub fn is_dirty(&self, page: u32) -> bool
         ensures { result ≡ is_dirty self.now.pages page }
     {
-        self.pages.peek(&page).is_some_and(|page| page.marked() != 0)
+        self.pages
+            .peek(&page)
+            .is_some_and(|page| page.marked() != 0)
     }
 
     /// The least number, from `least` on, of a page with a mark.

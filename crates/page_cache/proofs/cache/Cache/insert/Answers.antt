@@ -10,11 +10,11 @@ absent c = subst (λ s. is_resident s.pages c.args.number ≡ false) (sym c.self
 -- The page was put first, and none was pushed out.
 stored : (c : goal.In-Ok) → c.put.new.self ≡ lru_cache ((c.args.number, c.args.page) ∷ c.self.inside.pages.entries) c.self.inside.pages.cap
 stored c = c.in-Ok.ensures.entries ∙ ap (λ es. lru_cache es c.self.inside.pages.cap)
-  (put_absent c.args.number c.self.inside.pages.entries c.args.page c.self.inside.pages.cap (subst (λ s. length s.pages < s.capacity) (sym c.self.view_is) c.requires.room) (absent c))
+    (put_absent c.args.number c.self.inside.pages.entries c.args.page c.self.inside.pages.cap (subst (λ s. length s.pages < s.capacity) (sym c.self.view_is) c.requires.room) (absent c))
 
 pub invariant_of-self-in-Ok : goal.invariant_of-self-in-Ok
 invariant_of-self-in-Ok c = rw (stored c) (numbers_added c.self.inside.numbers c.insert.new.self c.self.inside.pages.entries c.args.number c.args.page
-  (absent c) c.in_ok-insert.ensures.updates c.self.invariant)
+    (absent c) c.in_ok-insert.ensures.updates c.self.invariant)
 
 pub returns-in-Ok-clause-ok : goal.returns-in-Ok-clause-ok
 returns-in-Ok-clause-ok c = rw (← c.self.view_is, stored c)
