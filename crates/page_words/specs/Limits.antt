@@ -6,7 +6,8 @@ use Rattle.std.specs.List.{list_any}
 abbrev pub page_sizes : List ℕ
 page_sizes = 1 ∷ 2 ∷ 4 ∷ 8 ∷ 16 ∷ 32 ∷ 64 ∷ []
 
-pub record Limits (nodes page_words cache_pages budget : ℕ) : Type 0 where
+-- the numbers of a configuration are within their limits
+pub record IsWithinLimits (nodes page_words cache_pages budget : ℕ) : Type 0 where
   pub some_node : 1 ≤ nodes
   pub at_most_16_nodes : nodes ≤ 16
   pub page_size : IsTrue (list_any (λ size. size == page_words) page_sizes)

@@ -1,11 +1,8 @@
 ghost use Rattle.std.specs.Prelude.{◌≡◌, ◌<◌, ◌↔◌, ◌+◌, ◌*◌, IsSome, IfSome};
-ghost use Rattle.page_words.specs.Limits.{Limits};
+ghost use Rattle.page_words.specs.Limits.{IsWithinLimits};
 
 /// The most nodes of a cluster.
 pub const MOST_NODES: u32 = 16;
-
-/// The most words of a page.
-pub const MOST_PAGE_WORDS: u32 = 64;
 
 /// The most pages that a cache may hold.
 pub const MOST_CACHE_PAGES: u32 = 65_536;
@@ -24,15 +21,16 @@ pub struct Config {
     pub cache_pages: u32,
     /// How many ticks a node may make, from 1 to 2,000,000 / `nodes`.
     pub budget: u64,
-    pub ghost limits: { Limits nodes page_words cache_pages budget },
+    // Every configuration is within the limits.
+    pub ghost limits: { IsWithinLimits nodes page_words cache_pages budget },
 }
 
 impl Config {
     ghost use Rattle.page_words.specs.Layout.{page_of, home_of, turn_limit};
 
-    /// The configuration of these numbers, and None exactly where one of them is outside its limits.
+    /// The configuration of these numbers. None exactly where one of them is outside its limits.
     pub fn new(nodes: u32, page_words: u32, cache_pages: u32, budget: u64) -> Option<Config>
-        ensures limits { IsSome result ↔ Limits nodes page_words cache_pages budget }
+        ensures limits { IsSome result ↔ IsWithinLimits nodes page_words cache_pages budget }
         ensures numbers { IfSome result (λ config. (config.nodes ≡ nodes) × (config.page_words ≡ page_words) × (config.cache_pages ≡ cache_pages) × (config.budget ≡ budget)) }
     {
         if nodes < 1 || nodes > MOST_NODES {

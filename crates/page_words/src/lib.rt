@@ -7,5 +7,5 @@ mod page;
 #[cfg(test)]
 mod tests;
 
-pub use config::{Config, MOST_BUDGET, MOST_CACHE_PAGES, MOST_NODES, MOST_PAGE_WORDS};
+pub use config::{Config, MOST_BUDGET, MOST_CACHE_PAGES, MOST_NODES};
 pub use page::Page;

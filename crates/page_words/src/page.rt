@@ -26,7 +26,7 @@ impl Model for Page {
 }
 
 impl Page {
-    /// The page of these `size` words, from 1 to 64 of them, none marked.
+    /// The page of these `size` words, from 1 to 64 of them, none marked. The places after them hold 0.
     pub fn from_words(size: u32, words: &[i64]) -> Page
         requires some_word { 1 ≤ size }
         requires at_most_64 { size ≤ 64 }
@@ -84,7 +84,7 @@ impl Page {
         merge_words(&mut self.words, mask, words);
     }
 
-    /// The page's words.
+    /// The words that the page uses, in order.
     pub fn copy(&self, alloc: Global) -> Result<Words, AllocError>
         ensures { IfOk result (λ words. words ≡ take self.now.size self.now.words) }
     {
