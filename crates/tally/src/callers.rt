@@ -165,19 +165,3 @@ pub fn add_by_all<R: Threads + Wait + Sync>(
     rejoin(gate, &mut pass, other, first);
     pass
 }
-
-fn is_send<T: Send>(value: T) -> T {
-    value
-}
-
-fn is_sync<T: Sync>(value: &T) -> &T {
-    value
-}
-
-pub fn moves<V: Chronicle + Send>(pass: Pass<V>) -> Pass<V> {
-    is_send(pass)
-}
-
-pub fn shares<V: Chronicle + Send>(gate: &Turnstile<V>) -> &Turnstile<V> {
-    is_sync(gate)
-}

@@ -1,5 +1,5 @@
 -- What a pass keeps of its seat, and how contracts see it.
-use Rattle.std.specs.Prelude.{◌≡◌, ℕ, ◌⊎◌, true, false, if◌then◌else◌, List, [], ◌∷◌, length, Option, Some, None, slice_get}
+use Rattle.std.specs.Prelude.{◌≡◌, ℕ, ◌⊎◌, true, false, if◌then◌else◌, [], ◌∷◌, length, Some, None, slice_get}
 use Rattle.std.specs.List.Sorted.{IsStrictlyIncreasing}
 use Rattle.atomic_table.specs.Seated.{TableId}
 use Rattle.turnstile.specs.declared.view.View.{View}

@@ -1,4 +1,4 @@
-use Rattle.std.proofs.Common.{ℕ, length}
+use Rattle.std.proofs.Common.{length}
 use Rattle.tally.proofs.callers.+add_by_all+fn-add_by_all-join+arg2+fn-add_by_all-join+arg3.Given as goal
 
 abbrev pub decreases-add_by_all : goal.decreases-add_by_all
