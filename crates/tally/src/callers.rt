@@ -13,10 +13,7 @@ use std::thread::{Threads, join};
 use turnstile::{Chronicle, Pass, Turnstile};
 
 /// A turnstile round an empty tally, and its first pass.
-pub fn opened(
-    alloc: Global,
-    shares: u32,
-) -> Result<(Turnstile<Tally>, Pass<Tally>), AllocError>
+pub fn opened(alloc: Global, shares: u32) -> Result<(Turnstile<Tally>, Pass<Tally>), AllocError>
     requires { (0 < shares) × (shares ≤ 64) }
     ensures turnstile { IfOk result (λ r. r.0.shares ≡ shares) }
     ensures pass { IfOk result (λ r. r.1 ≡ first_pass r.0) }

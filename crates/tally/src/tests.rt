@@ -35,9 +35,9 @@ fn a_pass_leaves_without_an_entry(rt: HostRuntime) -> Result<(), Fail> {
     add(&rt, &gate, &mut pass, 0)?;
     look(&rt, &gate, &mut pass);
     let held = gate.enter(&rt, &mut pass);
-    assert_eq!(rt; held.get().entries(), &[0]);
+    assert_eq!(rt; held.get().entries(), [0].as_slice());
     gate.leave(&mut pass, held);
-    assert_eq!(rt; gate.close(pass).entries(), &[0]);
+    assert_eq!(rt; gate.close(pass).entries(), [0].as_slice());
     Ok(())
 }
 
@@ -48,7 +48,7 @@ fn meets_one_that_has_seen_more(rt: HostRuntime) -> Result<(), Fail> {
     add(&rt, &gate, &mut other, 1)?;
     gate.meet(&mut pass, other);
     assert_eq!(rt; pass.shares(), 2);
-    assert_eq!(rt; gate.close(pass).entries(), &[1]);
+    assert_eq!(rt; gate.close(pass).entries(), [1].as_slice());
     Ok(())
 }
 
@@ -59,7 +59,7 @@ fn meets_one_that_has_seen_less(rt: HostRuntime) -> Result<(), Fail> {
     add(&rt, &gate, &mut other, 1)?;
     gate.meet(&mut other, pass);
     assert_eq!(rt; other.shares(), 2);
-    assert_eq!(rt; gate.close(other).entries(), &[1]);
+    assert_eq!(rt; gate.close(other).entries(), [1].as_slice());
     Ok(())
 }
 
@@ -80,6 +80,6 @@ fn two_passes_look_on_threads(rt: HostRuntime) -> Result<(), Fail> {
     add(&rt, &gate, &mut pass, 0)?;
     let other = gate.split(&mut pass, 1);
     let pass = look_beside(&rt, &gate, pass, other);
-    assert_eq!(rt; gate.close(pass).entries(), &[0]);
+    assert_eq!(rt; gate.close(pass).entries(), [0].as_slice());
     Ok(())
 }

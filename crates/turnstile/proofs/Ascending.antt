@@ -114,4 +114,3 @@ full [] a b up h is n le lt = absurd (omega (arith, is))
 full (x ∷ xs) a b up h is n le lt = let here = h x (inl refl) in let h' : (y : ℕ) → IsIn y xs → (suc x ≤ y) × (y < b) = λ y s. (let l = above x xs y up.0 s in omega (arith, l), (h y (inr s)).1) in
     let rest = within xs (suc x) b up.1 h' (omega (arith, here.1)) in let first : x ≡ a = omega (arith, here.0, rest, is) in
     dite (ℕ_discrete n x) inl (λ ne. inr (full xs (suc x) b up.1 h' (omega (arith, first, is)) n (omega (arith, first, ne)) lt))
-
