@@ -1,0 +1,11 @@
+//! A value for a turnstile that keeps who added to it, in order, and callers that add from many threads. The rows of
+//! `turnstile` are its tests.
+#![tactic(auto)]
+
+mod callers;
+mod tally;
+#[cfg(test)]
+mod tests;
+
+pub use callers::{add, add_by_all, look, look_beside, opened};
+pub use tally::Tally;
