@@ -1,2 +1,2 @@
-pub mod Try
+pub mod Expressions
 pub mod Words

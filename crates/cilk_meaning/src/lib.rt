@@ -2,6 +2,8 @@
 //! elision of the program.
 #![tactic(auto)]
 
+mod cases;
 mod ends;
 
+pub use cases::{arithmetic_cases, order_cases, test_cases};
 pub use ends::{NodeEnd, TrapKind};
