@@ -77,13 +77,17 @@ pub record End : Type 0 where
 abbrev pub ticks_of : End → ℕ
 ticks_of end = length end.world.log
 
+-- the events in order
+abbrev pub events_of : End → List Event
+events_of end = reverse end.world.log
+
 abbrev pub printed : Event → Option ℤ
 printed (Acts row (Print value)) = Some value
 printed _ = None
 
 -- the values that were printed, in order
 abbrev pub output_of : End → List ℤ
-output_of end = filter_map printed (reverse end.world.log)
+output_of end = filter_map printed (events_of end)
 
 -- The start words of the shared words: the numbers of the input from its first word on, and 0 elsewhere.
 abbrev pub start_words : ℕ → List ℤ → ℕ → ℤ

@@ -1,6 +1,7 @@
 //! Programs and what comes of them, worked out from the rules in words: the definitions give the same.
 
 ghost use Rattle.cilk_meaning.specs.Cases.Expressions.{ArithmeticCases, TestCases, OrderCases};
+ghost use Rattle.cilk_meaning.specs.Cases.Programs.{SpawnCases, LogCases, CallCases, AddCases};
 
 /// What arithmetic gives, and where it traps.
 pub fn arithmetic_cases()
@@ -17,5 +18,29 @@ pub fn test_cases()
 /// What is evaluated first, and indexes inside and outside of an array.
 pub fn order_cases()
     ensures { OrderCases }
+{
+}
+
+/// Spawns, syncs, and what a child's value does.
+pub fn spawn_cases()
+    ensures { SpawnCases }
+{
+}
+
+/// The events of runs, in order.
+pub fn log_cases()
+    ensures { LogCases }
+{
+}
+
+/// Plain calls, loops, returns, the input, and traps.
+pub fn call_cases()
+    ensures { CallCases }
+{
+}
+
+/// Adds, and those whose sum is no value.
+pub fn add_cases()
+    ensures { AddCases }
 {
 }
