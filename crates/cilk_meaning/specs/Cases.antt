@@ -1,3 +1,5 @@
 pub mod Expressions
+pub mod Instances
+pub mod Limits
 pub mod Programs
 pub mod Words

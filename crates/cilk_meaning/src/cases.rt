@@ -2,6 +2,8 @@
 
 ghost use Rattle.cilk_meaning.specs.Cases.Expressions.{ArithmeticCases, TestCases, OrderCases};
 ghost use Rattle.cilk_meaning.specs.Cases.Programs.{SpawnCases, LogCases, CallCases, AddCases};
+ghost use Rattle.cilk_meaning.specs.Cases.Limits.{LimitCases};
+ghost use Rattle.cilk_meaning.specs.Cases.Instances.{InstanceCases};
 
 /// What arithmetic gives, and where it traps.
 pub fn arithmetic_cases()
@@ -42,5 +44,17 @@ pub fn call_cases()
 /// Adds, and those whose sum is no value.
 pub fn add_cases()
     ensures { AddCases }
+{
+}
+
+/// How deep spawns and plain calls may go.
+pub fn limit_cases()
+    ensures { LimitCases }
+{
+}
+
+/// What instances want after some answers.
+pub fn instance_cases()
+    ensures { InstanceCases }
 {
 }
