@@ -44,6 +44,7 @@ Shape-after_head scope (head.While condition body) = Shape-same
 Shape-after_head scope (head.Block body) = Shape-same
 Shape-after_head scope (head.Call target name arguments) = Shape-same
 Shape-after_head scope (head.Spawn target name arguments) = Shape-with_local (option_and_then (local_named scope) target)
+Shape-after_head scope (head.Add target name index addend) = Shape-same
 Shape-after_head scope head.Sync = Shape-emptied
 Shape-after_head scope (head.Return value) = Shape-emptied
 

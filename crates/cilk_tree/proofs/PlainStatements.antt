@@ -8,11 +8,11 @@ use Rattle.cilk_tree.specs.declared.tree.Stmt.{Stmt, roll-Stmt, map-Stmt, fold-r
 use Rattle.cilk_tree.specs.declared.tree.Stmt.TheOpen as layer
 use Rattle.cilk_tree.specs.declared.tree.Stmt.TheOpen.{Stmt-F}
 use Rattle.cilk_tree.specs.declared.tree.Stmt.TheVariants as stmt
-use Rattle.cilk_tree.specs.declared.tree.Stmt.TheVariants.{rolls-Declare, rolls-Assign, rolls-Put, rolls-Print, rolls-If, rolls-While, rolls-Block, rolls-Call, rolls-Spawn, rolls-Sync, rolls-Return}
+use Rattle.cilk_tree.specs.declared.tree.Stmt.TheVariants.{rolls-Declare, rolls-Assign, rolls-Put, rolls-Print, rolls-If, rolls-While, rolls-Block, rolls-Call, rolls-Spawn, rolls-Add, rolls-Sync, rolls-Return}
 use Rattle.cilk_tree.specs.Canonical.{plain_expression}
-use Rattle.cilk_tree.specs.Sugar.{expression_tree, commas_list, one_expression, argument_trees, call_tree, inner_trees, inners_trees}
-use Rattle.cilk_tree.specs.Syntax.{Commas, One, More, Call, Value, Bare, Assignment, Storing, Simply, Syncing, WhileLoop, Printing, Returning, Inner, Declaration, Block, Stated, Inners, NoInners, ThenInner, is_grouped, each_of, if_any, is_call, is_inner, are_inners}
-use Rattle.cilk_tree.specs.Writable.{commas_after, commas_of, inners_after, braced, plain_call, plain_target, plain_if, plain_inner_here, plain_statement}
+use Rattle.cilk_tree.specs.Sugar.{expression_tree, commas_list, one_expression, argument_trees, call_tree, addition_tree, inner_trees, inners_trees}
+use Rattle.cilk_tree.specs.Syntax.{Commas, One, More, Call, Addition, Value, Bare, Assignment, Storing, Simply, Syncing, WhileLoop, Printing, Returning, Inner, Declaration, Block, Stated, Inners, NoInners, ThenInner, is_grouped, each_of, if_any, is_call, is_addition, is_inner, are_inners}
+use Rattle.cilk_tree.specs.Writable.{commas_after, commas_of, inners_after, braced, plain_call, plain_target, plain_addition, plain_added, plain_if, plain_inner_here, plain_statement}
 use Rattle.cilk_tree.proofs.PlainExpressions.{plain_is_plain}
 
 -- ---- lists
@@ -62,6 +62,14 @@ target_formed (Some name) call h = h
 target_tree : (target : Option (List ℕ)) (call : Call) → inner_trees (plain_target target call) ≡ call_tree target call.spawned call.name (argument_trees call.arguments) ∷ []
 target_tree None call = refl
 target_tree (Some name) call = refl
+
+added_formed : (target : Option (List ℕ)) (addition : Addition) → IsTrue (is_addition addition) → IsTrue (is_inner (plain_added target addition))
+added_formed None addition h = h
+added_formed (Some name) addition h = h
+
+added_tree : (target : Option (List ℕ)) (addition : Addition) → inner_trees (plain_added target addition) ≡ addition_tree target addition ∷ []
+added_tree None addition = refl
+added_tree (Some name) addition = refl
 
 value_formed : (value : Option Expr) → IsTrue (if_any is_grouped (option_map plain_expression value))
 value_formed None = refl
@@ -154,6 +162,11 @@ layer_plain (layer.Spawn target name arguments) =
     plain_from (layer.Spawn target name arguments) (plain_target target (plain_call true name arguments)) (fold-roll-Stmt Inner plain_inner_here (layer.Spawn target name arguments))
     (target_formed target (plain_call true name arguments) (call_formed true name arguments))
     (target_tree target (plain_call true name arguments) ∙ ap (λ list. stmt.Spawn target name list ∷ []) (arguments_tree arguments) ∙ ap (λ s. s ∷ []) (sym (rolls-Spawn target name arguments)))
+layer_plain (layer.Add target name index addend) =
+    plain_from (layer.Add target name index addend) (plain_added target (plain_addition name index addend)) (fold-roll-Stmt Inner plain_inner_here (layer.Add target name index addend))
+    (added_formed target (plain_addition name index addend) (and_from _ _ (plain_is_plain index).formed (plain_is_plain addend).formed))
+    (added_tree target (plain_addition name index addend) ∙ ap (λ e. stmt.Add target name e (expression_tree (plain_expression addend)) ∷ []) (plain_is_plain index).tree
+    ∙ ap (λ e. stmt.Add target name index e ∷ []) (plain_is_plain addend).tree ∙ ap (λ s. s ∷ []) (sym (rolls-Add target name index addend)))
 layer_plain layer.Sync =
     plain_from layer.Sync (Stated Syncing) (fold-roll-Stmt Inner plain_inner_here layer.Sync) refl (ap (λ s. s ∷ []) (sym rolls-Sync))
 layer_plain (layer.Return value) =

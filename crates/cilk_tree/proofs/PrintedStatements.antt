@@ -12,13 +12,13 @@ use Rattle.cilk_tree.specs.declared.tree.Expr.{Expr}
 use Rattle.cilk_tree.specs.declared.tree.Stmt.{Stmt, roll-Stmt, map-Stmt, fold-roll-Stmt, ind-Stmt}
 use Rattle.cilk_tree.specs.declared.tree.Stmt.TheOpen as layer
 use Rattle.cilk_tree.specs.declared.tree.Stmt.TheOpen.{Stmt-F}
-use Rattle.cilk_tree.specs.Canonical.{plain_expression, expr_text, listed, line, target_text, call_text, return_text, lines_at, else_lines, lines_here, statement_lines}
+use Rattle.cilk_tree.specs.Canonical.{plain_expression, expr_text, listed, line, target_text, call_text, addition_text, return_text, lines_at, else_lines, lines_here, statement_lines}
 use Rattle.cilk_tree.specs.declared.count.Counted.TheVariants.{Operators, Arguments}
 use Rattle.cilk_tree.specs.declared.count.Count.TheVariants.{Anew, OneMore}
 use Rattle.cilk_tree.specs.Lexeme.{is_blank}
 use Rattle.cilk_tree.specs.Levels.{Spelled, spell_whole, spell_argument, spell_commas, spell_any, spell_inner, spell_inners, mark, word_at, plain, counting}
 use Rattle.cilk_tree.specs.Syntax.{Commas, One, More, Value, Bare, Assignment, Storing, Simply, Syncing, WhileLoop, Printing, Returning, Inner, Declaration, Block, Stated, Inners, NoInners, ThenInner}
-use Rattle.cilk_tree.specs.Writable.{commas_after, commas_of, inners_after, braced, plain_call, plain_target, plain_if, plain_inner_here, plain_statement}
+use Rattle.cilk_tree.specs.Writable.{commas_after, commas_of, inners_after, braced, plain_call, plain_target, plain_addition, plain_added, plain_if, plain_inner_here, plain_statement}
 use Rattle.cilk_tree.proofs.Division.{Reads, anything, no_word, Reads-then, Reads-on, Reads-same, Reads-nothing, Reads-before, Reads-blanks, Reads-token, Space, Lexed, Reads-fixed, atoms_text, atoms_tokens, is_chain, Atom}
 use Rattle.cilk_tree.proofs.Lines.{listed_more}
 use Rattle.cilk_tree.proofs.PlainExpressions.{plain_is_plain}
@@ -161,6 +161,29 @@ spawn_printed (Some x) name arguments deep =
     Reads-same refl (ap (λ tokens. Name x ∷ Mark sign.Assign ∷ Word word.Spawn ∷ tokens) (call_tokens deep name (spell_arguments deep arguments)))
     (Reads-on (Reads-on (assigned_reads x) spawn_reads) (call_reads name arguments deep))
 
+-- ---- additions
+
+addition_reads : (name : List ℕ) (index addend : Expr) (level : ℕ)
+    → Reads anything (addition_text name index addend) (Word word.FetchAdd ∷ Mark sign.OpenParen ∷ Name name ∷ Mark sign.OpenBracket ∷ bare (spell_whole (level + 1) (plain_expression index)) ++ Mark sign.CloseBracket ∷ Mark sign.Comma ∷ [] ++ bare (spell_whole level (plain_expression addend)) ++ Mark sign.CloseParen ∷ Mark sign.Semicolon ∷ [])
+addition_reads name index addend level =
+    let named = Reads-on (Reads-fixed (Lexed (Word word.FetchAdd) ∷ Lexed (Mark sign.OpenParen) ∷ []) (λ rest. refl)) (Reads-token (Name name)) in
+    let begins = Reads-then named (Reads-fixed (Lexed (Mark sign.OpenBracket) ∷ []) (λ rest. refl)) (λ valid rest h. refl) in
+    let between = Reads-fixed (Lexed (Mark sign.CloseBracket) ∷ Lexed (Mark sign.Comma) ∷ Space ∷ []) (λ rest. refl) in
+    let indexed = Reads-then (Reads-on begins (Reads-whole_expression index (level + 1))) between (λ valid rest h. refl) in
+    Reads-then (Reads-on indexed (Reads-whole_expression addend level)) (Reads-fixed (Lexed (Mark sign.CloseParen) ∷ Lexed (Mark sign.Semicolon) ∷ []) (λ rest. refl)) (λ valid rest h. refl)
+
+addition_tokens : (level : ℕ) (name : List ℕ) (index addend : List Spelled)
+    → Word word.FetchAdd ∷ Mark sign.OpenParen ∷ Name name ∷ Mark sign.OpenBracket ∷ bare index ++ Mark sign.CloseBracket ∷ Mark sign.Comma ∷ [] ++ bare addend ++ Mark sign.CloseParen ∷ Mark sign.Semicolon ∷ []
+    ≡ bare (word_at level word.FetchAdd ∷ mark level sign.OpenParen ∷ plain level (Name name) ∷ mark level sign.OpenBracket ∷ index ++ mark level sign.CloseBracket ∷ mark level sign.Comma ∷ addend ++ mark level sign.CloseParen ∷ [] ++ mark level sign.Semicolon ∷ [])
+addition_tokens level name index addend = grind (arith, common_steps, bare-append, bare-cons)
+
+addition_printed : (target : Option (List ℕ)) (name : List ℕ) (index addend : Expr) → Printed (target_text target ++ addition_text name index addend) (plain_added target (plain_addition name index addend))
+addition_printed None name index addend deep =
+    Reads-same refl (addition_tokens deep name (spell_whole (deep + 1) (plain_expression index)) (spell_whole deep (plain_expression addend))) (addition_reads name index addend deep)
+addition_printed (Some x) name index addend deep =
+    Reads-same refl (ap (λ tokens. Name x ∷ Mark sign.Assign ∷ tokens) (addition_tokens deep name (spell_whole (deep + 1) (plain_expression index)) (spell_whole deep (plain_expression addend))))
+    (Reads-on (assigned_reads x) (addition_reads name index addend deep))
+
 -- ---- statements
 
 -- a statement's lines are its tokens, at whatever levels
@@ -254,6 +277,7 @@ layer_printed (layer.While condition body) = printed_layer (layer.While conditio
 layer_printed (layer.Block inside) = printed_layer (layer.Block (bodies inside)) (block_printed inside)
 layer_printed (layer.Call target name arguments) = printed_layer (layer.Call target name arguments) (λ level deep. Reads-line level (call_printed target name arguments deep))
 layer_printed (layer.Spawn target name arguments) = printed_layer (layer.Spawn target name arguments) (λ level deep. Reads-line level (spawn_printed target name arguments deep))
+layer_printed (layer.Add target name index addend) = printed_layer (layer.Add target name index addend) (λ level deep. Reads-line level (addition_printed target name index addend deep))
 layer_printed layer.Sync = printed_layer layer.Sync (λ level deep. Reads-line level (sync_printed deep))
 layer_printed (layer.Return value) = printed_layer (layer.Return value) (λ level deep. Reads-line level (return_printed value deep))
 

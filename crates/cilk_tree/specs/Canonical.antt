@@ -73,6 +73,9 @@ target_text (Some name) = name ++ codes " = "
 abbrev pub call_text : List ℕ → List Expr → List ℕ
 call_text name arguments = name ++ codes "(" ++ listed (map expr_text arguments) ++ codes ");"
 
+abbrev pub addition_text : List ℕ → Expr → Expr → List ℕ
+addition_text name index addend = codes "fetch_add(" ++ name ++ codes "[" ++ expr_text index ++ codes "], " ++ expr_text addend ++ codes ");"
+
 abbrev pub return_text : Option Expr → List ℕ
 return_text None = codes "return;"
 return_text (Some value) = codes "return " ++ expr_text value ++ codes ";"
@@ -99,6 +102,7 @@ lines_here (stmt.While condition body) level =
 lines_here (stmt.Block inside) level = line level (codes "{") ++ lines_at (level + 1) inside ++ line level (codes "}")
 lines_here (stmt.Call target name arguments) level = line level (target_text target ++ call_text name arguments)
 lines_here (stmt.Spawn target name arguments) level = line level (target_text target ++ codes "spawn " ++ call_text name arguments)
+lines_here (stmt.Add target name index addend) level = line level (target_text target ++ addition_text name index addend)
 lines_here stmt.Sync level = line level (codes "sync;")
 lines_here (stmt.Return value) level = line level (return_text value)
 

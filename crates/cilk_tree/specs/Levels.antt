@@ -10,7 +10,7 @@ use Rattle.cilk_tree.specs.declared.count.Counted.TheVariants.{Operators, Parame
 use Rattle.cilk_tree.specs.declared.count.Count.{Count}
 use Rattle.cilk_tree.specs.declared.count.Count.TheVariants.{Anew, OneMore}
 use Rattle.cilk_tree.specs.Syntax as syntax
-use Rattle.cilk_tree.specs.Syntax.{Commas, One, More, Row, Empty, Then, Expression, Numeral, Variable, Element, Group, Prefix, Infix, Call, Right, Value, Result, Declarator, Bare, Valued, Direction, Up, Down, Simple, Assignment, Change, Step, Storing, Start, NoStart, SimpleStart, DeclaringStart, Statement, Nothing, Simply, Calling, Syncing, IfAlone, IfElse, WhileLoop, ForLoop, Printing, Returning, Inner, Declaration, Block, Stated, Inners, NoInners, ThenInner, Body, Braced, Single, NoParameters, VoidParameters, Named, Array, Function, Item, Defined, Source}
+use Rattle.cilk_tree.specs.Syntax.{Commas, One, More, Row, Empty, Then, Expression, Numeral, Variable, Element, Group, Prefix, Infix, Call, Addition, Right, Value, Result, Fetched, Declarator, Bare, Valued, Direction, Up, Down, Simple, Assignment, Change, Step, Storing, Start, NoStart, SimpleStart, DeclaringStart, Statement, Nothing, Simply, Calling, Adding, Syncing, IfAlone, IfElse, WhileLoop, ForLoop, Printing, Returning, Inner, Declaration, Block, Stated, Inners, NoInners, ThenInner, Body, Braced, Single, NoParameters, VoidParameters, Named, Array, Function, Item, Defined, Source}
 use Rattle.cilk_tree.specs.declared.token.Sign.{Sign}
 use Rattle.cilk_tree.specs.declared.token.Sign.TheVariants.{Plus, Minus, Star, Slash, Percent, Assign, Equal, NotEqual, Less, LessEqual, Greater, GreaterEqual, AndAnd, OrOr, Bang, PlusPlus, MinusMinus, PlusAssign, MinusAssign, OpenParen, CloseParen, OpenBracket, CloseBracket, OpenBrace, CloseBrace, Comma, Semicolon}
 use Rattle.cilk_tree.specs.declared.token.Token.{Token}
@@ -107,9 +107,17 @@ spell_call level call =
     spawn_word level call.spawned ++ plain level (Name call.name) ∷ counting level (Anew Arguments ∷ []) (Mark OpenParen)
     ∷ spell_any (spell_commas level (spell_argument level)) call.arguments ++ mark level CloseParen ∷ []
 
+-- The index is in brackets and so one level deeper; the parentheses do not count. Index and addend are whole expressions.
+abbrev pub spell_addition : ℕ → Addition → List Spelled
+spell_addition level addition =
+    word_at level word.FetchAdd ∷ mark level OpenParen ∷ plain level (Name addition.name) ∷ mark level OpenBracket
+    ∷ spell_whole (level + 1) addition.index ++ mark level CloseBracket ∷ mark level Comma
+    ∷ spell_whole level addition.addend ++ mark level CloseParen ∷ []
+
 abbrev pub spell_right : ℕ → Right → List Spelled
 spell_right level (Value value) = spell_whole level value
 spell_right level (Result call) = spell_call level call
+spell_right level (Fetched addition) = spell_addition level addition
 
 abbrev pub spell_declarator : ℕ → Declarator → List Spelled
 spell_declarator level (Bare name) = counting level (OneMore Variables ∷ []) (Name name) ∷ []
@@ -146,6 +154,7 @@ abbrev mutual
   spell_statement level Nothing = mark level Semicolon ∷ []
   spell_statement level (Simply simple) = spell_simple level simple ++ mark level Semicolon ∷ []
   spell_statement level (Calling call) = spell_call level call ++ mark level Semicolon ∷ []
+  spell_statement level (Adding addition) = spell_addition level addition ++ mark level Semicolon ∷ []
   spell_statement level Syncing = word_at level word.Sync ∷ mark level Semicolon ∷ []
   spell_statement level (IfAlone condition taken) =
       word_at level word.If ∷ spell_condition level condition ++ spell_body level (level + 1) taken

@@ -36,6 +36,7 @@ statement_size_here (stmt.While condition body) = 1 + expression_size condition 
 statement_size_here (stmt.Block inside) = 1 + sum inside
 statement_size_here (stmt.Call target name arguments) = 1 + sum_by expression_size arguments
 statement_size_here (stmt.Spawn target name arguments) = 1 + sum_by expression_size arguments
+statement_size_here (stmt.Add target name index addend) = 1 + expression_size index + expression_size addend
 statement_size_here stmt.Sync = 1
 statement_size_here (stmt.Return value) = 1 + value_size value
 

@@ -10,7 +10,7 @@ use Rattle.cilk_tree.specs.declared.tree.Shared.{Shared}
 use Rattle.cilk_tree.specs.declared.tree.Stmt.{Stmt}
 use Rattle.cilk_tree.specs.declared.tree.Stmt.TheVariants as stmt
 use Rattle.cilk_tree.specs.Syntax as syntax
-use Rattle.cilk_tree.specs.Syntax.{Commas, One, More, Empty, Then, Expression, Numeral, Variable, Element, Group, Prefix, Infix, Call, Right, Value, Result, Declarator, Bare, Valued, Direction, Up, Down, Simple, Assignment, Change, Step, Storing, Start, NoStart, SimpleStart, DeclaringStart, Statement, Nothing, Simply, Calling, Syncing, IfAlone, IfElse, WhileLoop, ForLoop, Printing, Returning, Inner, Declaration, Block, Stated, Inners, NoInners, ThenInner, Body, Braced, Single, Parameters, NoParameters, VoidParameters, Named, Array, Item, Arrays, Defined, Source}
+use Rattle.cilk_tree.specs.Syntax.{Commas, One, More, Empty, Then, Expression, Numeral, Variable, Element, Group, Prefix, Infix, Call, Addition, Right, Value, Result, Fetched, Declarator, Bare, Valued, Direction, Up, Down, Simple, Assignment, Change, Step, Storing, Start, NoStart, SimpleStart, DeclaringStart, Statement, Nothing, Simply, Calling, Adding, Syncing, IfAlone, IfElse, WhileLoop, ForLoop, Printing, Returning, Inner, Declaration, Block, Stated, Inners, NoInners, ThenInner, Body, Braced, Single, Parameters, NoParameters, VoidParameters, Named, Array, Item, Arrays, Defined, Source}
 
 -- Parentheses give nothing.
 abbrev pub expression_tree : Expression → Expr
@@ -41,10 +41,15 @@ abbrev pub call_tree : Option (List ℕ) → Bool → List ℕ → List Expr →
 call_tree target false name arguments = stmt.Call target name arguments
 call_tree target true name arguments = stmt.Spawn target name arguments
 
+-- `fetch_add(a[i], e);`, and the same behind `x =`
+abbrev pub addition_tree : Option (List ℕ) → Addition → Stmt
+addition_tree target addition = stmt.Add target addition.name (expression_tree addition.index) (expression_tree addition.addend)
+
 -- `x = r;`
 abbrev pub right_tree : List ℕ → Right → Stmt
 right_tree name (Value value) = stmt.Assign name (expression_tree value)
 right_tree name (Result call) = call_tree (Some name) call.spawned call.name (argument_trees call.arguments)
+right_tree name (Fetched addition) = addition_tree (Some name) addition
 
 -- A name with a value is declared, and then the value is assigned.
 abbrev pub declarator_trees : Declarator → List Stmt
@@ -85,6 +90,7 @@ abbrev mutual
   statement_trees Nothing = []
   statement_trees (Simply simple) = one_simple simple
   statement_trees (Calling call) = call_tree None call.spawned call.name (argument_trees call.arguments) ∷ []
+  statement_trees (Adding addition) = addition_tree None addition ∷ []
   statement_trees Syncing = stmt.Sync ∷ []
   statement_trees (IfAlone condition taken) = stmt.If (expression_tree condition) (body_trees taken) [] ∷ []
   statement_trees (IfElse condition taken otherwise) = stmt.If (expression_tree condition) (body_trees taken) (body_trees otherwise) ∷ []

@@ -30,10 +30,17 @@ pub record Call : Type 0 where
   pub name : List ℕ
   pub arguments : Option (Commas Expression)
 
+-- `fetch_add(a[i], e)`: the array's name, the index and the addend
+pub record Addition : Type 0 where
+  pub name : List ℕ
+  pub index : Expression
+  pub addend : Expression
+
 -- what stands behind a `=`
 pub data Right : Type 0 where
   Value : (value : Expression) → Right
   Result : (call : Call) → Right
+  Fetched : (addition : Addition) → Right
 
 -- a name that is declared, with or without a value
 pub data Declarator : Type 0 where
@@ -64,6 +71,7 @@ mutual
     Nothing : Statement
     Simply : (simple : Simple) → Statement
     Calling : (call : Call) → Statement
+    Adding : (addition : Addition) → Statement
     Syncing : Statement
     IfAlone : (condition : Expression) (taken : Body) → Statement
     IfElse : (condition : Expression) (taken otherwise : Body) → Statement
@@ -164,6 +172,7 @@ abbrev mutual
   statement_dangles Nothing = false
   statement_dangles (Simply simple) = false
   statement_dangles (Calling call) = false
+  statement_dangles (Adding addition) = false
   statement_dangles Syncing = false
   statement_dangles (IfAlone condition taken) = true
   statement_dangles (IfElse condition taken otherwise) = dangles otherwise
@@ -191,9 +200,13 @@ if_any test (Some value) = test value
 abbrev pub is_call : Call → Bool
 is_call call = if_any (each_of is_grouped) call.arguments
 
+abbrev pub is_addition : Addition → Bool
+is_addition addition = is_grouped addition.index && is_grouped addition.addend
+
 abbrev pub is_right : Right → Bool
 is_right (Value value) = is_grouped value
 is_right (Result call) = is_call call
+is_right (Fetched addition) = is_addition addition
 
 abbrev pub is_declarator : Declarator → Bool
 is_declarator (Bare name) = true
@@ -216,6 +229,7 @@ abbrev mutual
   is_statement Nothing = true
   is_statement (Simply simple) = is_simple simple
   is_statement (Calling call) = is_call call
+  is_statement (Adding addition) = is_addition addition
   is_statement Syncing = true
   is_statement (IfAlone condition taken) = is_grouped condition && is_body taken
   is_statement (IfElse condition taken otherwise) = is_grouped condition && is_body taken && not (dangles taken) && is_body otherwise

@@ -12,7 +12,7 @@ use Rattle.cilk_tree.specs.Canonical.{plain_expression}
 use Rattle.cilk_tree.specs.Levels.{source_tokens}
 use Rattle.cilk_tree.specs.Lexeme.{is_name}
 use Rattle.cilk_tree.specs.Spelling.{is_within_limits}
-use Rattle.cilk_tree.specs.Syntax.{Commas, One, More, Empty, Then, Call, Value, Result, Bare, Assignment, Storing, Simply, Calling, Syncing, IfAlone, IfElse, WhileLoop, Printing, Returning, Inner, Declaration, Block, Stated, Inners, NoInners, ThenInner, Body, Braced, Parameters, NoParameters, Named, Item, Arrays, Defined, Source}
+use Rattle.cilk_tree.specs.Syntax.{Commas, One, More, Empty, Then, Call, Addition, Value, Result, Fetched, Bare, Assignment, Storing, Simply, Calling, Adding, Syncing, IfAlone, IfElse, WhileLoop, Printing, Returning, Inner, Declaration, Block, Stated, Inners, NoInners, ThenInner, Body, Braced, Parameters, NoParameters, Named, Item, Arrays, Defined, Source}
 use Rattle.cilk_tree.specs.declared.token.Token.{Token}
 use Rattle.cilk_tree.specs.declared.token.Token.TheVariants.{Name, Number, Word, Mark}
 
@@ -42,6 +42,14 @@ abbrev pub plain_target : Option (List ℕ) → Call → Inner
 plain_target None call = Stated (Calling call)
 plain_target (Some name) call = Stated (Simply (Assignment name (Result call)))
 
+abbrev pub plain_addition : List ℕ → Expr → Expr → Addition
+plain_addition name index addend = record { name = name; index = plain_expression index; addend = plain_expression addend }
+
+-- an addition that stands alone, or behind `x =`
+abbrev pub plain_added : Option (List ℕ) → Addition → Inner
+plain_added None addition = Stated (Adding addition)
+plain_added (Some name) addition = Stated (Simply (Assignment name (Fetched addition)))
+
 -- an `if`, with an `else` where it has statements
 abbrev pub plain_if : Expr → List Inner → List Inner → Inner
 plain_if condition taken [] = Stated (IfAlone (plain_expression condition) (braced taken))
@@ -58,6 +66,7 @@ plain_inner_here (stmt.While condition body) = Stated (WhileLoop (plain_expressi
 plain_inner_here (stmt.Block inside) = Block (inners_after NoInners inside)
 plain_inner_here (stmt.Call target name arguments) = plain_target target (plain_call false name arguments)
 plain_inner_here (stmt.Spawn target name arguments) = plain_target target (plain_call true name arguments)
+plain_inner_here (stmt.Add target name index addend) = plain_added target (plain_addition name index addend)
 plain_inner_here stmt.Sync = Stated Syncing
 plain_inner_here (stmt.Return value) = Stated (Returning (option_map plain_expression value))
 

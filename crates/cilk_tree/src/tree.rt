@@ -45,6 +45,8 @@ pub enum Stmt {
     Call(Option<Name>, Name, Items<Expr>),
     /// the target, the procedure and the arguments
     Spawn(Option<Name>, Name, Items<Expr>),
+    /// `x = fetch_add(a[i], e);`: the target, the array, the index and the addend
+    Add(Option<Name>, Name, Expr, Expr),
     Sync,
     Return(Option<Expr>),
 }

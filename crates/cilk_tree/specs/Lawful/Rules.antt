@@ -50,7 +50,7 @@ uses_here (layer.Binary operator left right) = left ++ right
 abbrev pub uses : Expr → List Use
 uses = fold-Expr (List Use) uses_here
 
--- the target of a call or spawn, where it has one
+-- the target of a call, spawn or add, where it has one
 abbrev pub target_uses : Option (List ℕ) → List Use
 target_uses None = []
 target_uses (Some name) = variable_use name ∷ []
@@ -71,6 +71,7 @@ head_uses (head.While condition body) = uses condition
 head_uses (head.Block body) = []
 head_uses (head.Call target name arguments) = target_uses target ++ function_use name ∷ flat_map uses arguments
 head_uses (head.Spawn target name arguments) = target_uses target ++ function_use name ∷ flat_map uses arguments
+head_uses (head.Add target name index addend) = target_uses target ++ array_use name ∷ uses index ++ uses addend
 head_uses head.Sync = []
 head_uses (head.Return value) = value_uses value
 
@@ -166,9 +167,13 @@ function_again program number function =
     is_among (map (λ other. other.name) (take number program.functions)) function.name ||
     list_any (is_global program) function.params || repeats function.params
 
--- 211: the arrays up to this one have more than 1,048,576 words together
+-- how many words the arrays of a program may have together: 4,194,304
+abbrev pub most_shared_words : ℕ
+most_shared_words = 2 ^ 22
+
+-- 211: the arrays up to this one have more words together
 abbrev pub has_too_many_words : Program → ℕ → Bool
-has_too_many_words program number = nat_lt (2 ^ 20) (sum_by (λ array. array.words) (take (number + 1) program.shared))
+has_too_many_words program number = nat_lt most_shared_words (sum_by (λ array. array.words) (take (number + 1) program.shared))
 
 -- 210: what the name `main` stands for, which is the first thing of that name, is no function, or one with parameters
 abbrev pub lacks_main : Program → Bool

@@ -1,5 +1,5 @@
 ghost use Rattle.std.specs.Prelude.{◌≡◌, ◌+◌, ◌*◌, ◌++◌, ◌∷◌, [], codes, map, replicate, OnOk};
-ghost use Rattle.cilk_tree.specs.Canonical.{expr_text, listed, target_text, call_text, return_text, else_lines, lines_at, statement_lines, line};
+ghost use Rattle.cilk_tree.specs.Canonical.{expr_text, listed, target_text, call_text, addition_text, return_text, else_lines, lines_at, statement_lines, line};
 
 use super::expressions::push_expression;
 use crate::name::Name;
@@ -60,6 +60,10 @@ fn push_statement(
             push_call(alloc, text, name, arguments.as_slice())
         }
         Stmt::Spawn(target, name, arguments) => push_spawn(alloc, text, target, name, arguments),
+        Stmt::Add(target, name, index, addend) => {
+            push_target(text, target)?;
+            push_addition(alloc, text, name, index, addend)
+        }
         Stmt::Sync => text.extend_from_slice(b"sync;\n"),
         Stmt::Return(value) => push_return(alloc, text, value),
     }
@@ -213,6 +217,24 @@ fn push_arguments(alloc: Global, text: &mut Vec<u8>, arguments: &[Expr]) -> Resu
         push_expression(alloc, text, argument)?;
     }
     Ok(())
+}
+
+fn push_addition(
+    alloc: Global,
+    text: &mut Vec<u8>,
+    name: &Name,
+    index: &Expr,
+    addend: &Expr,
+) -> Result<(), AllocError>
+    ensures { OnOk result (text.new.items ≡ text.old.items ++ (addition_text name.now index.now addend.now ++ 10 ∷ [])) }
+{
+    text.extend_from_slice(b"fetch_add(")?;
+    text.extend_from_slice(name.items())?;
+    text.extend_from_slice(b"[")?;
+    push_expression(alloc, text, index)?;
+    text.extend_from_slice(b"], ")?;
+    push_expression(alloc, text, addend)?;
+    text.extend_from_slice(b");\n")
 }
 
 fn push_return(alloc: Global, text: &mut Vec<u8>, value: &Option<Expr>) -> Result<(), AllocError>
