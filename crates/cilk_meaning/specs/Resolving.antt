@@ -1,6 +1,7 @@
--- The program that a source stands for: each name is the number of what it stands for, by the scoping of lawful programs. A parameter
--- is in scope in the whole body, a local from its declaration to the end of the list that holds it, arrays and functions everywhere.
--- In a lawful program each name stands for something of the kind that is wanted; elsewhere it counts as number 0.
+-- The program that a source stands for: in place of each name the number of what it stands for. The scopes are those of the rules of
+-- lawful programs, point after point: a parameter is in scope in the whole body, a local from its declaration to the end of the list
+-- that holds it, arrays and functions everywhere. In a lawful program each name stands for something of the kind that is wanted; any
+-- other name counts as number 0.
 use Rattle.std.specs.Prelude.{ℕ, ◌+◌, pos, List, [], ◌∷◌, length, map, codes, Option, Some, None, unwrap_or, option_map}
 use Rattle.std.specs.List.{position}
 use Rattle.std.specs.Str.{bytes_eq}
@@ -12,11 +13,11 @@ use Rattle.cilk_tree.specs.declared.tree.Function as source_function
 use Rattle.cilk_tree.specs.declared.tree.Program as source_program
 use Rattle.cilk_tree.specs.declared.tree.Shared.{Shared}
 use Rattle.cilk_tree.specs.declared.tree.Stmt as source_stmt
-use Rattle.cilk_tree.specs.declared.tree.Stmt.{fold-Stmt}
+use Rattle.cilk_tree.specs.declared.tree.Stmt.{fold-Stmt, map-Stmt}
 use Rattle.cilk_tree.specs.declared.tree.Stmt.TheOpen as stmt
 use Rattle.cilk_tree.specs.declared.tree.Stmt.TheOpen.{Stmt-F}
-use Rattle.cilk_tree.specs.Lawful.Flow.{inside, with_scope}
-use Rattle.cilk_tree.specs.Lawful.Scope.{Local, Point, declared, entry, local_named}
+use Rattle.cilk_tree.specs.Lawful.Flow.{Part, part_here, inside, after_all, after_list}
+use Rattle.cilk_tree.specs.Lawful.Scope.{Local, Point, entry, local_named}
 use Rattle.cilk_meaning.specs.Resolved as tree
 use Rattle.cilk_meaning.specs.Resolved.{Expr, Stmt, Function, Extent, Program}
 
@@ -43,31 +44,18 @@ expr_here program (expr.Binary operator left right) scope = tree.Binary operator
 abbrev pub resolved_expr : source_program.Program → source_expr.Expr → List Local → Expr
 resolved_expr program = fold-Expr (List Local → Expr) (expr_here program)
 
--- A statement as a part of its function: from the point before it, what it stands for, and the point after it.
-pub record Part : Type 0 where
+-- A statement as a part of its function, and what it stands for from the point before it.
+pub record Resolving : Type 0 where
+  pub part : Part
   pub stmt : Point → Stmt
-  pub after : Point → Point
 
--- one part after another
-abbrev pub in_order : List Part → Point → Stmt
+abbrev pub part_in : Resolving → Part
+part_in statement = statement.part
+
+-- one statement after another, each from the point after the one before
+abbrev pub in_order : List Resolving → Point → Stmt
 in_order [] point = tree.Skip
-in_order (first ∷ rest) point = tree.Then (first.stmt point) (in_order rest (first.after point))
-
-abbrev pub after_all : List Part → Point → Point
-after_all [] point = point
-after_all (first ∷ rest) point = after_all rest (first.after point)
-
--- the point after a list that a statement holds: what it declares is in scope to its end alone
-abbrev pub after_list : List Part → Point → Point
-after_list parts point = with_scope point.scope (after_all parts point)
-
--- the point after a statement, where the statements that it holds are parts
-abbrev pub after_here : Stmt-F Part → Point → Point
-after_here (stmt.Declare name) point = declared (inside point) name
-after_here (stmt.If condition met unmet) point = after_list unmet (after_list met (inside point))
-after_here (stmt.While condition body) point = after_list body (inside point)
-after_here (stmt.Block body) point = after_list body (inside point)
-after_here _ point = inside point
+in_order (first ∷ rest) point = tree.Then (first.stmt point) (in_order rest (first.part.after point))
 
 -- what a `return` gives
 abbrev pub returned : source_program.Program → Option source_expr.Expr → List Local → Expr
@@ -81,35 +69,41 @@ abbrev pub arguments_of : source_program.Program → List source_expr.Expr → L
 arguments_of program arguments scope = map (λ argument. resolved_expr program argument scope) arguments
 
 -- what a statement stands for
-abbrev pub stmt_here : source_program.Program → Stmt-F Part → Point → Stmt
+abbrev pub stmt_here : source_program.Program → Stmt-F Resolving → Point → Stmt
 stmt_here program (stmt.Declare name) point = tree.Assign point.local (tree.Number (pos 0))
 stmt_here program (stmt.Assign name value) point = tree.Assign (local_number point.scope name) (resolved_expr program value point.scope)
 stmt_here program (stmt.Put name index value) point =
     tree.Put (array_number program name) (resolved_expr program index point.scope) (resolved_expr program value point.scope)
 stmt_here program (stmt.Print value) point = tree.Print (resolved_expr program value point.scope)
 stmt_here program (stmt.If condition met unmet) point =
-    tree.If (resolved_expr program condition point.scope) (in_order met (inside point)) (in_order unmet (after_list met (inside point)))
+    tree.If (resolved_expr program condition point.scope) (in_order met (inside point)) (in_order unmet (after_list (map part_in met) (inside point)))
 stmt_here program (stmt.While condition body) point = tree.While (resolved_expr program condition point.scope) (in_order body (inside point))
 stmt_here program (stmt.Block body) point = in_order body (inside point)
 stmt_here program (stmt.Call target name arguments) point =
     tree.Call (target_number point.scope target) (function_number program name) (arguments_of program arguments point.scope)
 stmt_here program (stmt.Spawn target name arguments) point =
     tree.Spawn (target_number point.scope target) (function_number program name) (arguments_of program arguments point.scope)
+stmt_here program (stmt.Add target name index addend) point =
+    tree.Add (target_number point.scope target) (array_number program name) (resolved_expr program index point.scope) (resolved_expr program addend point.scope)
 stmt_here program stmt.Sync point = tree.Sync
 stmt_here program (stmt.Return value) point = tree.Return (returned program value point.scope)
 
--- one step of `part_of`
-abbrev pub part_here : source_program.Program → Stmt-F Part → Part
-part_here program statement = record { stmt = stmt_here program statement; after = after_here statement }
+-- one step of `resolving`
+abbrev pub resolving_here : source_program.Program → Stmt-F Resolving → Resolving
+resolving_here program statement = record { part = part_here (map-Stmt Resolving Part part_in statement); stmt = stmt_here program statement }
 
-abbrev pub part_of : source_program.Program → source_stmt.Stmt → Part
-part_of program = fold-Stmt Part (part_here program)
+abbrev pub resolving : source_program.Program → source_stmt.Stmt → Resolving
+resolving program = fold-Stmt Resolving (resolving_here program)
 
--- A function, whose parameters are in scope first; behind its body stands how many parameters and locals it has.
+-- A function, whose parameters are in scope first; the point behind its body tells how many parameters and locals it has.
 abbrev pub resolved_function : source_program.Program → source_function.Function → Function
 resolved_function program function =
-    let parts = map (part_of program) function.body in
-    record { «cilk» = function.«cilk»; params = length function.params; locals = (after_all parts (entry function)).local; body = in_order parts (entry function) }
+    let body = map (resolving program) function.body in
+    record {
+        «cilk» = function.«cilk»;
+        params = length function.params;
+        locals = (after_all (map part_in body) (entry function)).local;
+        body = in_order body (entry function) }
 
 -- The arrays lie one behind another, in order, from this word on.
 abbrev pub extents_from : ℕ → List Shared → List Extent

@@ -2,6 +2,7 @@
 
 ghost use Rattle.cilk_meaning.specs.Cases.Expressions.{ArithmeticCases, TestCases, OrderCases};
 ghost use Rattle.cilk_meaning.specs.Cases.Programs.{SpawnCases, LogCases, CallCases, AddCases};
+ghost use Rattle.cilk_meaning.specs.Cases.Names.{NameCases};
 ghost use Rattle.cilk_meaning.specs.Cases.Limits.{LimitCases};
 ghost use Rattle.cilk_meaning.specs.Cases.Instances.{InstanceCases};
 
@@ -56,5 +57,11 @@ pub fn limit_cases()
 /// What instances want after some answers.
 pub fn instance_cases()
     ensures { InstanceCases }
+{
+}
+
+/// What names stand for.
+pub fn name_cases()
+    ensures { NameCases }
 {
 }
