@@ -1,5 +1,5 @@
 -- The cases of names.
-use Rattle.std.proofs.Common.{◌≡◌, ap, ◌∙◌, refl}
+use Rattle.std.proofs.Common.{◌≡◌, ap}
 use Rattle.cilk_meaning.specs.Resolved as tree
 use Rattle.cilk_meaning.specs.Resolving.{resolved}
 use Rattle.cilk_meaning.specs.Cases.Names.{scopes, scopes_resolved, NameCases}
@@ -13,5 +13,6 @@ scopes_numbered = simp forms
 
 pub name_cases : NameCases
 name_cases = record {
-    scopes_are_numbered = scopes_numbered;
-    scopes_run = ap (λ (p : tree.Program). outcome p 100) scopes_numbered }
+  scopes_are_numbered = scopes_numbered;
+  scopes_run = ap (λ (p : tree.Program). outcome p 100) scopes_numbered;
+}

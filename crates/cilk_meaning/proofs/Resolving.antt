@@ -2,12 +2,12 @@
 use Rattle.std.proofs.Common.{◌≡◌, ℕ, ℤ, List, map, Option, sym, ap, ◌∙◌}
 use Rattle.cilk_tree.specs.declared.tree.BinaryOp.{BinaryOp}
 use Rattle.cilk_tree.specs.declared.tree.UnaryOp.{UnaryOp}
-use Rattle.cilk_tree.specs.declared.tree.Expr.{Expr, fold-Expr, fold-roll-Expr}
+use Rattle.cilk_tree.specs.declared.tree.Expr.{Expr, fold-roll-Expr}
 use Rattle.cilk_tree.specs.declared.tree.Expr.TheVariants as expr
 use Rattle.cilk_tree.specs.declared.tree.Expr.TheVariants.{rolls-Number, rolls-Local, rolls-Get, rolls-Unary, rolls-Binary}
 use Rattle.cilk_tree.specs.declared.tree.Expr.TheOpen as layer
 use Rattle.cilk_tree.specs.declared.tree.Program.{Program}
-use Rattle.cilk_tree.specs.declared.tree.Stmt.{Stmt, fold-Stmt, fold-roll-Stmt}
+use Rattle.cilk_tree.specs.declared.tree.Stmt.{Stmt, fold-roll-Stmt}
 use Rattle.cilk_tree.specs.declared.tree.Stmt.TheVariants as stmt
 use Rattle.cilk_tree.specs.declared.tree.Stmt.TheVariants.{rolls-Declare, rolls-Assign, rolls-Put, rolls-Print, rolls-If, rolls-While, rolls-Block, rolls-Call, rolls-Spawn, rolls-Add, rolls-Sync, rolls-Return}
 use Rattle.cilk_tree.specs.declared.tree.Stmt.TheOpen as head
@@ -66,4 +66,3 @@ module _ (program : Program) where
 
   pub resolving_return : (value : Option Expr) → resolving program (stmt.Return value) ≡ resolving_here program (head.Return value)
   resolving_return value = ap (resolving program) (sym (rolls-Return value)) ∙ fold-roll-Stmt Resolving (resolving_here program) (head.Return value)
-

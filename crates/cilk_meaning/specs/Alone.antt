@@ -1,20 +1,14 @@
 -- An instance by itself: its want, its acts and what it returned with, and which answers it may get.
-use Rattle.std.specs.Prelude.{◌≡◌, ℕ, ℤ, Bool, true, false, Option, Some, None, List, [], ◌∷◌, ◌++◌, map}
-use Rattle.std.specs.List.{All}
+use Rattle.std.specs.Prelude.{◌≡◌, ℕ, ℤ, Bool, true, false, Option, Some, None, List, [], ◌∷◌, ◌++◌, length, map, slice_get}
+use Rattle.std.specs.List.{All, last_or}
 use Rattle.cilk_meaning.specs.Instance.{wants}
-use Rattle.cilk_meaning.specs.Resolved.{Program}
+use Rattle.cilk_meaning.specs.Resolved.{Function, Program}
 use Rattle.cilk_meaning.specs.Values.{fits}
-use Rattle.cilk_meaning.specs.Wants.{Request, Read, Write, Add, Print, Spawn, Sync, Call, LoopTurn, Want, Asks, Returns, Traps, Deposit, Answer, Value, Children, Done}
-
--- the last of some wants
-abbrev pub last_of : List Want → Option Want
-last_of [] = None
-last_of (want ∷ []) = Some want
-last_of (want ∷ next ∷ rest) = last_of (next ∷ rest)
+use Rattle.cilk_meaning.specs.Wants.{Request, Read, Add, Spawn, Sync, Call, LoopTurn, Want, Asks, Returns, Traps, Deposit, Answer, Value, Children, Done}
 
 -- what an instance wants after some answers
 abbrev pub want_after : Program → ℕ → ℕ → List ℤ → List Answer → Option Want
-want_after program depth procedure arguments answers = last_of (wants program depth procedure arguments answers)
+want_after program depth procedure arguments answers = last_or None (wants program depth procedure arguments answers)
 
 -- it has returned with this value
 abbrev pub HasReturned : Program → ℕ → ℕ → List ℤ → List Answer → ℤ → Type 0
@@ -62,6 +56,13 @@ block_of block (_ ∷ wants) = block_of block wants
 
 abbrev pub IsValue : ℤ → Type 0
 IsValue value = fits value ≡ true
+
+-- arguments that a procedure may get: as many values as it has parameters
+pub record AreArguments (program : Program) (procedure : ℕ) (arguments : List ℤ) : Type 0 where
+  pub function : Function
+  pub is_function : slice_get program.functions procedure ≡ Some function
+  pub is_count : length arguments ≡ function.params
+  pub are_values : All IsValue arguments
 
 abbrev pub IsValued : Answer → Type 0
 IsValued (Value value) = IsValue value

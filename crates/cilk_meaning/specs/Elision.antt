@@ -63,7 +63,7 @@ value shared row (Get array index) locals next =
 value shared row (Unary operator operand) locals next = value shared row operand locals (λ x. given (negated operator x) next)
 value shared row (Binary operator left right) locals next =
     value shared row left locals (λ x. decides (decided operator x) next
-        (value shared row right locals (λ y. given (operated operator x y) next)))
+    (value shared row right locals (λ y. given (operated operator x y) next)))
 
 -- expressions from left to right, and then what follows with their values
 abbrev pub values : List Extent → ℕ → List Expr → Locals → (List ℤ → Run) → Run
@@ -138,14 +138,14 @@ module _ (most : Limits) (program : Program) where
   entered bound depth row call child None arguments leave = leave (pos 0)
   entered bound depth row call child (Some function) arguments leave =
       whole (record { shared = program.shared; «cilk» = function.«cilk»; deepest = most.depth; depth = depth; row = row; call = call; child = child; turns = bound; leave = leave })
-          function.body (first_locals function arguments)
+      function.body (first_locals function arguments)
 
   -- a plain call where so many are open
   abbrev pub calls : ℕ → ℕ → ℕ → ℕ → Spawning → Calling
   calls zero opened depth row child function arguments next = stop Budget
   calls (suc bound) opened depth row child function arguments next =
       limited most.calls opened (tick (after_tick row)
-          (entered bound depth row (calls bound (suc opened) depth row child) child (slice_get program.functions function) arguments next))
+      (entered bound depth row (calls bound (suc opened) depth row child) child (slice_get program.functions function) arguments next))
 
   -- An instance. In it spawns and calls nest, and loops turn, fewer than `bound` times: each of these costs a tick, so with fewer ticks
   -- than that the bound is never reached.

@@ -71,7 +71,7 @@ value shared (Get array index) locals next =
 value shared (Unary operator operand) locals next = value shared operand locals (λ x. given (negated operator x) next)
 value shared (Binary operator left right) locals next =
     value shared left locals (λ x. decides (decided operator x) next
-        (value shared right locals (λ y. given (operated operator x y) next)))
+    (value shared right locals (λ y. given (operated operator x y) next)))
 
 -- expressions from left to right, and then what follows with their values
 abbrev pub values : List Extent → List Expr → Locals → (List ℤ → Meaning) → Meaning
@@ -144,14 +144,14 @@ module _ (most : Limits) (program : Program) (depth : ℕ) where
   entered bound call None arguments leave = leave (pos 0)
   entered bound call (Some function) arguments leave =
       whole (record { shared = program.shared; «cilk» = function.«cilk»; deepest = most.depth; depth = depth; call = call; turns = bound; leave = leave })
-          function.body (first_locals function arguments)
+      function.body (first_locals function arguments)
 
   -- a plain call where so many are open; what follows has at most `bound` turns in each loop, and calls nested so deep
   abbrev pub calls : ℕ → ℕ → Calling
   calls zero opened function arguments next = silent
   calls (suc bound) opened function arguments next =
       limited most.calls opened (ask want.Call (on_done
-          (entered bound (calls bound (suc opened)) (slice_get program.functions function) arguments next)))
+      (entered bound (calls bound (suc opened)) (slice_get program.functions function) arguments next)))
 
   -- an instance at this depth, exact for fewer than `bound` answers, since each turn and each call uses one up
   abbrev pub instance : ℕ → ℕ → List ℤ → Meaning

@@ -100,10 +100,11 @@ abbrev pub resolved_function : source_program.Program → source_function.Functi
 resolved_function program function =
     let body = map (resolving program) function.body in
     record {
-        «cilk» = function.«cilk»;
-        params = length function.params;
-        locals = (after_all (map part_in body) (entry function)).local;
-        body = in_order body (entry function) }
+      «cilk» = function.«cilk»;
+      params = length function.params;
+      locals = (after_all (map part_in body) (entry function)).local;
+      body = in_order body (entry function);
+    }
 
 -- The arrays lie one behind another, in order, from this word on.
 abbrev pub extents_from : ℕ → List Shared → List Extent
@@ -113,6 +114,7 @@ extents_from base (first ∷ rest) = record { base = base; words = first.words }
 -- The program that a source stands for.
 abbrev pub resolved : source_program.Program → Program
 resolved program = record {
-    shared = extents_from 0 program.shared;
-    functions = map (resolved_function program) program.functions;
-    main = function_number program (codes "main") }
+  shared = extents_from 0 program.shared;
+  functions = map (resolved_function program) program.functions;
+  main = function_number program (codes "main");
+}

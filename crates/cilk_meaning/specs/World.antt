@@ -1,5 +1,5 @@
 -- What a serial run changes, and how it ends.
-use Rattle.std.specs.Prelude.{ℕ, suc, ◌-◌, ◌==◌, nat_le, ℤ, pos, ◌+ℤ◌, Bool, if◌then◌else◌, Option, Some, None, List, [], ◌∷◌, length, reverse, slice_index_or}
+use Rattle.std.specs.Prelude.{ℕ, suc, ◌-◌, ◌==◌, nat_le, ℤ, pos, ◌+ℤ◌, if◌then◌else◌, Option, Some, None, List, [], ◌∷◌, length, reverse, slice_index_or}
 use Rattle.std.specs.List.{filter_map}
 use Rattle.cilk_meaning.specs.declared.ends.NodeEnd.{NodeEnd}
 use Rattle.cilk_meaning.specs.Values.{fits}
@@ -52,7 +52,7 @@ after_write row word value world =
 abbrev pub after_add : ℕ → ℕ → ℤ → World → World
 after_add row word addend world =
     with_event (Acts row (Add word (world.memory word) addend))
-        (record { memory = with_word word (sum_or_old (world.memory word) addend) world.memory; rows = world.rows; log = world.log })
+    (record { memory = with_word word (sum_or_old (world.memory word) addend) world.memory; rows = world.rows; log = world.log })
 
 abbrev pub after_print : ℕ → ℤ → World → World
 after_print row value world = with_event (Acts row (Print value)) world

@@ -5,5 +5,8 @@
 mod cases;
 mod ends;
 
-pub use cases::{add_cases, arithmetic_cases, call_cases, instance_cases, limit_cases, log_cases, name_cases, order_cases, spawn_cases, test_cases};
+pub use cases::{
+    add_cases, arithmetic_cases, call_cases, instance_cases, limit_cases, log_cases, name_cases,
+    order_cases, spawn_cases, test_cases,
+};
 pub use ends::{NodeEnd, TrapKind};

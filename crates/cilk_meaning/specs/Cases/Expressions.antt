@@ -1,10 +1,9 @@
 -- What expressions give, and in which order they are evaluated.
-use Rattle.std.specs.Prelude.{◌≡◌, ℕ, ◌^◌, ℤ, pos, negsuc, List, [], ◌∷◌}
+use Rattle.std.specs.Prelude.{◌≡◌, pos, negsuc, [], ◌∷◌}
 use Rattle.cilk_tree.specs.declared.tree.BinaryOp.TheVariants as op
 use Rattle.cilk_tree.specs.declared.tree.UnaryOp.TheVariants.{Not}
-
 use Rattle.cilk_meaning.specs.declared.ends.TrapKind.TheVariants.{DivideByZero, IndexOutOfRange, Overflow}
-use Rattle.cilk_meaning.specs.Resolved.{Expr, Number, Local, Get, Unary, Binary, Stmt, Put, Print}
+use Rattle.cilk_meaning.specs.Resolved.{Expr, Get, Unary, Binary, Stmt, Put}
 use Rattle.cilk_meaning.specs.Cases.Words.{Outcome, number, minus, plain_main, outcome, printing, finishes, prints, traps_at_once}
 
 -- `9223372036854775807`

@@ -1,7 +1,7 @@
 -- Instances by themselves: what they want after some answers.
-use Rattle.std.specs.Prelude.{◌≡◌, ℕ, ℤ, pos, Option, Some, None, List, [], ◌∷◌}
+use Rattle.std.specs.Prelude.{◌≡◌, ℕ, pos, Some, List, [], ◌∷◌}
 use Rattle.cilk_meaning.specs.declared.ends.TrapKind.TheVariants.{Overflow, TooDeep}
-use Rattle.cilk_meaning.specs.Alone.{Exchange, acts_of, want_after}
+use Rattle.cilk_meaning.specs.Alone.{acts_of, want_after}
 use Rattle.cilk_meaning.specs.Instance.{wants}
 use Rattle.cilk_meaning.specs.Wants.{Read, Add, Print, Spawn, Sync, Call, LoopTurn, Want, Asks, Returns, Traps, Answer, Value, Children, Done}
 use Rattle.cilk_meaning.specs.Cases.Programs.{fib, looks, adds, nested, says}

@@ -1,11 +1,11 @@
 -- How deep instances may nest, and how many plain calls may be open: at the limit of the language, and at one of two.
-use Rattle.std.specs.Prelude.{◌≡◌, ℕ, ℤ, pos, Option, Some, None, List, [], ◌∷◌}
+use Rattle.std.specs.Prelude.{◌≡◌, ℕ, pos, Some, None, [], ◌∷◌}
 use Rattle.cilk_tree.specs.declared.tree.BinaryOp.TheVariants as op
 use Rattle.cilk_meaning.specs.declared.ends.TrapKind.TheVariants.{DivideByZero, TooDeep}
 use Rattle.cilk_meaning.specs.Elision.{elision_within}
 use Rattle.cilk_meaning.specs.Instance.{Limits}
-use Rattle.cilk_meaning.specs.Resolved.{Expr, Local, Binary, Stmt, Skip, Then, Assign, Print, If, While, Call, Spawn, Sync, Return, Program}
-use Rattle.cilk_meaning.specs.Cases.Words.{Outcome, number, procedure, plain, program, zeros, outcome, outcome_of, finishes, traps, spends}
+use Rattle.cilk_meaning.specs.Resolved.{Expr, Local, Binary, Skip, Then, Assign, Print, If, While, Call, Spawn, Sync, Return, Program}
+use Rattle.cilk_meaning.specs.Cases.Words.{Outcome, number, procedure, plain, program, zeros, outcome, outcome_of, finishes, traps}
 
 abbrev pub two : Limits
 two = record { depth = 2; calls = 2 }
@@ -34,9 +34,9 @@ calls_down n = program 0 (
 abbrev pub calls_again : Program
 calls_again = program 0 (
     plain 0 2 (
-        While (Binary op.Lt (Local 0) (number 5))
-            (Then (Call (Some 0) 1 []) (Then (Assign 0 (Binary op.Add (Local 1) (Local 0))) (Assign 1 (Local 0)))) ∷
-        Print (Local 1) ∷ []) ∷
+    While (Binary op.Lt (Local 0) (number 5))
+    (Then (Call (Some 0) 1 []) (Then (Assign 0 (Binary op.Add (Local 1) (Local 0))) (Assign 1 (Local 0)))) ∷
+    Print (Local 1) ∷ []) ∷
     plain 0 0 (Return (number 1) ∷ []) ∷ [])
 
 -- cilk void leaf() { } cilk int main() { spawn leaf(); spawn leaf(); spawn leaf(); sync; spawn leaf(); }

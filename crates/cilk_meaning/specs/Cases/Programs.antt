@@ -1,12 +1,12 @@
 -- Programs with calls, loops, spawns, syncs and adds: what they print, how they end, and their ticks.
-use Rattle.std.specs.Prelude.{◌≡◌, ℕ, ℤ, pos, negsuc, Option, Some, None, List, [], ◌∷◌, reverse}
+use Rattle.std.specs.Prelude.{◌≡◌, ℕ, pos, negsuc, Some, None, [], ◌∷◌}
 use Rattle.cilk_tree.specs.declared.tree.BinaryOp.TheVariants as op
 use Rattle.cilk_meaning.specs.declared.ends.TrapKind.TheVariants.{DivideByZero, Overflow}
 use Rattle.cilk_meaning.specs.Elision.{elision}
-use Rattle.cilk_meaning.specs.Resolved.{Expr, Local, Get, Binary, Stmt, Skip, Then, Assign, Put, Print, If, While, Call, Spawn, Add, Sync, Return, Program}
+use Rattle.cilk_meaning.specs.Resolved.{Local, Get, Binary, Skip, Then, Assign, Put, Print, If, While, Call, Spawn, Add, Sync, Return, Program}
 use Rattle.cilk_meaning.specs.World.{Event, Acts, Ticks, End, start_words, events_of}
 use Rattle.cilk_meaning.specs.World as act
-use Rattle.cilk_meaning.specs.Cases.Words.{Outcome, number, procedure, plain, program, plain_main, run, outcome, outcome_of, finishes, traps, spends}
+use Rattle.cilk_meaning.specs.Cases.Words.{number, procedure, plain, program, plain_main, run, outcome, outcome_of, finishes, traps, spends}
 
 -- cilk int main() { }
 abbrev pub nothing : Program
@@ -18,21 +18,21 @@ abbrev pub fib : ℕ → Program
 fib n = program 0 (
     procedure 0 1 (Spawn (Some 0) 1 (number n ∷ []) ∷ Sync ∷ Print (Local 0) ∷ Return (number 0) ∷ []) ∷
     procedure 1 3 (
-        If (Binary op.Lt (Local 0) (number 2)) (Return (Local 0)) Skip ∷
-        Spawn (Some 1) 1 (Binary op.Sub (Local 0) (number 1) ∷ []) ∷
-        Spawn (Some 2) 1 (Binary op.Sub (Local 0) (number 2) ∷ []) ∷
-        Sync ∷
-        Return (Binary op.Add (Local 1) (Local 2)) ∷ []) ∷ [])
+    If (Binary op.Lt (Local 0) (number 2)) (Return (Local 0)) Skip ∷
+    Spawn (Some 1) 1 (Binary op.Sub (Local 0) (number 1) ∷ []) ∷
+    Spawn (Some 2) 1 (Binary op.Sub (Local 0) (number 2) ∷ []) ∷
+    Sync ∷
+    Return (Binary op.Add (Local 1) (Local 2)) ∷ []) ∷ [])
 
 -- int a[1]; cilk int look() { return a[0]; }
 -- cilk int main() { int x, y; x = spawn look(); y = spawn look(); sync; a[0] = 1; x = spawn look(); y = a[0]; sync; print(x + y); return 0; }
 abbrev pub looks : Program
 looks = program 1 (
     procedure 0 2 (
-        Spawn (Some 0) 1 [] ∷ Spawn (Some 1) 1 [] ∷ Sync ∷
-        Put 0 (number 0) (number 1) ∷
-        Spawn (Some 0) 1 [] ∷ Assign 1 (Get 0 (number 0)) ∷ Sync ∷
-        Print (Binary op.Add (Local 0) (Local 1)) ∷ Return (number 0) ∷ []) ∷
+    Spawn (Some 0) 1 [] ∷ Spawn (Some 1) 1 [] ∷ Sync ∷
+    Put 0 (number 0) (number 1) ∷
+    Spawn (Some 0) 1 [] ∷ Assign 1 (Get 0 (number 0)) ∷ Sync ∷
+    Print (Binary op.Add (Local 0) (Local 1)) ∷ Return (number 0) ∷ []) ∷
     procedure 0 0 (Return (Get 0 (number 0)) ∷ []) ∷ [])
 
 -- int a[1]; cilk void put(int v) { a[0] = v; }
@@ -47,9 +47,9 @@ puts = program 1 (
 abbrev pub counts : Program
 counts = program 1 (
     procedure 0 2 (
-        Spawn (Some 0) 1 [] ∷ Spawn (Some 1) 1 [] ∷ Sync ∷
-        Put 0 (number 0) (Binary op.Add (Binary op.Add (Local 0) (Local 1)) (number 1)) ∷
-        Print (Get 0 (number 0)) ∷ Return (number 0) ∷ []) ∷
+    Spawn (Some 0) 1 [] ∷ Spawn (Some 1) 1 [] ∷ Sync ∷
+    Put 0 (number 0) (Binary op.Add (Binary op.Add (Local 0) (Local 1)) (number 1)) ∷
+    Print (Get 0 (number 0)) ∷ Return (number 0) ∷ []) ∷
     procedure 0 0 (Return (Get 0 (number 0)) ∷ []) ∷ [])
 
 -- cilk void say(int v, int n) { while (n > 0) n--; print(v); }
@@ -57,17 +57,17 @@ counts = program 1 (
 abbrev pub says : Program
 says = program 0 (
     procedure 0 0 (
-        Spawn None 1 (number 1 ∷ number 200 ∷ []) ∷ Spawn None 1 (number 2 ∷ number 0 ∷ []) ∷ Sync ∷ Print (number 3) ∷ Return (number 0) ∷ []) ∷
+    Spawn None 1 (number 1 ∷ number 200 ∷ []) ∷ Spawn None 1 (number 2 ∷ number 0 ∷ []) ∷ Sync ∷ Print (number 3) ∷ Return (number 0) ∷ []) ∷
     procedure 2 2 (
-        While (Binary op.Gt (Local 1) (number 0)) (Assign 1 (Binary op.Sub (Local 1) (number 1))) ∷ Print (Local 0) ∷ []) ∷ [])
+    While (Binary op.Gt (Local 1) (number 0)) (Assign 1 (Binary op.Sub (Local 1) (number 1))) ∷ Print (Local 0) ∷ []) ∷ [])
 
 -- int a[1]; cilk int one(int v) { int x; x = fetch_add(a[0], v); return x; }
 -- cilk int main() { int x, y; x = spawn one(3); y = spawn one(4); sync; print(x + y); print(a[0]); return 0; }
 abbrev pub adds : Program
 adds = program 1 (
     procedure 0 2 (
-        Spawn (Some 0) 1 (number 3 ∷ []) ∷ Spawn (Some 1) 1 (number 4 ∷ []) ∷ Sync ∷
-        Print (Binary op.Add (Local 0) (Local 1)) ∷ Print (Get 0 (number 0)) ∷ Return (number 0) ∷ []) ∷
+    Spawn (Some 0) 1 (number 3 ∷ []) ∷ Spawn (Some 1) 1 (number 4 ∷ []) ∷ Sync ∷
+    Print (Binary op.Add (Local 0) (Local 1)) ∷ Print (Get 0 (number 0)) ∷ Return (number 0) ∷ []) ∷
     procedure 1 2 (Add (Some 1) 0 (number 0) (Local 0) ∷ Return (Local 1) ∷ []) ∷ [])
 
 -- int a[2]; int main() { int x; a[0] = 9223372036854775807; x = fetch_add(a[0], 1); print(x); }
@@ -94,7 +94,7 @@ abbrev pub returns_in_loop : Program
 returns_in_loop = program 0 (
     procedure 0 1 (Spawn (Some 0) 1 [] ∷ Sync ∷ Print (Local 0) ∷ Return (number 0) ∷ []) ∷
     procedure 0 1 (
-        While (number 1) (Then (Assign 0 (Binary op.Add (Local 0) (number 1))) (If (Binary op.Eq (Local 0) (number 3)) (Return (Local 0)) Skip)) ∷ []) ∷ [])
+    While (number 1) (Then (Assign 0 (Binary op.Add (Local 0) (number 1))) (If (Binary op.Eq (Local 0) (number 3)) (Return (Local 0)) Skip)) ∷ []) ∷ [])
 
 -- cilk int seven() { return 7; } cilk int twice() { int x; x = spawn seven(); return x * 2; }
 -- cilk int main() { int x; x = spawn twice(); sync; print(x); return 0; }
@@ -109,7 +109,7 @@ returns_synced = program 0 (
 abbrev pub gives_zero : Program
 gives_zero = program 0 (
     procedure 0 2 (
-        Assign 0 (number 5) ∷ Assign 1 (number 6) ∷ Spawn (Some 0) 1 [] ∷ Sync ∷ Call (Some 1) 2 [] ∷ Print (Local 0) ∷ Print (Local 1) ∷ []) ∷
+    Assign 0 (number 5) ∷ Assign 1 (number 6) ∷ Spawn (Some 0) 1 [] ∷ Sync ∷ Call (Some 1) 2 [] ∷ Print (Local 0) ∷ Print (Local 1) ∷ []) ∷
     procedure 0 0 [] ∷ plain 0 0 [] ∷ [])
 
 -- int input[4]; int main() { int i, s; for (i = 0; i < 4; i++) s += input[i]; print(s); return 0; }
