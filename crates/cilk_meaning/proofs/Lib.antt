@@ -1,3 +1,6 @@
+pub mod Asks
 pub mod Names
 pub mod Resolving
+pub mod Serial
 pub mod Walk
+pub mod Wanting

@@ -1,5 +1,4 @@
--- The generic induction on what instances want: a relation between two meanings that each want keeps holds of an instance with two
--- bounds. An index says below how many answers it holds, and a flag whether a child of the block may be out.
+-- The generic induction on what instances want: a relation that each want keeps holds of an instance with two bounds.
 use Rattle.std.proofs.Common.{◌≡◌, ℕ, zero, suc, ◌≤◌, ◌<◌, List, [], ◌∷◌, Option, Some, None, refl, sym, ap, ◌∙◌, subst, arith}
 use Rattle.std.specs.Prelude.{ℤ, pos, ◌+ℤ◌, ◌==◌, Bool, true, false, not, if◌then◌else◌, Result, Ok, Err, slice_get, slice_set}
 use Rattle.cilk_meaning.specs.declared.ends.TrapKind.{TrapKind}
@@ -10,54 +9,31 @@ use Rattle.cilk_meaning.specs.Resolved.{Expr, Number, Local, Get, Unary, Binary,
 use Rattle.cilk_meaning.specs.Values.{is_zero, exact, negated, decided, operated, word_of}
 use Rattle.cilk_meaning.specs.Wants as want
 use Rattle.cilk_meaning.specs.Wants.{Request, Want, Returns, Traps, Deposit, Answer}
-
--- requests that Done answers and that leave the block as it is
-abbrev pub is_quiet : Request → Bool
-is_quiet (want.Read word) = false
-is_quiet (want.Write word value) = true
-is_quiet (want.Add word addend) = false
-is_quiet (want.Print value) = true
-is_quiet (want.Spawn target procedure arguments) = false
-is_quiet want.Sync = false
-is_quiet want.Call = true
-is_quiet want.LoopTurn = true
-
--- each want keeps the relation
-pub record IsKept (R : Bool → ℕ → Meaning → Meaning → Type 0) : Type 0 where
-  pub none : (out : Bool) (g h : Meaning) → R out 0 g h
-  pub less : (out : Bool) (k m : ℕ) (g h : Meaning) → k ≤ m → R out m g h → R out k g h
-  pub settled : (k : ℕ) (g h : Meaning) → R true k g h → R false k g h
-  pub traps : (out : Bool) (k : ℕ) (kind : TrapKind) → R out k (ends (Traps kind)) (ends (Traps kind))
-  pub returns : (k : ℕ) (v : ℤ) → R false k (ends (Returns v)) (ends (Returns v))
-  pub reads : (out : Bool) (k word : ℕ) (g h : ℤ → Meaning) → ((v : ℤ) → R out k (g v) (h v)) → R out (suc k) (ask (want.Read word) (on_value g)) (ask (want.Read word) (on_value h))
-  pub adds : (out : Bool) (k word : ℕ) (addend : ℤ) (g h : ℤ → Meaning) → ((v : ℤ) → R out k (g v) (h v)) → R out (suc k) (ask (want.Add word addend) (on_value g)) (ask (want.Add word addend) (on_value h))
-  pub quiets : (out : Bool) (k : ℕ) (request : Request) (g h : Meaning) → is_quiet request ≡ true → R out k g h → R out (suc k) (ask request (on_done g)) (ask request (on_done h))
-  pub spawns : (out : Bool) (k : ℕ) (target : Option ℕ) (procedure : ℕ) (arguments : List ℤ) (g h : Meaning) → R true k g h →
-      R out (suc k) (ask (want.Spawn target procedure arguments) (on_done g)) (ask (want.Spawn target procedure arguments) (on_done h))
-  pub syncs : (out : Bool) (k : ℕ) (g h : List Deposit → Meaning) → ((d : List Deposit) → R false k (g d) (h d)) → R out (suc k) (ask want.Sync (on_children g)) (ask want.Sync (on_children h))
+use Rattle.cilk_meaning.proofs.Asks.{IsKept, is_quiet, read_follows, add_follows, sync_follows, spawn_done, done_follows, quiet_follows}
 
 module _ (R : Bool → ℕ → Meaning → Meaning → Type 0) (kept : IsKept R) where
   -- what follows a request has one answer less, and the same index serves
   read_at : (out : Bool) (k word : ℕ) (g h : ℤ → Meaning) → ((v : ℤ) → R out k (g v) (h v)) → R out k (ask (want.Read word) (on_value g)) (ask (want.Read word) (on_value h))
   read_at out zero word g h r = kept.none out _ _
-  read_at out (suc k) word g h r = kept.reads out k word g h (λ v. kept.less out k (suc k) (g v) (h v) (omega arith) (r v))
+  read_at out (suc k) word g h r = kept.asks out k (want.Read word) _ _ (read_follows R out k word g h (λ v. kept.less out k (suc k) (g v) (h v) (omega arith) (r v)))
 
   add_at : (out : Bool) (k word : ℕ) (addend : ℤ) (g h : ℤ → Meaning) → ((v : ℤ) → R out k (g v) (h v)) → R out k (ask (want.Add word addend) (on_value g)) (ask (want.Add word addend) (on_value h))
   add_at out zero word addend g h r = kept.none out _ _
-  add_at out (suc k) word addend g h r = kept.adds out k word addend g h (λ v. kept.less out k (suc k) (g v) (h v) (omega arith) (r v))
+  add_at out (suc k) word addend g h r = kept.asks out k (want.Add word addend) _ _ (add_follows R out k word addend g h (λ v. kept.less out k (suc k) (g v) (h v) (omega arith) (r v)))
 
   quiet_at : (out : Bool) (k : ℕ) (request : Request) (g h : Meaning) → is_quiet request ≡ true → R out k g h → R out k (ask request (on_done g)) (ask request (on_done h))
   quiet_at out zero request g h is r = kept.none out _ _
-  quiet_at out (suc k) request g h is r = kept.quiets out k request g h is (kept.less out k (suc k) g h (omega arith) r)
+  quiet_at out (suc k) request g h is r = kept.asks out k request _ _ (quiet_follows R out k request g h is (kept.less out k (suc k) g h (omega arith) r))
 
   spawn_at : (out : Bool) (k : ℕ) (target : Option ℕ) (procedure : ℕ) (arguments : List ℤ) (g h : Meaning) → R true k g h →
       R out k (ask (want.Spawn target procedure arguments) (on_done g)) (ask (want.Spawn target procedure arguments) (on_done h))
   spawn_at out zero target procedure arguments g h r = kept.none out _ _
-  spawn_at out (suc k) target procedure arguments g h r = kept.spawns out k target procedure arguments g h (kept.less true k (suc k) g h (omega arith) r)
+  spawn_at out (suc k) target procedure arguments g h r = kept.asks out k (want.Spawn target procedure arguments) _ _
+      (done_follows R out k (want.Spawn target procedure arguments) g h (spawn_done R target procedure arguments) (kept.less true k (suc k) g h (omega arith) r))
 
   sync_at : (out : Bool) (k : ℕ) (g h : List Deposit → Meaning) → ((d : List Deposit) → R false k (g d) (h d)) → R out k (ask want.Sync (on_children g)) (ask want.Sync (on_children h))
   sync_at out zero g h r = kept.none out _ _
-  sync_at out (suc k) g h r = kept.syncs out k g h (λ d. kept.less false k (suc k) (g d) (h d) (omega arith) (r d))
+  sync_at out (suc k) g h r = kept.asks out k want.Sync _ _ (sync_follows R out k g h (λ d. kept.less false k (suc k) (g d) (h d) (omega arith) (r d)))
 
   -- what holds where a child may be out holds where none is
   weak : (out : Bool) (k : ℕ) (g h : Meaning) → R true k g h → R out k g h
@@ -114,9 +90,9 @@ module _ (R : Bool → ℕ → Meaning → Meaning → Type 0) (kept : IsKept R)
     turns_at (suc k) (suc m) zero le lm ln l g h r = absurd (omega arith)
     turns_at (suc k) (suc m) (suc n) le lm ln l g h r =
         let below : (l : Locals) → R true k (g l) (h l) = λ l. kept.less true k (suc k) (g l) (h l) (omega arith) (r l) in
-        kept.quiets true k want.LoopTurn _ _ refl
+        kept.asks true k want.LoopTurn _ _ (quiet_follows R true k want.LoopTurn _ _ refl
             (condition_at k (omega arith) l _ _ (λ v. if_at true k (is_zero v) _ _ _ _ (below l)
-            (body_at k (omega arith) l _ _ (λ after. turns_at k m n (omega arith) (omega arith) (omega arith) after g h below))))
+            (body_at k (omega arith) l _ _ (λ after. turns_at k m n (omega arith) (omega arith) (omega arith) after g h below)))))
 
   -- two plain calls that keep the relation
   abbrev pub Calls : ℕ → Calling → Calling → Type 0
@@ -180,10 +156,10 @@ module _ (R : Bool → ℕ → Meaning → Meaning → Type 0) (kept : IsKept R)
     calls_at zero n opened most lm ln (suc k) le f vs g h r = absurd (omega arith)
     calls_at (suc m) zero opened most lm ln (suc k) le f vs g h r = absurd (omega arith)
     calls_at (suc m) (suc n) opened most lm ln (suc k) le f vs g h r =
-        limited_at true (suc k) limits.calls opened _ _ (kept.quiets true k want.Call _ _ refl
+        limited_at true (suc k) limits.calls opened _ _ (kept.asks true k want.Call _ _ (quiet_follows R true k want.Call _ _ refl
             (entered_at true k (calls limits program depth m (suc opened)) (calls limits program depth n (suc opened))
             (calls_at m n (suc opened) k (omega arith) (omega arith)) m n (omega arith) (omega arith) (slice_get program.functions f) vs g h
-            (leaves_on (slice_get program.functions f) k g h (λ v. kept.less true k (suc k) (g v) (h v) (omega arith) (r v)))))
+            (leaves_on (slice_get program.functions f) k g h (λ v. kept.less true k (suc k) (g v) (h v) (omega arith) (r v))))))
 
     -- The relation holds of an instance of a `cilk` procedure, with two bounds, and of any instance where it holds of every return.
     pub instance_at : (m n most : ℕ) → most ≤ m → most ≤ n → (f : ℕ) (vs : List ℤ) → Leaves false (slice_get program.functions f) most (λ v. ends (Returns v)) (λ v. ends (Returns v)) →

@@ -4,6 +4,7 @@ use Rattle.std.specs.List.{All, last_or}
 use Rattle.cilk_meaning.specs.Instance.{wants}
 use Rattle.cilk_meaning.specs.Resolved.{Function, Program}
 use Rattle.cilk_meaning.specs.Values.{fits}
+use Rattle.cilk_meaning.specs.Wants as wanted
 use Rattle.cilk_meaning.specs.Wants.{Request, Read, Add, Spawn, Sync, Call, LoopTurn, Want, Asks, Returns, Traps, Deposit, Answer, Value, Children, Done}
 
 -- what an instance wants after some answers
@@ -64,32 +65,32 @@ pub record AreArguments (program : Program) (procedure : ℕ) (arguments : List 
   pub is_count : length arguments ≡ function.params
   pub are_values : All IsValue arguments
 
-abbrev pub IsValued : Answer → Type 0
-IsValued (Value value) = IsValue value
-IsValued (Children deposits) = ⊥
-IsValued Done = ⊥
+-- it has values alone
+abbrev pub HasValues : Answer → Type 0
+HasValues (Value value) = IsValue value
+HasValues (Children deposits) = All (λ (deposit : Deposit). IsValue deposit.1) deposits
+HasValues Done = Unit {0}
 
--- a value for each child of the block, to its target
+-- it has one value for each child of the block, to its target
 abbrev pub IsOfBlock : Block → Answer → Type 0
-IsOfBlock block (Value value) = ⊥
-IsOfBlock block (Children deposits) = (map (λ (deposit : Deposit). deposit.0) deposits ≡ block) × All (λ (deposit : Deposit). IsValue deposit.1) deposits
-IsOfBlock block Done = ⊥
+IsOfBlock block (Value value) = Unit {0}
+IsOfBlock block (Children deposits) = map (λ (deposit : Deposit). deposit.0) deposits ≡ block
+IsOfBlock block Done = Unit {0}
 
 -- the answer is one that the request may get where these children are out
-abbrev pub Fits : Block → Request → Answer → Type 0
-Fits block (Read word) answer = IsValued answer
-Fits block (Add word addend) answer = IsValued answer
-Fits block Sync answer = IsOfBlock block answer
-Fits block _ answer = answer ≡ Done
+pub record Fits (block : Block) (request : Request) (answer : Answer) : Type 0 where
+  pub suits : wanted.suits request answer ≡ true
+  pub values : HasValues answer
+  pub children : IsOfBlock block answer
 
--- each want is answered so
+-- Each want is answered so, and behind the end nothing is answered.
 abbrev pub AllFit : Block → List Want → List Answer → Type 0
 AllFit block (Asks request ∷ wants) (answer ∷ answers) = Fits block request answer × AllFit (block_after request block) wants answers
 AllFit block (Asks request ∷ wants) [] = Unit {0}
 AllFit block (Returns value ∷ wants) answers = answers ≡ []
 AllFit block (Traps kind ∷ wants) answers = answers ≡ []
-AllFit block [] answers = ⊥
+AllFit block [] answers = Unit {0}
 
--- Answers that an instance may get: each fits what was wanted, and nothing more is answered.
+-- Answers that an instance may get.
 abbrev pub AreFitting : Program → ℕ → ℕ → List ℤ → List Answer → Type 0
 AreFitting program depth procedure arguments answers = AllFit [] (wants program depth procedure arguments answers) answers

@@ -3,6 +3,7 @@ pub mod Cases
 pub mod Elision
 pub mod Ends
 pub mod Instance
+pub mod Laws
 pub mod Locals
 pub mod Resolved
 pub mod Resolving

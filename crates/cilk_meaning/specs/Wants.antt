@@ -1,5 +1,5 @@
 -- What an instance may want, and how it may be answered.
-use Rattle.std.specs.Prelude.{ℕ, ℤ, Option, List}
+use Rattle.std.specs.Prelude.{ℕ, ℤ, Bool, true, false, Option, List}
 use Rattle.cilk_meaning.specs.declared.ends.TrapKind.{TrapKind}
 
 -- What costs one tick when it is answered. A spawn has its target, its procedure and its arguments; a Call is a plain call, and a
@@ -24,9 +24,21 @@ pub data Want : Type 0 where
 abbrev pub Deposit : Type 0
 Deposit = Option ℕ × ℤ
 
--- A read is answered by the word's value and an add by its old one, a sync by what the children of its block give back in the order
--- of their spawns, and every other request by Done.
+-- A read is answered by the word's value and an add by its old one, a sync by what the children of its block give back, in the order of
+-- their spawns, and every other request by Done.
 pub data Answer : Type 0 where
   Value : (value : ℤ) → Answer
   Children : (deposits : List Deposit) → Answer
   Done : Answer
+
+-- the answer is of the kind that the request gets
+abbrev pub suits : Request → Answer → Bool
+suits (Read word) (Value value) = true
+suits (Add word addend) (Value value) = true
+suits Sync (Children deposits) = true
+suits (Write word value) Done = true
+suits (Print value) Done = true
+suits (Spawn target procedure arguments) Done = true
+suits Call Done = true
+suits LoopTurn Done = true
+suits _ _ = false

@@ -4,9 +4,11 @@
 
 mod cases;
 mod ends;
+mod laws;
 
 pub use cases::{
     add_cases, arithmetic_cases, call_cases, instance_cases, limit_cases, log_cases, name_cases,
     order_cases, spawn_cases, test_cases,
 };
 pub use ends::{NodeEnd, TrapKind};
+pub use laws::{always_wants, bound_is_hidden, returns_synced, wants_are_kept};
