@@ -1,9 +1,9 @@
 -- A relation between two meanings that each want keeps: an answer of the right kind leads on, any other to nothing.
-use Rattle.std.proofs.Common.{◌≡◌, ℕ, zero, suc, ◌≤◌, ◌<◌, List, [], ◌∷◌, Option, Some, None, refl}
+use Rattle.std.proofs.Common.{◌≡◌, ℕ, suc, ◌≤◌, List, Option, refl}
 use Rattle.std.specs.Prelude.{ℤ, Bool, true, false}
 use Rattle.cilk_meaning.specs.declared.ends.TrapKind.{TrapKind}
 use Rattle.cilk_meaning.specs.Instance.{Meaning, ends, silent, ask, on_value, on_children, on_done}
-use Rattle.cilk_meaning.specs.Wants.{Request, Read, Write, Add, Print, Spawn, Sync, Call, LoopTurn, Want, Returns, Traps, Deposit, Answer, Value, Children, Done, suits}
+use Rattle.cilk_meaning.specs.Wants.{Request, Read, Write, Add, Print, Spawn, Sync, Call, LoopTurn, Returns, Traps, Deposit, Answer, Value, Children, Done, suits}
 
 -- requests that Done answers and that leave the block as it is
 abbrev pub is_quiet : Request → Bool

@@ -1,4 +1,5 @@
 pub mod Asks
+pub mod Keeps
 pub mod Names
 pub mod Resolving
 pub mod Serial

@@ -1,7 +1,7 @@
 -- The service of the instances is the serial elision: with so many ticks left, serving an instance is its run.
-use Rattle.std.proofs.Common.{◌≡◌, ℕ, zero, suc, ◌+◌, ◌<◌, ◌≤◌, List, [], ◌∷◌, ◌++◌, length, Option, Some, None, refl, sym, ap, ◌∙◌, subst, arith}
+use Rattle.std.proofs.Common.{◌≡◌, ℕ, zero, suc, ◌<◌, ◌≤◌, List, [], ◌∷◌, ◌++◌, length, Option, Some, None, refl, arith}
 use Rattle.std.specs.Prelude.{ℤ, pos, ◌+ℤ◌, ◌==◌, Bool, true, false, if◌then◌else◌, Result, Ok, Err, slice_get, slice_set}
-use Rattle.cilk_meaning.specs.declared.ends.NodeEnd.TheVariants.{Finished, Trapped, Budget}
+use Rattle.cilk_meaning.specs.declared.ends.NodeEnd.TheVariants.{Finished, Trapped}
 use Rattle.cilk_meaning.specs.declared.ends.TrapKind.{TrapKind}
 use Rattle.cilk_meaning.specs.declared.ends.TrapKind.TheVariants.{TooDeep}
 use Rattle.cilk_meaning.specs.Elision as serial
@@ -10,21 +10,21 @@ use Rattle.cilk_meaning.specs.Instance as source
 use Rattle.cilk_meaning.specs.Instance.{Limits, Meaning, ends, ask, on_value, on_children, on_done}
 use Rattle.cilk_meaning.specs.Locals.{Locals, local_at, assigned, deposited, first_locals, extent_of}
 use Rattle.cilk_meaning.specs.Resolved.{Expr, Number, Local, Get, Unary, Binary, Stmt, Skip, Then, Assign, Put, Print, If, While, Call, Spawn, Add, Sync, Return, Function, Extent, Program}
-use Rattle.cilk_meaning.specs.Serve.{Entry, Parent, serve}
+use Rattle.cilk_meaning.specs.Serve.{Parent, serve, first_state}
 use Rattle.cilk_meaning.specs.Values.{is_zero, exact, negated, decided, operated, word_of}
 use Rattle.cilk_meaning.specs.Wants as want
 use Rattle.cilk_meaning.specs.Wants.{Returns, Traps, Deposit}
-use Rattle.cilk_meaning.specs.World.{World, End, first_world, after_read, after_write, after_add, after_print, after_spawn, after_sync, after_tick}
+use Rattle.cilk_meaning.specs.World.{World, first_world, after_read, after_write, after_add, after_print, after_spawn, after_sync, after_tick}
 
 module _ (limits : Limits) (program : Program) (bound : ℕ) where
-  abbrev start : ℕ → ℕ → List ℤ → Meaning
+  abbrev pub start : ℕ → ℕ → List ℤ → Meaning
   start depth f vs = source.instance limits program depth bound f vs
 
   -- with at most so many ticks left, serving this instance is this run
   abbrev Agrees : ℕ → List Parent → ℕ → Meaning → Run → Type 0
   Agrees most parents row goes run =
       (left : ℕ) → left ≤ most → (kept : List Deposit) (at : World) →
-      serve start left (record { goes = goes; row = row; kept = kept }) parents at ≡ run kept left at
+      serve start left (record { running = record { goes = goes; row = row; kept = kept }; waiting = parents; world = at }) ≡ run kept left at
 
   fewer : (few most : ℕ) (parents : List Parent) (row : ℕ) (goes : Meaning) (run : Run) → few ≤ most → Agrees most parents row goes run → Agrees few parents row goes run
   fewer few most parents row goes run le h left le' kept at = h left (omega arith) kept at
@@ -205,9 +205,7 @@ module _ (limits : Limits) (program : Program) (bound : ℕ) where
 
 -- The service of instances with a bound is the serial elision.
 pub bounded_service : (limits : Limits) (program : Program) (memory : ℕ → ℤ) (budget bound : ℕ) → budget < bound →
-    serve (λ depth f vs. source.instance limits program depth bound f vs) budget
-      (record { goes = source.instance limits program 0 bound program.main []; row = 0; kept = [] }) [] (first_world memory)
-    ≡ serial.elision_within limits program memory budget
+    serve (start limits program bound) budget (first_state (start limits program bound) program.main memory) ≡ serial.elision_within limits program memory budget
 bounded_service limits program memory budget bound lt =
     instance_agrees limits program bound (suc budget) budget (omega arith) lt [] 0 program.main [] (λ v. stop Finished)
     (λ v left le kept at. refl) budget (omega arith) [] (first_world memory)

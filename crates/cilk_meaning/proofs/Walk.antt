@@ -1,5 +1,5 @@
 -- The generic induction on what instances want: a relation that each want keeps holds of an instance with two bounds.
-use Rattle.std.proofs.Common.{◌≡◌, ℕ, zero, suc, ◌≤◌, ◌<◌, List, [], ◌∷◌, Option, Some, None, refl, sym, ap, ◌∙◌, subst, arith}
+use Rattle.std.proofs.Common.{◌≡◌, ℕ, zero, suc, ◌≤◌, List, [], ◌∷◌, Option, Some, None, refl, arith}
 use Rattle.std.specs.Prelude.{ℤ, pos, ◌+ℤ◌, ◌==◌, Bool, true, false, not, if◌then◌else◌, Result, Ok, Err, slice_get, slice_set}
 use Rattle.cilk_meaning.specs.declared.ends.TrapKind.{TrapKind}
 use Rattle.cilk_meaning.specs.declared.ends.TrapKind.TheVariants.{TooDeep}

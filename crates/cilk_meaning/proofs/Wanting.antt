@@ -2,12 +2,11 @@
 use Rattle.std.proofs.Common.{◌≡◌, ◌⊎◌, ℕ, zero, suc, ◌≤◌, ◌<◌, List, [], ◌∷◌, ◌++◌, length, take, Option, Some, None, refl, sym, ap, ◌∙◌, subst, inl, inr, arith, length-append}
 use Rattle.std.specs.Prelude.{ℤ, Bool, true, false, not, slice_get}
 use Rattle.std.specs.List.{last_or}
-use Rattle.cilk_meaning.specs.declared.ends.TrapKind.{TrapKind}
-use Rattle.cilk_meaning.specs.Alone.{Block, block_after, block_of, AllFit, AreFitting, Fits, HasReturned}
-use Rattle.cilk_meaning.specs.Instance.{Limits, limits, Meaning, ends, silent, ask, instance, wants, wants_within}
+use Rattle.cilk_meaning.specs.Alone.{Block, block_after, block_of, AllFit}
+use Rattle.cilk_meaning.specs.Instance.{Limits, limits, Meaning, ends, ask}
 use Rattle.cilk_meaning.specs.Laws.{BoundIsHidden, WantsAreKept, AlwaysWants, ReturnsSynced}
 use Rattle.cilk_meaning.specs.Resolved.{Function, Program}
-use Rattle.cilk_meaning.specs.Wants.{Request, Read, Write, Add, Print, Spawn, Sync, Call, LoopTurn, Want, Asks, Returns, Traps, Deposit, Answer, Value, Children, Done, suits}
+use Rattle.cilk_meaning.specs.Wants.{Request, Read, Write, Add, Print, Spawn, Sync, Call, LoopTurn, Want, Asks, Returns, Traps, Answer, suits}
 use Rattle.cilk_meaning.proofs.Asks.{IsKept, Follows, out_after}
 use Rattle.cilk_meaning.proofs.Walk.{Leaves, instance_at}
 

@@ -1,9 +1,9 @@
 -- Laws of what instances want.
-use Rattle.std.specs.Prelude.{◌≡◌, ℕ, suc, ◌<◌, ℤ, true, Option, Some, List, [], ◌++◌, length, take, slice_get}
-use Rattle.cilk_meaning.specs.Alone.{AreFitting, HasReturned, block_of, want_after}
+use Rattle.std.specs.Prelude.{◌≡◌, ℕ, suc, ◌<◌, ℤ, true, Some, List, [], ◌++◌, length, take, slice_get}
+use Rattle.cilk_meaning.specs.Alone.{AreFitting, HasReturned, block_of}
 use Rattle.cilk_meaning.specs.Instance.{Limits, instance, wants, wants_within}
 use Rattle.cilk_meaning.specs.Resolved.{Function, Program}
-use Rattle.cilk_meaning.specs.Wants.{Answer, Returns}
+use Rattle.cilk_meaning.specs.Wants.{Answer}
 
 -- The bound of an instance does not show: each one above the number of answers gives the same wants.
 abbrev pub BoundIsHidden : Type 0

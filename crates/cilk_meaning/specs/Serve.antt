@@ -1,10 +1,10 @@
--- The depth-first service of instances that are known by their wants alone: the one that runs is answered from the world, its
+-- The depth-first service of instances that are known by their wants alone: the one that runs is answered from the world, and its
 -- parents wait.
 use Rattle.std.specs.Prelude.{ℕ, zero, suc, ℤ, Option, Some, None, List, [], ◌∷◌, ◌++◌, length}
 use Rattle.cilk_meaning.specs.declared.ends.NodeEnd.TheVariants.{Finished, Trapped, Budget}
 use Rattle.cilk_meaning.specs.Instance.{Meaning}
 use Rattle.cilk_meaning.specs.Wants.{Request, Read, Write, Add, Print, Spawn, Sync, Call, LoopTurn, Want, Asks, Returns, Traps, Deposit, Answer, Value, Children, Done}
-use Rattle.cilk_meaning.specs.World.{World, End, after_read, after_write, after_add, after_print, after_spawn, after_sync, after_tick}
+use Rattle.cilk_meaning.specs.World.{World, End, first_world, after_read, after_write, after_add, after_print, after_spawn, after_sync, after_tick}
 
 abbrev pub first_of : List Want → Option Want
 first_of [] = None
@@ -32,70 +32,69 @@ pub record Parent : Type 0 where
   pub entry : Entry
   pub target : Option ℕ
 
--- the parent behind its child's return
+-- the instance that runs, its parents, the nearest first, and the world
+pub record State : Type 0 where
+  pub running : Entry
+  pub waiting : List Parent
+  pub world : World
+
+-- an instance behind an answer, which keeps this for its next sync
+abbrev pub answered : Answer → List Deposit → Entry → Entry
+answered answer kept entry = record { goes = after entry.goes answer; row = entry.row; kept = kept }
+
+-- A request that the running instance goes on from: with this answer, what it keeps then, and the world then.
+abbrev pub replied : Answer → List Deposit → World → State → State
+replied answer kept world state = record { running = answered answer kept state.running; waiting = state.waiting; world = world }
+
+-- a value goes back to the parent, which then runs
 abbrev pub with_child : Parent → ℤ → Entry
 with_child parent v = record { goes = parent.entry.goes; row = parent.entry.row; kept = parent.entry.kept ++ (parent.target, v) ∷ [] }
 
--- an instance behind an answer
-abbrev pub answered : Entry → Answer → Entry
-answered entry answer = record { goes = after entry.goes answer; row = entry.row; kept = entry.kept }
+module _ (start : ℕ → ℕ → List ℤ → Meaning) where
+  -- The state behind a request. A child runs at once; as many instances wait then as it is deep.
+  abbrev pub served : Request → State → State
+  served (Read word) state = replied (Value (state.world.memory word)) state.running.kept (after_read state.running.row word state.world) state
+  served (Write word value) state = replied Done state.running.kept (after_write state.running.row word value state.world) state
+  served (Add word addend) state = replied (Value (state.world.memory word)) state.running.kept (after_add state.running.row word addend state.world) state
+  served (Print value) state = replied Done state.running.kept (after_print state.running.row value state.world) state
+  served (Spawn target procedure arguments) state = record {
+      running = record { goes = start (suc (length state.waiting)) procedure arguments; row = state.world.rows; kept = [] };
+      waiting = record { entry = answered Done state.running.kept state.running; target = target } ∷ state.waiting;
+      world = after_spawn state.running.row procedure arguments state.world }
+  served Sync state = replied (Children state.running.kept) [] (after_sync state.running.row state.world) state
+  served Call state = replied Done state.running.kept (after_tick state.running.row state.world) state
+  served LoopTurn state = replied Done state.running.kept (after_tick state.running.row state.world) state
 
--- what a request is answered with
-abbrev pub answer_to : Request → Entry → World → Answer
-answer_to (Read word) entry world = Value (world.memory word)
-answer_to (Add word addend) entry world = Value (world.memory word)
-answer_to Sync entry world = Children entry.kept
-answer_to _ entry world = Done
+-- What becomes of a request, and so of a state.
+abbrev pub Serving : Type 0
+Serving = Request → State → End
 
--- what it does to the world
-abbrev pub change_by : Request → ℕ → World → World
-change_by (Read word) row world = after_read row word world
-change_by (Write word value) row world = after_write row word value world
-change_by (Add word addend) row world = after_add row word addend world
-change_by (Print value) row world = after_print row value world
-change_by (Spawn target procedure arguments) row world = after_spawn row procedure arguments world
-change_by Sync row world = after_sync row world
-change_by Call row world = after_tick row world
-change_by LoopTurn row world = after_tick row world
+-- what a want leads to, where a value goes back so
+abbrev pub serve_want : Serving → (ℤ → World → End) → Option Want → State → End
+serve_want serving back None state = record { end = Budget; world = state.world }
+serve_want serving back (Some (Asks request)) state = serving request state
+serve_want serving back (Some (Returns v)) state = back v state.world
+serve_want serving back (Some (Traps kind)) state = record { end = Trapped kind; world = state.world }
 
--- what becomes of an instance, its parents and the world
-abbrev pub Service : Type 0
-Service = Entry → List Parent → World → End
+-- A value goes back to the nearest parent; where there is none, `main` has returned.
+abbrev pub serve_return : Serving → List Parent → ℤ → World → End
+serve_return serving [] v world = record { end = Finished; world = world }
+serve_return serving (parent ∷ parents) v world =
+    serve_want serving (serve_return serving parents) (now parent.entry.goes) (record { running = with_child parent v; waiting = parents; world = world })
+
+abbrev pub serve_with : Serving → State → End
+serve_with serving state = serve_want serving (serve_return serving state.waiting) (now state.running.goes) state
 
 module _ (start : ℕ → ℕ → List ℤ → Meaning) where
-  -- a request is answered, and then what follows: a child runs at once, at the depth of its parents' number
-  abbrev pub serve_request : Service → Request → Service
-  serve_request next (Spawn target procedure arguments) entry parents world =
-      next (record { goes = start (suc (length parents)) procedure arguments; row = world.rows; kept = [] })
-      (record { entry = answered entry Done; target = target } ∷ parents)
-      (after_spawn entry.row procedure arguments world)
-  serve_request next Sync entry parents world =
-      next (record { goes = after entry.goes (Children entry.kept); row = entry.row; kept = [] }) parents (after_sync entry.row world)
-  serve_request next request entry parents world =
-      next (answered entry (answer_to request entry world)) parents (change_by request entry.row world)
-
-  -- What a want leads to, where a request is served so and a return goes on so.
-  abbrev pub serve_want : (Request → Service) → (ℤ → World → End) → Option Want → Service
-  serve_want request back None entry parents world = record { end = Budget; world = world }
-  serve_want request back (Some (Asks wanted)) entry parents world = request wanted entry parents world
-  serve_want request back (Some (Returns v)) entry parents world = back v world
-  serve_want request back (Some (Traps kind)) entry parents world = record { end = Trapped kind; world = world }
-
-  -- A value goes back to the parent, which then runs.
-  abbrev pub serve_return : (Request → Service) → List Parent → ℤ → World → End
-  serve_return request [] v world = record { end = Finished; world = world }
-  serve_return request (parent ∷ parents) v world =
-      serve_want request (serve_return request parents) (now parent.entry.goes) (with_child parent v) parents world
-
-  -- the instance that runs, where a request is served so
-  abbrev pub serve_with : (Request → Service) → Service
-  serve_with request entry parents world = serve_want request (serve_return request parents) (now entry.goes) entry parents world
-
   -- a request where so many ticks are left
-  abbrev pub serve_ticked : ℕ → Request → Service
-  serve_ticked zero request entry parents world = record { end = Budget; world = world }
-  serve_ticked (suc left) request entry parents world = serve_request (serve_with (serve_ticked left)) request entry parents world
+  abbrev pub serve_request : ℕ → Serving
+  serve_request zero request state = record { end = Budget; world = state.world }
+  serve_request (suc left) request state = serve_with (serve_request left) (served start request state)
 
-  -- The service of an instance and its parents for so many ticks.
-  abbrev pub serve : ℕ → Service
-  serve left = serve_with (serve_ticked left)
+  -- The service of a state for at most so many ticks.
+  abbrev pub serve : ℕ → State → End
+  serve left = serve_with (serve_request left)
+
+  -- before the first tick of `main`
+  abbrev pub first_state : ℕ → (ℕ → ℤ) → State
+  first_state main memory = record { running = record { goes = start 0 main []; row = 0; kept = [] }; waiting = []; world = first_world memory }
