@@ -49,6 +49,7 @@ module _ (R : Bool → ℕ → Meaning → Meaning → Type 0) where
       fit (Value v) is = r v
       fit (Children d) is = absurd cc
       fit Done is = absurd cc
+
       unfit : (a : Answer) → suits (Read word) a ≡ false → (on_value g a ≡ silent) × (on_value h a ≡ silent)
       unfit (Value v) is = absurd cc
       unfit (Children d) is = (refl, refl)
@@ -61,6 +62,7 @@ module _ (R : Bool → ℕ → Meaning → Meaning → Type 0) where
       fit (Value v) is = r v
       fit (Children d) is = absurd cc
       fit Done is = absurd cc
+
       unfit : (a : Answer) → suits (Add word addend) a ≡ false → (on_value g a ≡ silent) × (on_value h a ≡ silent)
       unfit (Value v) is = absurd cc
       unfit (Children d) is = (refl, refl)
@@ -73,6 +75,7 @@ module _ (R : Bool → ℕ → Meaning → Meaning → Type 0) where
       fit (Value v) is = absurd cc
       fit (Children d) is = r d
       fit Done is = absurd cc
+
       unfit : (a : Answer) → suits Sync a ≡ false → (on_children g a ≡ silent) × (on_children h a ≡ silent)
       unfit (Value v) is = (refl, refl)
       unfit (Children d) is = absurd cc
@@ -91,6 +94,7 @@ module _ (R : Bool → ℕ → Meaning → Meaning → Type 0) where
       fit (Value v) good = let no_value = is.value v in absurd cc
       fit (Children d) good = let no_children = is.children d in absurd cc
       fit Done good = r
+
       unfit : (a : Answer) → suits request a ≡ false → (on_done g a ≡ silent) × (on_done h a ≡ silent)
       unfit (Value v) no_fit = (refl, refl)
       unfit (Children d) no_fit = (refl, refl)

@@ -101,7 +101,7 @@ module _ (limits : Limits) (program : Program) (bound : ℕ) where
     turns_agrees (suc few) (suc m) (suc n) le lm ln h l (suc left) le0 kept at =
         let h' : (l : Locals) → Agrees few parents row (next l) (run l) = λ l. fewer few (suc few) parents row (next l) (run l) (omega arith) (h l) in
         test_agrees few (omega arith) l _ _ (λ v. if_agrees few parents row (is_zero v) _ _ _ _ (h' l)
-            (body_agrees few (omega arith) l _ _ (λ after. turns_agrees few m n (omega arith) (omega arith) (omega arith) h' after))) left (omega arith) kept (after_tick row at)
+        (body_agrees few (omega arith) l _ _ (λ after. turns_agrees few m n (omega arith) (omega arith) (omega arith) h' after))) left (omega arith) kept (after_tick row at)
 
   -- plain calls that agree with any fewer ticks
   abbrev CallAgrees : ℕ → List Parent → ℕ → source.Calling → serial.Calling → Type 0
@@ -119,8 +119,8 @@ module _ (limits : Limits) (program : Program) (bound : ℕ) where
   less_child few most parents child le h few' le' f vs parent below r k = h few' (omega arith) f vs parent below r k
 
   module _ (most : ℕ) (parents : List Parent) (row : ℕ) (shared : List Extent) (is_cilk : Bool) (call : source.Calling) (ecall : serial.Calling)
-           (child : Spawning) (m n : ℕ) (leave : ℤ → Meaning) (eleave : ℤ → Run) (lm : most < m) (ln : most < n)
-           (leave_ok : (v : ℤ) → Agrees most parents row (leave v) (eleave v)) (call_ok : CallAgrees most parents row call ecall) (child_ok : Child most parents child) where
+      (child : Spawning) (m n : ℕ) (leave : ℤ → Meaning) (eleave : ℤ → Run) (lm : most < m) (ln : most < n)
+      (leave_ok : (v : ℤ) → Agrees most parents row (leave v) (eleave v)) (call_ok : CallAgrees most parents row call ecall) (child_ok : Child most parents child) where
     abbrev here : source.Around
     here = record { shared = shared; «cilk» = is_cilk; deepest = limits.depth; depth = length parents; call = call; turns = m; leave = leave }
 
@@ -177,7 +177,7 @@ module _ (limits : Limits) (program : Program) (bound : ℕ) where
   called_agrees : (m n : ℕ) → CallsAgree m n → (opened most : ℕ) (parents : List Parent) (row : ℕ) (child : Spawning) → most < suc m → most < suc n → Child most parents child →
       (few : ℕ) → few ≤ most → (f : ℕ) (vs : List ℤ) (g : ℤ → Meaning) (r : ℤ → Run) → ((v : ℤ) → Agrees few parents row (g v) (r v)) →
       Agrees few parents row (ask want.Call (on_done (source.entered limits program (length parents) m (source.calls limits program (length parents) m (suc opened)) (slice_get program.functions f) vs g)))
-          (tick (after_tick row) (serial.entered limits program n (length parents) row (serial.calls limits program n (suc opened) (length parents) row child) child (slice_get program.functions f) vs r))
+      (tick (after_tick row) (serial.entered limits program n (length parents) row (serial.calls limits program n (suc opened) (length parents) row child) child (slice_get program.functions f) vs r))
   called_agrees m n again opened most parents row child lm ln hchild few le f vs g r h zero le0 kept at = refl
   called_agrees m n again opened most parents row child lm ln hchild few le f vs g r h (suc left) le0 kept at =
       let hc = less_child left most parents child (omega arith) hchild in
@@ -198,7 +198,7 @@ module _ (limits : Limits) (program : Program) (bound : ℕ) where
   instance_agrees zero most ln lb parents row f vs leave h = absurd (omega arith)
   instance_agrees (suc n) most ln lb parents row f vs leave h =
       let child : Child most parents (serial.instance limits program n (suc (length parents))) =
-          λ few le f' vs' parent below r k. instance_agrees n few (omega arith) (omega arith) (parent ∷ parents) below f' vs' r k in
+      λ few le f' vs' parent below r k. instance_agrees n few (omega arith) (omega arith) (parent ∷ parents) below f' vs' r k in
       entered_agrees most parents row (source.calls limits program (length parents) bound 0) (serial.calls limits program (suc n) 0 (length parents) row (serial.instance limits program n (suc (length parents)))) (serial.instance limits program n (suc (length parents))) bound (suc n) lb ln
       (calls_agree bound (suc n) 0 most parents row (serial.instance limits program n (suc (length parents))) lb ln child)
       child (slice_get program.functions f) vs (λ v. ends (Returns v)) leave h

@@ -91,8 +91,8 @@ module _ (R : Bool → ℕ → Meaning → Meaning → Type 0) (kept : IsKept R)
     turns_at (suc k) (suc m) (suc n) le lm ln l g h r =
         let below : (l : Locals) → R true k (g l) (h l) = λ l. kept.less true k (suc k) (g l) (h l) (omega arith) (r l) in
         kept.asks true k want.LoopTurn _ _ (quiet_follows R true k want.LoopTurn _ _ refl
-            (condition_at k (omega arith) l _ _ (λ v. if_at true k (is_zero v) _ _ _ _ (below l)
-            (body_at k (omega arith) l _ _ (λ after. turns_at k m n (omega arith) (omega arith) (omega arith) after g h below)))))
+        (condition_at k (omega arith) l _ _ (λ v. if_at true k (is_zero v) _ _ _ _ (below l)
+        (body_at k (omega arith) l _ _ (λ after. turns_at k m n (omega arith) (omega arith) (omega arith) after g h below)))))
 
   -- two plain calls that keep the relation
   abbrev pub Calls : ℕ → Calling → Calling → Type 0
@@ -157,9 +157,9 @@ module _ (R : Bool → ℕ → Meaning → Meaning → Type 0) (kept : IsKept R)
     calls_at (suc m) zero opened most lm ln (suc k) le f vs g h r = absurd (omega arith)
     calls_at (suc m) (suc n) opened most lm ln (suc k) le f vs g h r =
         limited_at true (suc k) limits.calls opened _ _ (kept.asks true k want.Call _ _ (quiet_follows R true k want.Call _ _ refl
-            (entered_at true k (calls limits program depth m (suc opened)) (calls limits program depth n (suc opened))
-            (calls_at m n (suc opened) k (omega arith) (omega arith)) m n (omega arith) (omega arith) (slice_get program.functions f) vs g h
-            (leaves_on (slice_get program.functions f) k g h (λ v. kept.less true k (suc k) (g v) (h v) (omega arith) (r v))))))
+        (entered_at true k (calls limits program depth m (suc opened)) (calls limits program depth n (suc opened))
+        (calls_at m n (suc opened) k (omega arith) (omega arith)) m n (omega arith) (omega arith) (slice_get program.functions f) vs g h
+        (leaves_on (slice_get program.functions f) k g h (λ v. kept.less true k (suc k) (g v) (h v) (omega arith) (r v))))))
 
     -- The relation holds of an instance of a `cilk` procedure, with two bounds, and of any instance where it holds of every return.
     pub instance_at : (m n most : ℕ) → most ≤ m → most ≤ n → (f : ℕ) (vs : List ℤ) → Leaves false (slice_get program.functions f) most (λ v. ends (Returns v)) (λ v. ends (Returns v)) →

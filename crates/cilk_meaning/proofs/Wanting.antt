@@ -19,7 +19,7 @@ suits_or request a = either (suits request a)
     either false = inr refl
 
 -- an instance whose every return keeps the relation
-leaves_any : (R : Bool → ℕ → Meaning → Meaning → Type 0) (kept : IsKept R) (most : Limits) (program : Program) (depth k : ℕ) → ((out : Bool) (v : ℤ) → R out k (ends (Returns v)) (ends (Returns v))) →
+pub leaves_any : (R : Bool → ℕ → Meaning → Meaning → Type 0) (kept : IsKept R) (most : Limits) (program : Program) (depth k : ℕ) → ((out : Bool) (v : ℤ) → R out k (ends (Returns v)) (ends (Returns v))) →
     (function : Option Function) → Leaves R kept most program depth false function k (λ v. ends (Returns v)) (λ v. ends (Returns v))
 leaves_any R kept most program depth k returns None = returns false
 leaves_any R kept most program depth k returns (Some function) = returns (not function.«cilk»)
@@ -45,7 +45,8 @@ alike_kept = record {
   settled = λ k g h alike. alike;
   traps = λ out k kind answers lt. refl;
   returns = λ k v answers lt. refl;
-  asks = alike_asks }
+  asks = alike_asks;
+}
 
 pub bound_is_hidden : BoundIsHidden
 bound_is_hidden most program depth bound procedure arguments answers lt =
@@ -82,14 +83,15 @@ steady_kept = record {
   settled = λ k g h steady. steady;
   traps = λ out k kind answers more lt. take_one (Traps kind) (length answers);
   returns = λ k v answers more lt. take_one (Returns v) (length answers);
-  asks = steady_asks }
+  asks = steady_asks;
+}
 
 pub wants_are_kept : WantsAreKept
 wants_are_kept most program depth procedure arguments answers more =
     let n = suc (length (answers ++ more)) in
     let le : suc (length answers) ≤ n = simp length-append (omega arith) in
     instance_at Steady steady_kept most program depth n n n (omega arith) (omega arith) procedure arguments
-        (leaves_any Steady steady_kept most program depth n (λ out v a m lt'. take_one (Returns v) (length a)) (slice_get program.functions procedure)) answers more le
+    (leaves_any Steady steady_kept most program depth n (λ out v a m lt'. take_one (Returns v) (length a)) (slice_get program.functions procedure)) answers more le
     ∙ bound_is_hidden most program depth n procedure arguments answers le
 
 -- ---- fitting answers
@@ -112,13 +114,14 @@ lasts_kept = record {
   settled = λ k g h lasts. lasts;
   traps = λ out k kind block answers lt fits. lasts_end answers fits;
   returns = λ k v block answers lt fits. lasts_end answers fits;
-  asks = lasts_asks }
+  asks = lasts_asks;
+}
 
 pub always_wants : AlwaysWants
 always_wants program depth procedure arguments answers fits =
     let n = suc (length answers) in
     instance_at Lasts lasts_kept limits program depth n n n (omega arith) (omega arith) procedure arguments
-        (leaves_any Lasts lasts_kept limits program depth n (λ out v block a lt' f. lasts_end a f) (slice_get program.functions procedure)) [] answers (omega arith) fits
+    (leaves_any Lasts lasts_kept limits program depth n (λ out v block a lt' f. lasts_end a f) (slice_get program.functions procedure)) [] answers (omega arith) fits
 
 -- ---- returns
 
@@ -143,6 +146,7 @@ synced_asks out k request f f' follows block before (a ∷ answers) v lt h no_re
   where
     no_ask : (u : ℤ) → Some (Asks request) ≡ Some (Returns u) → ⊥
     no_ask u clash = cc
+
     next : (suits request a ≡ true) ⊎ (suits request a ≡ false) → block_of (block_after request block) (f a answers) ≡ []
     next (inl good) = follows.fit a good (block_after request block) (Some (Asks request)) answers v (omega arith) (block_on request out block h) no_ask e
     next (inr bad) = absurd (no_ask v (sym (ap (λ (g : Meaning). last_or (Some (Asks request)) (g answers)) (follows.unfit a bad).0) ∙ e))
@@ -154,7 +158,8 @@ synced_kept = record {
   settled = λ k g h synced block before answers v lt empty. synced block before answers v lt (λ (e : true ≡ false). absurd cc);
   traps = λ out k kind block before answers v lt empty no_return e. (let clash : Some (Traps kind) ≡ Some (Returns v) = e in absurd cc);
   returns = λ k u block before answers v lt empty no_return e. empty refl;
-  asks = synced_asks }
+  asks = synced_asks;
+}
 
 synced_leaves : (most : Limits) (program : Program) (depth k procedure : ℕ) (function : Function) → slice_get program.functions procedure ≡ Some function → function.«cilk» ≡ true →
     Leaves Synced synced_kept most program depth false (slice_get program.functions procedure) k (λ v. ends (Returns v)) (λ v. ends (Returns v))
@@ -166,4 +171,4 @@ pub returns_synced : ReturnsSynced
 returns_synced program depth procedure function arguments answers v is cilk e =
     let n = suc (length answers) in
     instance_at Synced synced_kept limits program depth n n n (omega arith) (omega arith) procedure arguments
-        (synced_leaves limits program depth n procedure function is cilk) [] None answers v (omega arith) (λ no. refl) (λ u (clash : None ≡ Some (Returns u)). absurd cc) e
+    (synced_leaves limits program depth n procedure function is cilk) [] None answers v (omega arith) (λ no. refl) (λ u (clash : None ≡ Some (Returns u)). absurd cc) e

@@ -58,9 +58,10 @@ module _ (start : ℕ → ℕ → List ℤ → Meaning) where
   served (Add word addend) state = replied (Value (state.world.memory word)) state.running.kept (after_add state.running.row word addend state.world) state
   served (Print value) state = replied Done state.running.kept (after_print state.running.row value state.world) state
   served (Spawn target procedure arguments) state = record {
-      running = record { goes = start (suc (length state.waiting)) procedure arguments; row = state.world.rows; kept = [] };
-      waiting = record { entry = answered Done state.running.kept state.running; target = target } ∷ state.waiting;
-      world = after_spawn state.running.row procedure arguments state.world }
+    running = record { goes = start (suc (length state.waiting)) procedure arguments; row = state.world.rows; kept = [] };
+    waiting = record { entry = answered Done state.running.kept state.running; target = target } ∷ state.waiting;
+    world = after_spawn state.running.row procedure arguments state.world;
+  }
   served Sync state = replied (Children state.running.kept) [] (after_sync state.running.row state.world) state
   served Call state = replied Done state.running.kept (after_tick state.running.row state.world) state
   served LoopTurn state = replied Done state.running.kept (after_tick state.running.row state.world) state

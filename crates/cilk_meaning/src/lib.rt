@@ -11,4 +11,7 @@ pub use cases::{
     order_cases, spawn_cases, test_cases,
 };
 pub use ends::{NodeEnd, TrapKind};
-pub use laws::{always_wants, bound_is_hidden, returns_synced, wants_are_kept};
+pub use laws::{
+    always_wants, bound_is_hidden, elision_is_service, more_ticks, returns_synced,
+    ticks_are_counted, wants_are_kept,
+};
