@@ -1,0 +1,11 @@
+pub mod Alike
+pub mod Asks
+pub mod Elisions
+pub mod Keeps
+pub mod Living
+pub mod Names
+pub mod Resolving
+pub mod Serial
+pub mod Ticks
+pub mod Walk
+pub mod Wanting

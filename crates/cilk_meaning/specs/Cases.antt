@@ -1,0 +1,6 @@
+pub mod Expressions
+pub mod Instances
+pub mod Limits
+pub mod Names
+pub mod Programs
+pub mod Words

@@ -1,0 +1,46 @@
+-- Laws of what instances want, and of the serial elision.
+use Rattle.std.specs.Prelude.{◌≡◌, ◌≢◌, ℕ, suc, ◌<◌, ◌≤◌, ℤ, true, Some, List, [], ◌++◌, length, take, slice_get}
+use Rattle.cilk_meaning.specs.declared.ends.NodeEnd.TheVariants.{Budget}
+use Rattle.cilk_meaning.specs.Alone.{AreFitting, HasReturned, block_of}
+use Rattle.cilk_meaning.specs.Elision.{elision_within}
+use Rattle.cilk_meaning.specs.Instance.{Limits, instance, wants, wants_within}
+use Rattle.cilk_meaning.specs.Resolved.{Function, Program}
+use Rattle.cilk_meaning.specs.Serve.{serve, first_state}
+use Rattle.cilk_meaning.specs.Wants.{Answer}
+use Rattle.cilk_meaning.specs.World.{ticks_of}
+
+-- The bound of an instance does not show: each one above the number of answers gives the same wants.
+abbrev pub BoundIsHidden : Type 0
+BoundIsHidden = (most : Limits) (program : Program) (depth bound procedure : ℕ) (arguments : List ℤ) (answers : List Answer) → length answers < bound →
+    instance most program depth bound procedure arguments answers ≡ wants_within most program depth procedure arguments answers
+
+-- A want depends on the instance's own answers before it alone: what is answered later changes none of the wants so far.
+abbrev pub WantsAreKept : Type 0
+WantsAreKept = (most : Limits) (program : Program) (depth procedure : ℕ) (arguments : List ℤ) (answers more : List Answer) →
+    take (suc (length answers)) (wants_within most program depth procedure arguments (answers ++ more)) ≡ wants_within most program depth procedure arguments answers
+
+-- While its answers fit, an instance always wants something.
+abbrev pub AlwaysWants : Type 0
+AlwaysWants = (program : Program) (depth procedure : ℕ) (arguments : List ℤ) (answers : List Answer) → AreFitting program depth procedure arguments answers →
+    length (wants program depth procedure arguments answers) ≡ suc (length answers)
+
+-- A `cilk` procedure returns only where it has spawned nothing since its last Sync.
+abbrev pub ReturnsSynced : Type 0
+ReturnsSynced = (program : Program) (depth procedure : ℕ) (function : Function) (arguments : List ℤ) (answers : List Answer) (v : ℤ) →
+    slice_get program.functions procedure ≡ Some function → function.«cilk» ≡ true →
+    HasReturned program depth procedure arguments answers v → block_of [] (wants program depth procedure arguments answers) ≡ []
+
+-- The serial elision is the depth-first service of the instances, with the same end, world and ticks.
+abbrev pub ElisionIsService : Type 0
+ElisionIsService = (most : Limits) (program : Program) (memory : ℕ → ℤ) (budget : ℕ) →
+    elision_within most program memory budget ≡ serve (wants_within most program) budget (first_state (wants_within most program) program.main memory)
+
+-- More ticks change nothing where the elision did not end for want of them.
+abbrev pub MoreTicks : Type 0
+MoreTicks = (most : Limits) (program : Program) (memory : ℕ → ℤ) (few many : ℕ) → few ≤ many → (elision_within most program memory few).end ≢ Budget →
+    elision_within most program memory many ≡ elision_within most program memory few
+
+-- It makes no more ticks than it may, and ends for want of them only where it has made them all.
+abbrev pub TicksAreCounted : Type 0
+TicksAreCounted = (most : Limits) (program : Program) (memory : ℕ → ℤ) (budget : ℕ) →
+    (ticks_of (elision_within most program memory budget) ≤ budget) × ((elision_within most program memory budget).end ≡ Budget → ticks_of (elision_within most program memory budget) ≡ budget)

@@ -1,0 +1,13 @@
+pub mod Alone
+pub mod Cases
+pub mod Elision
+pub mod Ends
+pub mod Instance
+pub mod Laws
+pub mod Locals
+pub mod Resolved
+pub mod Resolving
+pub mod Serve
+pub mod Values
+pub mod Wants
+pub mod World
