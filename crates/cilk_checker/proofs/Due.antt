@@ -5,6 +5,7 @@ use Rattle.std.proofs.lemmas.List.Sums.{sum_by-append}
 use Rattle.std.specs.Option.{option_map, option_or}
 use Rattle.cilk_tree.specs.declared.place.CheckPlace.{CheckPlace}
 use Rattle.cilk_tree.specs.declared.place.CheckPlace.TheVariants.{Whole}
+use Rattle.cilk_tree.specs.declared.rule.Rule.TheVariants.{NoMain}
 use Rattle.cilk_tree.specs.declared.tree.Function.{Function}
 use Rattle.cilk_tree.specs.declared.tree.Program.{Program}
 use Rattle.cilk_tree.specs.Lawful.Rules.{kind_if, kinds_at, lacks_main}
@@ -57,10 +58,10 @@ module _ (program : Program) where
       whole_is = functions_are ∙ ap (λ first. option_or (option_or first of_whole) of_uses) functions
 
       pub whole_tells : lacks_main program ≡ true → Tells (due program) (At 210 Whole)
-      whole_tells e = inr (whole_is ∙ ap (λ b. option_or (option_or (refusal_at Whole (kind_if b 210)) None) of_uses) e)
+      whole_tells e = inr (whole_is ∙ ap (λ b. option_or (option_or (refusal_at Whole (kind_if b NoMain)) None) of_uses) e)
 
       uses_are : lacks_main program ≡ false → due program ≡ of_uses
-      uses_are e = whole_is ∙ ap (λ b. option_or (option_or (refusal_at Whole (kind_if b 210)) None) of_uses) e
+      uses_are e = whole_is ∙ ap (λ b. option_or (option_or (refusal_at Whole (kind_if b NoMain)) None) of_uses) e
 
       pub use_tells : lacks_main program ≡ false → (place : CheckPlace) → first_use 0 program.functions ≡ Some place → Tells (due program) (At 209 place)
       use_tells e place used = inr (uses_are e ∙ ap (option_map (At 209)) used)

@@ -1,5 +1,7 @@
+pub mod LoopSets
 pub mod Arrays
 pub mod Growing
+pub mod Spawning
 pub mod Stacks
 pub mod Turns
 pub mod Summing

@@ -4,8 +4,9 @@ use Rattle.std.proofs.Common.{refl, ap, ◌∙◌, inl, inr}
 use Rattle.std.specs.List.{list_any}
 use Rattle.std.specs.Option.{option_or}
 use Rattle.cilk_tree.specs.Lawful.Flow.{Flow, Site, At, Then, Either, Loop, sites}
-use Rattle.cilk_tree.proofs.LoopSets.{added_by}
-use Rattle.cilk_tree.specs.Lawful.Pending.{Pending, after_head, ends, none, touched, uses_pending}
+use Rattle.cilk_checker.proofs.LoopSets.{added_by}
+use Rattle.cilk_tree.specs.Lawful.Pending.{Pending, after_head, none, touched}
+use Rattle.cilk_checker.specs.Computed.{ends, uses_pending}
 use Rattle.cilk_checker.specs.declared.around.Around.{Around}
 use Rattle.cilk_checker.specs.declared.path.Step.{Step}
 use Rattle.cilk_checker.specs.declared.refusal.CheckRefusal.{CheckRefusal}

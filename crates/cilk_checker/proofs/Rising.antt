@@ -5,12 +5,16 @@ use Rattle.std.specs.List.{list_any}
 use Rattle.std.proofs.lemmas.Bool.{false≢true}
 use Rattle.std.proofs.lemmas.Bool.Decides.{Decides-eqb}
 use Rattle.std.proofs.lemmas.List.{length-append}
-use Rattle.cilk_tree.proofs.LoopSets.{in_either, is_in}
+use Rattle.cilk_checker.proofs.LoopSets.{in_either, is_in}
+use Rattle.cilk_tree.specs.declared.rule.Rule.{Rule}
+use Rattle.cilk_tree.specs.declared.rule.Rule.TheVariants.{DuplicateName, UnknownName, WrongKind, WrongArity, NoValue, SpawnInPlain, CallOfCilk, SpawnOfPlain, NoMain, TooManyWords}
 use Rattle.cilk_tree.specs.declared.tree.Function.{Function}
 use Rattle.cilk_tree.specs.declared.tree.Program.{Program}
 use Rattle.cilk_tree.specs.declared.tree.Shared.{Shared}
+use Rattle.cilk_tree.specs.Rule.{rule_number}
 use Rattle.cilk_tree.specs.Lawful.Flow.{Flow, Site, Nothing, At, Then, Either, Loop, sites}
-use Rattle.cilk_tree.specs.Lawful.Pending.{Pending, both, ends, touched, uses_pending}
+use Rattle.cilk_tree.specs.Lawful.Pending.{Pending, both, touched}
+use Rattle.cilk_checker.specs.Computed.{ends, uses_pending}
 use Rattle.cilk_tree.specs.Lawful.Rules.{kind_if, array_kinds, function_kinds, statement_kinds, array_again, has_too_many_words, function_again, declares_again, uses_unknown, uses_wrong, has_wrong_arity, lacks_value, spawns_in_plain, calls_cilk, spawns_plain}
 use Rattle.cilk_checker.proofs.Numbering.{IsNumbered, numbered_parts}
 
@@ -63,20 +67,20 @@ Rises-joined low middle high xs ys p q r s = record {
           | inr h ↦ (let k = s.above n h in let l = r.below first (first_in (x ∷ xs) first e) in omega (arith, k, l))
         ]
 
-Rises-kind : (b : Bool) (kind : ℕ) → Rises kind (kind + 1) (kind_if b kind)
-Rises-kind true kind = Rises-one kind
-Rises-kind false kind = Rises-none kind (kind + 1)
+Rises-kind : (b : Bool) (broken : Rule) → Rises (rule_number broken) (rule_number broken + 1) (kind_if b broken)
+Rises-kind true broken = Rises-one (rule_number broken)
+Rises-kind false broken = Rises-none (rule_number broken) (rule_number broken + 1)
 
 -- ---- kinds
 
 pub array_kinds_rise : (program : Program) (number : ℕ) (array : Shared) → Rises 201 212 (array_kinds program number array)
-array_kinds_rise program number array = Rises-joined 201 211 212 _ _ (omega arith) (omega arith) (wider (Rises-kind (array_again program number array) 201)) (Rises-kind (has_too_many_words program number) 211)
+array_kinds_rise program number array = Rises-joined 201 211 212 _ _ (omega arith) (omega arith) (wider (Rises-kind (array_again program number array) DuplicateName)) (Rises-kind (has_too_many_words program number) TooManyWords)
   where
     wider : {xs : List ℕ} → Rises 201 202 xs → Rises 201 211 xs
     wider r = record { above = r.above; below = λ n h. (let k = r.below n h in omega (arith, k)); least = r.least }
 
 pub function_kinds_rise : (program : Program) (number : ℕ) (function : Function) → Rises 201 202 (function_kinds program number function)
-function_kinds_rise program number function = Rises-kind (function_again program number function) 201
+function_kinds_rise program number function = Rises-kind (function_again program number function) DuplicateName
 
 pub statement_kinds_rise : (program : Program) (function : Function) (site : Site) → Rises 201 209 (statement_kinds program function site)
 statement_kinds_rise program function site =
@@ -89,17 +93,17 @@ statement_kinds_rise program function site =
     (Rises-joined 201 204 205 _ _ (omega arith) (omega arith)
     (Rises-joined 201 203 204 _ _ (omega arith) (omega arith)
     (Rises-joined 201 202 203 _ _ (omega arith) (omega arith)
-    (Rises-kind (declares_again program at statement) 201)
-    (Rises-kind (uses_unknown program at statement) 202))
-    (Rises-kind (uses_wrong program at statement) 203))
-    (Rises-kind (has_wrong_arity program at statement) 204))
-    (Rises-kind (lacks_value program function at statement) 205))
-    (Rises-kind (spawns_in_plain function statement) 206))
-    (Rises-kind (calls_cilk program at statement) 207))
-    (Rises-kind (spawns_plain program at statement) 208)
+    (Rises-kind (declares_again program at statement) DuplicateName)
+    (Rises-kind (uses_unknown program at statement) UnknownName))
+    (Rises-kind (uses_wrong program at statement) WrongKind))
+    (Rises-kind (has_wrong_arity program at statement) WrongArity))
+    (Rises-kind (lacks_value program function at statement) NoValue))
+    (Rises-kind (spawns_in_plain function statement) SpawnInPlain))
+    (Rises-kind (calls_cilk program at statement) CallOfCilk))
+    (Rises-kind (spawns_plain program at statement) SpawnOfPlain)
 
-pub whole_kinds_rise : (b : Bool) → Rises 210 211 (kind_if b 210)
-whole_kinds_rise b = Rises-kind b 210
+pub whole_kinds_rise : (b : Bool) → Rises 210 211 (kind_if b NoMain)
+whole_kinds_rise b = Rises-kind b NoMain
 
 -- ---- uses
 

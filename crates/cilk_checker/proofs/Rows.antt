@@ -7,7 +7,8 @@ use Rattle.cilk_tree.specs.declared.place.CheckPlace.TheVariants as place
 use Rattle.cilk_tree.specs.declared.tree.Function.{Function}
 use Rattle.cilk_tree.specs.declared.tree.Program.{Program}
 use Rattle.cilk_tree.specs.Lawful.Flow.{flow_of}
-use Rattle.cilk_tree.specs.Lawful.Pending.{none, uses_pending}
+use Rattle.cilk_tree.specs.Lawful.Pending.{none}
+use Rattle.cilk_checker.specs.Computed.{uses_pending}
 use Rattle.cilk_checker.specs.declared.refusal.CheckRefusal.{CheckRefusal}
 use Rattle.cilk_checker.specs.declared.refusal.CheckRefusal.TheVariants.{At}
 use Rattle.cilk_checker.specs.Judged.{first_refusal, first_use, judged_function, judged_functions, judged_row, refusal_at}

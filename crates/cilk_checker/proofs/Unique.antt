@@ -7,7 +7,7 @@ use Rattle.cilk_tree.specs.declared.tree.Program.{Program}
 use Rattle.cilk_tree.specs.Lawful.Lawful.{Breaks, IsCheckRefusal, IsFirstBreach, IsLawful}
 use Rattle.cilk_tree.specs.Lawful.Rules.{kinds_at}
 use Rattle.cilk_checker.proofs.Places.{Before, After, Same, order_of}
-use Rattle.cilk_tree.proofs.LoopSets.{is_in}
+use Rattle.cilk_checker.proofs.LoopSets.{is_in}
 
 module _ (program : Program) where
   none_broken : (kind : ℕ) (place : CheckPlace) → Breaks program kind place → kinds_at program place ≡ [] → ⊥
@@ -34,7 +34,7 @@ module _ (program : Program) where
   one_refusal kind kind2 place place2 (inr p) (inr q) = elim (order_of place place2) [
     | Before lt ↦ absurd (q.no_place_before place lt p.broken)
     | After lt ↦ absurd (p.no_place_before place2 lt q.broken)
-    | Same e ↦ (p.is_209 ∙ sym q.is_209, e)
+    | Same e ↦ (p.of_uses ∙ sym q.of_uses, e)
   ]
 
   pub lawful_is_not_refused : (kind : ℕ) (place : CheckPlace) → IsLawful program → IsCheckRefusal program kind place → ⊥

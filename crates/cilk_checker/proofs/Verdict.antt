@@ -3,14 +3,15 @@ use Rattle.std.specs.Prelude.{◌≡◌, ℕ, ◌+◌, ◌<◌, ◌≤◌, false
 use Rattle.std.proofs.Common.{refl, sym, ap, subst, ◌∙◌, inl, inr, arith}
 use Rattle.std.proofs.lemmas.Bool.{false≢true}
 use Rattle.std.specs.Option.{option_map, option_map_or, option_or}
-use Rattle.cilk_tree.proofs.LoopSets.{UsesPending-uses_pending, is_in, uses_pending-UsesPending}
+use Rattle.cilk_checker.proofs.LoopSets.{UsesPending-uses_pending, is_in, uses_pending-UsesPending}
 use Rattle.cilk_tree.specs.declared.place.CheckPlace.{CheckPlace}
 use Rattle.cilk_tree.specs.declared.place.CheckPlace.TheVariants as place
 use Rattle.cilk_tree.specs.declared.tree.Function.{Function}
 use Rattle.cilk_tree.specs.declared.tree.Program.{Program}
 use Rattle.cilk_tree.specs.Lawful.Flow.{flow_of, sites}
 use Rattle.cilk_tree.specs.Lawful.Lawful.{IsCheckRefusal, IsFirstBreach, IsFirstUse, IsLawful, KeepsRules}
-use Rattle.cilk_tree.specs.Lawful.Pending.{UsesBeforeSync, none, uses_pending}
+use Rattle.cilk_tree.specs.Lawful.Pending.{UsesBeforeSync, none}
+use Rattle.cilk_checker.specs.Computed.{uses_pending}
 use Rattle.cilk_tree.specs.Lawful.Place.{place_lt}
 use Rattle.cilk_tree.specs.Lawful.Rules.{array_kinds, function_kinds, kinds_at, kinds_in, lacks_main, statement_kinds}
 use Rattle.cilk_checker.specs.declared.refusal.CheckRefusal.{CheckRefusal}
@@ -216,7 +217,7 @@ module _ (program : Program) where
   first_use_is : KeepsRules program → (at : CheckPlace) → IsFirstUsing 0 program.functions at → IsFirstUse program 209 at
   first_use_is rules at found = record {
     rules = rules;
-    is_209 = refl;
+    of_uses = refl;
     broken = subst (UsesBeforeSync program) (sym found.there) (found.function, is, UsesPending-uses_pending (flow_of found.function) none found.statement (first_in (uses_pending (flow_of found.function) none) found.statement found.used));
     no_place_before = λ other h. before other (subst (λ it. IsTrue (place_lt other it)) found.there h);
   }

@@ -2,7 +2,8 @@
 use Rattle.std.specs.Prelude.{ℕ, List, [], ◌∷◌, ◌++◌, Some, if◌then◌else◌}
 use Rattle.std.specs.List.{list_any}
 use Rattle.cilk_tree.specs.Lawful.Flow.{Flow}
-use Rattle.cilk_tree.specs.Lawful.Pending.{Pending, none, both, with_local, ends, uses_pending}
+use Rattle.cilk_tree.specs.Lawful.Pending.{Pending, none, both, with_local}
+use Rattle.cilk_checker.specs.Computed.{ends, uses_pending}
 use Rattle.cilk_checker.specs.declared.path.Effect.{Effect}
 use Rattle.cilk_checker.specs.declared.path.Effect.TheVariants.{Keeps, Adds, Empties}
 use Rattle.cilk_checker.specs.declared.path.Path.{Path, fold-Path}

@@ -3,11 +3,14 @@ use Rattle.std.specs.Prelude.{◌≡◌, ◌⊎◌, ℕ, ◌+◌, List, [], ◌�
 use Rattle.std.specs.Option.{option_map, option_or}
 use Rattle.cilk_tree.specs.declared.place.CheckPlace.{CheckPlace}
 use Rattle.cilk_tree.specs.declared.place.CheckPlace.TheVariants as place
+use Rattle.cilk_tree.specs.declared.rule.Rule.TheVariants.{UsedBeforeSync}
 use Rattle.cilk_tree.specs.declared.tree.Function.{Function}
 use Rattle.cilk_tree.specs.declared.tree.Program.{Program}
 use Rattle.cilk_tree.specs.declared.tree.Shared.{Shared}
+use Rattle.cilk_tree.specs.Rule.{rule_number}
 use Rattle.cilk_tree.specs.Lawful.Flow.{Flow, Site, sites, flow_of}
-use Rattle.cilk_tree.specs.Lawful.Pending.{none, uses_pending}
+use Rattle.cilk_tree.specs.Lawful.Pending.{none}
+use Rattle.cilk_checker.specs.Computed.{uses_pending}
 use Rattle.cilk_tree.specs.Lawful.Rules.{array_kinds, function_kinds, statement_kinds, kinds_at}
 use Rattle.cilk_checker.specs.declared.around.Around.{Around}
 use Rattle.cilk_checker.specs.declared.refusal.CheckRefusal.{CheckRefusal}
@@ -68,7 +71,7 @@ first_use number (function ∷ rest) = option_or (option_map (place.Statement nu
 
 -- the refusal of a program: where no other rule is broken, that of a local that is used before a sync
 abbrev pub due : Program → Option CheckRefusal
-due program = option_or (first_refusal (judged_program program)) (option_map (At 209) (first_use 0 program.functions))
+due program = option_or (first_refusal (judged_program program)) (option_map (At (rule_number UsedBeforeSync)) (first_use 0 program.functions))
 
 -- what is judged of a statement
 abbrev pub judged_site : Around → Site → Judged

@@ -1,3 +1,4 @@
+pub mod Computed
 pub mod Judged
 pub mod Meanings
 pub mod Names

@@ -10,10 +10,9 @@ ghost use Rattle.cilk_tree.specs.declared.place.CheckPlace.{CheckPlace};
 
 use crate::functions::check_functions;
 use crate::globals::{Globals, collect_globals};
-use crate::kinds::{NO_MAIN, USED_BEFORE_SYNC};
 use crate::meaning::Meaning;
 use crate::refusal::CheckRefusal;
-use cilk_tree::{CheckPlace, Program};
+use cilk_tree::{CheckPlace, Program, Rule};
 use std::alloc::Global;
 use std::marker::Model;
 
@@ -77,13 +76,13 @@ fn check_rules(alloc: Global, program: &Program) -> Result<(), CheckRefusal>
     if lacks_main(&globals) {
         let place = CheckPlace::Whole;
         return Err(CheckRefusal::At {
-            kind: NO_MAIN,
+            kind: Rule::NoMain.number(),
             place,
         });
     }
     match used {
         Some(place) => Err(CheckRefusal::At {
-            kind: USED_BEFORE_SYNC,
+            kind: Rule::UsedBeforeSync.number(),
             place,
         }),
         None => Ok(()),

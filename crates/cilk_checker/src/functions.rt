@@ -3,7 +3,8 @@ ghost use Rattle.cilk_checker.specs.Names.{value_at};
 ghost use Rattle.cilk_checker.specs.Tables.{IsComplete};
 ghost use Rattle.cilk_tree.specs.declared.place.CheckPlace.TheVariants.{Statement};
 ghost use Rattle.cilk_tree.specs.Lawful.Flow.{flow_of};
-ghost use Rattle.cilk_tree.specs.Lawful.Pending.{none, uses_pending};
+ghost use Rattle.cilk_tree.specs.Lawful.Pending.{none};
+ghost use Rattle.cilk_checker.specs.Computed.{uses_pending};
 ghost use Rattle.cilk_tree.specs.Lawful.Rules.{is_among, repeats};
 ghost use Rattle.cilk_tree.specs.Lawful.Scope.{entry, is_global};
 ghost use Rattle.std.specs.List.{list_any};
@@ -12,14 +13,13 @@ ghost use Rattle.std.specs.Prelude.{◌≡◌, ◌≤◌, ◌||◌, [], false, i
 
 use crate::around::Around;
 use crate::globals::Globals;
-use crate::kinds::DUPLICATE_NAME;
 use crate::locals::Locals;
 use crate::name_map::NameMap;
 use crate::pending::Pending;
 use crate::refusal::CheckRefusal;
 use crate::syncs::find_use;
 use crate::walk::check_list;
-use cilk_tree::{CheckPlace, Name};
+use cilk_tree::{CheckPlace, Name, Rule};
 use std::alloc::{AllocError, Global};
 
 /// Checks the program's functions. Where they break no other rule, the answer is the first place where a local is used
@@ -85,7 +85,7 @@ fn check_function(
     if is_taken || declare_parameters(around, &mut locals)? {
         let place = CheckPlace::Function(around.number);
         return Err(CheckRefusal::At {
-            kind: DUPLICATE_NAME,
+            kind: Rule::DuplicateName.number(),
             place,
         });
     }

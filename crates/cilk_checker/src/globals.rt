@@ -5,11 +5,10 @@ ghost use Rattle.cilk_checker.specs.Tables.{IsComplete};
 ghost use Rattle.cilk_tree.specs.Lawful.Scope.{meaning};
 ghost use Rattle.std.specs.Prelude.{◌≡◌, ◌≤◌, ℕ, List, [], codes, None, IfOk, IfErr, OnOk, length, MatchResult};
 
-use crate::kinds::{DUPLICATE_NAME, TOO_MANY_WORDS};
 use crate::meaning::Meaning;
 use crate::name_map::NameMap;
 use crate::refusal::CheckRefusal;
-use cilk_tree::{CheckPlace, Function, Name, Program, Shared};
+use cilk_tree::{CheckPlace, Function, Name, Program, Rule, Shared};
 use std::alloc::{AllocError, Global};
 
 /// How many words the arrays of a program have together at most.
@@ -78,13 +77,13 @@ fn add_arrays<'a>(
         let place = CheckPlace::Shared(number as u32);
         if global_named(names, &array.name).is_known() {
             return Err(CheckRefusal::At {
-                kind: DUPLICATE_NAME,
+                kind: Rule::DuplicateName.number(),
                 place,
             });
         }
         if array.words > MOST_WORDS - words {
             return Err(CheckRefusal::At {
-                kind: TOO_MANY_WORDS,
+                kind: Rule::TooManyWords.number(),
                 place,
             });
         }

@@ -5,7 +5,6 @@ mod around;
 mod check;
 mod functions;
 mod globals;
-mod kinds;
 mod locals;
 mod meaning;
 mod name_map;

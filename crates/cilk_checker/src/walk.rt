@@ -9,7 +9,7 @@ use crate::around::Around;
 use crate::locals::Locals;
 use crate::path::{Path, Step};
 use crate::refusal::CheckRefusal;
-use crate::rules::least_kind;
+use crate::rules::least_rule;
 use crate::syncs::added_by;
 use crate::uses::{InScope, Uses};
 use cilk_tree::{CheckPlace, Stmt};
@@ -94,7 +94,8 @@ fn check_head<'s, 'a>(
         locals,
     };
     let uses = Uses::of(alloc, names, statement)?;
-    if let Some(kind) = least_kind(around.function, names, statement, &uses) {
+    if let Some(rule) = least_rule(around.function, names, statement, &uses) {
+        let kind = rule.number();
         let place = CheckPlace::Statement(around.number, locals.statement());
         return Err(CheckRefusal::At { kind, place });
     }

@@ -1,6 +1,5 @@
 pub mod Division
 pub mod Lines
-pub mod LoopSets
 pub mod PlainExpressions
 pub mod PlainPrograms
 pub mod PlainStatements

@@ -4,6 +4,7 @@ pub mod Kind
 pub mod Lawful
 pub mod Levels
 pub mod Lexeme
+pub mod Rule
 pub mod Size
 pub mod Spelling
 pub mod Sugar

@@ -8,6 +8,7 @@ mod kind;
 mod name;
 mod place;
 mod printing;
+mod rule;
 mod token;
 mod tree;
 
@@ -17,5 +18,6 @@ pub use kind::Kind;
 pub use name::Name;
 pub use place::CheckPlace;
 pub use printing::print_program;
+pub use rule::Rule;
 pub use token::{Keyword, Placed, Sign, Token};
 pub use tree::{BinaryOp, Expr, Function, Program, Shared, Stmt, UnaryOp};

@@ -2,7 +2,9 @@
 use Rattle.std.specs.Prelude.{◌≡◌, ◌⊎◌, ℕ, ◌≤◌, ◌==◌, IsTrue, []}
 use Rattle.std.specs.List.{list_any}
 use Rattle.cilk_tree.specs.declared.place.CheckPlace.{CheckPlace}
+use Rattle.cilk_tree.specs.declared.rule.Rule.TheVariants.{UsedBeforeSync}
 use Rattle.cilk_tree.specs.declared.tree.Program.{Program}
+use Rattle.cilk_tree.specs.Rule.{rule_number}
 use Rattle.cilk_tree.specs.Lawful.Pending.{UsesBeforeSync}
 use Rattle.cilk_tree.specs.Lawful.Place.{place_lt}
 use Rattle.cilk_tree.specs.Lawful.Rules.{kinds_at}
@@ -29,7 +31,7 @@ pub record IsFirstBreach (program : Program) (kind : ℕ) (place : CheckPlace) :
 -- only 209 is broken, and this is the least place where it is
 pub record IsFirstUse (program : Program) (kind : ℕ) (place : CheckPlace) : Type 0 where
   pub rules : KeepsRules program
-  pub is_209 : kind ≡ 209
+  pub of_uses : kind ≡ rule_number UsedBeforeSync
   pub broken : UsesBeforeSync program place
   pub no_place_before : (other : CheckPlace) → IsTrue (place_lt other place) → ¬ UsesBeforeSync program other
 

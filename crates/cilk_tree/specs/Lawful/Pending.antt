@@ -1,5 +1,5 @@
 -- The rule 209: a local that a spawn gives its value to is used before a sync, on some path.
-use Rattle.std.specs.Prelude.{◌≡◌, ◌⊎◌, ℕ, Bool, false, ◌||◌, ◌==◌, IsTrue, List, [], ◌∷◌, ◌++◌, Option, Some, None, slice_get, if◌then◌else◌, option_and_then}
+use Rattle.std.specs.Prelude.{◌≡◌, ◌⊎◌, ℕ, Bool, false, ◌||◌, ◌==◌, IsTrue, List, [], ◌∷◌, Option, Some, None, slice_get, option_and_then}
 use Rattle.std.specs.List.{filter_map, list_any}
 use Rattle.cilk_tree.specs.declared.place.CheckPlace.{CheckPlace}
 use Rattle.cilk_tree.specs.declared.place.CheckPlace.TheVariants as place
@@ -81,20 +81,3 @@ UsesBeforeSync program (place.Function number) = ⊥
 UsesBeforeSync program (place.Statement number statement) =
     (function : Function) × (slice_get program.functions number ≡ Some function) × UsesPending (flow_of function) none statement
 UsesBeforeSync program place.Whole = ⊥
-
--- The same by computing: the set after a flow. One turn reaches a loop's set, since a flow keeps all that it is given or nothing,
--- and what it adds does not depend on that.
-abbrev pub ends : Flow → Pending → Pending
-ends Nothing before = before
-ends (At site) before = after_head site.point.scope site.head before
-ends (Then first second) before = ends second (ends first before)
-ends (Either met unmet) before = both (ends met before) (ends unmet before)
-ends (Loop turn) before = both before (ends turn before)
-
--- and the numbers of the statements that use a pending local
-abbrev pub uses_pending : Flow → Pending → List ℕ
-uses_pending Nothing before = []
-uses_pending (At site) before = if list_any before (touched site.point site.head) then site.point.statement ∷ [] else []
-uses_pending (Then first second) before = uses_pending first before ++ uses_pending second (ends first before)
-uses_pending (Either met unmet) before = uses_pending met before ++ uses_pending unmet before
-uses_pending (Loop turn) before = uses_pending turn (both before (ends turn before))

@@ -5,6 +5,8 @@ use Rattle.std.specs.Option.{option_map_or}
 use Rattle.std.specs.Str.{bytes_eq}
 use Rattle.cilk_tree.specs.declared.place.CheckPlace.{CheckPlace}
 use Rattle.cilk_tree.specs.declared.place.CheckPlace.TheVariants as place
+use Rattle.cilk_tree.specs.declared.rule.Rule.{Rule}
+use Rattle.cilk_tree.specs.declared.rule.Rule.TheVariants as rule
 use Rattle.cilk_tree.specs.declared.tree.Expr.{Expr, fold-Expr}
 use Rattle.cilk_tree.specs.declared.tree.Expr.TheOpen as layer
 use Rattle.cilk_tree.specs.declared.tree.Expr.TheOpen.{Expr-F}
@@ -12,6 +14,7 @@ use Rattle.cilk_tree.specs.declared.tree.Function.{Function}
 use Rattle.cilk_tree.specs.declared.tree.Program.{Program}
 use Rattle.cilk_tree.specs.declared.tree.Shared.{Shared}
 use Rattle.cilk_tree.specs.declared.tree.Stmt.TheOpen as head
+use Rattle.cilk_tree.specs.Rule.{rule_number}
 use Rattle.cilk_tree.specs.Lawful.Flow.{Head, Site, sites, flow_of}
 use Rattle.cilk_tree.specs.Lawful.Scope.{Point, Meaning, Unknown, Variable, Array, Procedure, meaning, is_known, is_global}
 
@@ -179,32 +182,32 @@ has_too_many_words program number = nat_lt most_shared_words (sum_by (λ array. 
 abbrev pub lacks_main : Program → Bool
 lacks_main program = not (is_function (λ function. length function.params == 0) (meaning program [] (codes "main")))
 
--- the kind, where its rule is broken
-abbrev pub kind_if : Bool → ℕ → List ℕ
-kind_if true kind = kind ∷ []
-kind_if false kind = []
+-- the number of the rule, where it is broken
+abbrev pub kind_if : Bool → Rule → List ℕ
+kind_if true broken = rule_number broken ∷ []
+kind_if false broken = []
 
 -- the kinds that are broken at an array, ascending
 abbrev pub array_kinds : Program → ℕ → Shared → List ℕ
-array_kinds program number array = kind_if (array_again program number array) 201 ++ kind_if (has_too_many_words program number) 211
+array_kinds program number array = kind_if (array_again program number array) rule.DuplicateName ++ kind_if (has_too_many_words program number) rule.TooManyWords
 
 -- those at a function
 abbrev pub function_kinds : Program → ℕ → Function → List ℕ
-function_kinds program number function = kind_if (function_again program number function) 201
+function_kinds program number function = kind_if (function_again program number function) rule.DuplicateName
 
 -- those at a statement
 abbrev pub statement_kinds : Program → Function → Site → List ℕ
 statement_kinds program function site =
     let at = site.point in
     let statement = site.head in
-    kind_if (declares_again program at statement) 201 ++
-    kind_if (uses_unknown program at statement) 202 ++
-    kind_if (uses_wrong program at statement) 203 ++
-    kind_if (has_wrong_arity program at statement) 204 ++
-    kind_if (lacks_value program function at statement) 205 ++
-    kind_if (spawns_in_plain function statement) 206 ++
-    kind_if (calls_cilk program at statement) 207 ++
-    kind_if (spawns_plain program at statement) 208
+    kind_if (declares_again program at statement) rule.DuplicateName ++
+    kind_if (uses_unknown program at statement) rule.UnknownName ++
+    kind_if (uses_wrong program at statement) rule.WrongKind ++
+    kind_if (has_wrong_arity program at statement) rule.WrongArity ++
+    kind_if (lacks_value program function at statement) rule.NoValue ++
+    kind_if (spawns_in_plain function statement) rule.SpawnInPlain ++
+    kind_if (calls_cilk program at statement) rule.CallOfCilk ++
+    kind_if (spawns_plain program at statement) rule.SpawnOfPlain
 
 -- those at the statement of this number in preorder
 abbrev pub kinds_in : Program → ℕ → Function → List ℕ
@@ -215,4 +218,4 @@ abbrev pub kinds_at : Program → CheckPlace → List ℕ
 kinds_at program (place.Shared number) = option_map_or (array_kinds program number) (slice_get program.shared number) []
 kinds_at program (place.Function number) = option_map_or (function_kinds program number) (slice_get program.functions number) []
 kinds_at program (place.Statement number statement) = option_map_or (kinds_in program statement) (slice_get program.functions number) []
-kinds_at program place.Whole = kind_if (lacks_main program) 210
+kinds_at program place.Whole = kind_if (lacks_main program) rule.NoMain

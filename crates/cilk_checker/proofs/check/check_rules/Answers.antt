@@ -25,15 +25,17 @@ returns-in_err-used-clause-err c =
 pub returns-then-lacks_main-clause-err : goal.returns-then-lacks_main-clause-err
 returns-then-lacks_main-clause-err c =
     let same = c.in_ok-globals.ensures.of in
-    whole_tells c.args.program.now c.in_ok-globals.ensures.ok (ap (λ program. first_refusal (judged_functions program 0 program.functions)) (sym same) ∙ c.in_ok-used.ensures.ok)
-    (ap lacks_main (sym same) ∙ sym c.lacks_main.ensures ∙ c.if-lacks_main.true)
+    rw c.number.ensures
+    (whole_tells c.args.program.now c.in_ok-globals.ensures.ok (ap (λ program. first_refusal (judged_functions program 0 program.functions)) (sym same) ∙ c.in_ok-used.ensures.ok)
+    (ap lacks_main (sym same) ∙ sym c.lacks_main.ensures ∙ c.if-lacks_main.true))
 
 pub returns-in-Some-clause-err : goal.returns-in-Some-clause-err
 returns-in-Some-clause-err c =
     let same = c.in_ok-globals.ensures.of in
-    use_tells c.args.program.now c.in_ok-globals.ensures.ok (ap (λ program. first_refusal (judged_functions program 0 program.functions)) (sym same) ∙ c.in_ok-used.ensures.ok)
+    rw c.number-in-Some.ensures
+    (use_tells c.args.program.now c.in_ok-globals.ensures.ok (ap (λ program. first_refusal (judged_functions program 0 program.functions)) (sym same) ∙ c.in_ok-used.ensures.ok)
     (ap lacks_main (sym same) ∙ sym c.lacks_main.ensures ∙ c.if-lacks_main.false)
-    c.in-Some.place (ap (λ program. first_use 0 program.functions) (sym same) ∙ sym c.in_ok-used.ensures.found ∙ c.in-Some.is)
+    c.in-Some.place (ap (λ program. first_use 0 program.functions) (sym same) ∙ sym c.in_ok-used.ensures.found ∙ c.in-Some.is))
 
 pub returns-clause-ok : goal.returns-clause-ok
 returns-clause-ok c =

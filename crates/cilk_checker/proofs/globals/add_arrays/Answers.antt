@@ -16,7 +16,7 @@ returns-then-is_known-clause-answer c =
     let within : loop.number < length shared = subst (λ xs. loop.number < length xs) c.as_slice-array-items.ensures c.loop-number-test.true in
     let item = c.array-item.is ∙ ap (λ xs. get_or xs loop.number array) c.as_slice-array-items.ensures in
     let taken = c.is_known.ensures ∙ ap is_known (c.global_named.ensures ∙ loop.invariant.names array.name) in
-    inr (loop.invariant.left ∙ array_again_stops c.args.program.now loop.number loop.words array c.is_known.result within item loop.invariant.words taken c.if-is_known.true)
+    rw c.number.ensures (inr (loop.invariant.left ∙ array_again_stops c.args.program.now loop.number loop.words array c.is_known.result within item loop.invariant.words taken c.if-is_known.true))
 
 pub returns-then-array-words-clause-answer : goal.returns-then-array-words-clause-answer
 returns-then-array-words-clause-answer c =
@@ -27,7 +27,7 @@ returns-then-array-words-clause-answer c =
     let item = c.array-item.is ∙ ap (λ xs. get_or xs loop.number array) c.as_slice-array-items.ensures in
     let taken = c.is_known.ensures ∙ ap is_known (c.global_named.ensures ∙ loop.invariant.names array.name) in
     let many : most_shared_words < loop.words + array.words = omega arith in
-    inr (loop.invariant.left ∙ too_many_stops c.args.program.now loop.number loop.words array c.is_known.result within item loop.invariant.words taken c.if-is_known.false many)
+    rw c.number-then-array-words.ensures (inr (loop.invariant.left ∙ too_many_stops c.args.program.now loop.number loop.words array c.is_known.result within item loop.invariant.words taken c.if-is_known.false many))
 
 pub loop-number-preserved : goal.loop-number-preserved
 loop-number-preserved c =

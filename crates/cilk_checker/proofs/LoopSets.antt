@@ -6,7 +6,8 @@ use Rattle.std.proofs.lemmas.Bool.{false≢true}
 use Rattle.std.proofs.lemmas.List.Folds.{list_any-append}
 use Rattle.cilk_tree.specs.declared.tree.Stmt.TheOpen as head
 use Rattle.cilk_tree.specs.Lawful.Flow.{Head, Flow, Nothing, At, Then, Either, Loop}
-use Rattle.cilk_tree.specs.Lawful.Pending.{Pending, none, both, IsWithin, IsLeast, with_local, after_head, Ends, ends, UsesPending, uses_pending}
+use Rattle.cilk_tree.specs.Lawful.Pending.{Pending, none, both, IsWithin, IsLeast, with_local, after_head, Ends, UsesPending}
+use Rattle.cilk_checker.specs.Computed.{ends, uses_pending}
 use Rattle.cilk_tree.specs.Lawful.Scope.{Local, local_named}
 
 -- what a flow does to each set: it keeps it or not, and adds what does not depend on it
