@@ -4,7 +4,7 @@ mod checking;
 
 use backer_top::{Ended, SourceRefusal, Status, TrapKind, backer};
 use cilk_reader::{ReadRefusal, read_program};
-use cilk_tree::print_program;
+use cilk_tree::{Name, print_program};
 use outside::{MemShelf, MemSink};
 use std::alloc::{AllocError, Global};
 use std::process::Abort;
@@ -683,6 +683,18 @@ fn sugar(rt: HostRuntime) -> Result<(), Fail> {
     Ok(())
 }
 
+/// A name that is put together byte by byte.
+#[test]
+fn names_of_bytes(rt: HostRuntime) -> Result<(), Fail> {
+    let mut name = Name::new(rt.alloc());
+    assert_eq!(rt; name.items(), b"".as_slice());
+    for byte in b"fib" {
+        name.push(*byte)?;
+    }
+    assert_eq!(rt; name.items(), b"fib".as_slice());
+    Ok(())
+}
+
 #[test]
 fn canonical_programs(rt: HostRuntime) -> Result<(), Fail> {
     let rows = [
@@ -693,6 +705,10 @@ fn canonical_programs(rt: HostRuntime) -> Result<(), Fail> {
         (
             "cilk void f(void) { } int a[1], b[2]; void g(int x, int y) { } cilk int h(int n) { return n; } int c[3];",
             "int a[1];\nint b[2];\nint c[3];\ncilk void f() {\n}\nvoid g(int x, int y) {\n}\ncilk int h(int n) {\n  return n;\n}\n",
+        ),
+        (
+            "int f(int a, int b, int c, int d, int e, int f, int g, int h, int i, int j, int k, int l, int m, int n, int o, int p) { }",
+            "int f(int a, int b, int c, int d, int e, int f, int g, int h, int i, int j, int k, int l, int m, int n, int o, int p) {\n}\n",
         ),
         ("// nothing", ""),
         ("/* a */ /**/ /***/", ""),

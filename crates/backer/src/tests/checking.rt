@@ -1,5 +1,5 @@
 //! The rows of `check`: which programs are lawful, and where each other one breaks which rule first.
-use super::{NOTHING, run};
+use super::{NOTHING, numbered, run};
 use backer_top::{SourceRefusal, Status};
 use cilk_checker::CheckPlace;
 use cilk_reader::read_program;
@@ -279,6 +279,23 @@ fn functions(rt: HostRuntime) -> Result<(), Fail> {
         assert_checked(&rt, rt.alloc(), source, breach)?;
     }
     Ok(())
+}
+
+/// The last of 256 locals is pending as the others are.
+#[test]
+fn the_last_local(rt: HostRuntime) -> Result<(), Fail> {
+    let mut body = numbered(rt.alloc(), "int x", 256, "; ")?;
+    body.push_str("x255 = spawn c(1); x254 = 1; ")?;
+    let mut synced = body.clone()?;
+    body.push_str("print(x255);")?;
+    synced.push_str("sync; print(x255);")?;
+    assert_main(
+        &rt,
+        rt.alloc(),
+        body.as_str(),
+        "209 in function main statement 258",
+    )?;
+    assert_main(&rt, rt.alloc(), synced.as_str(), "")
 }
 
 /// A spawn's target before a sync, in a row and at `if`.
