@@ -50,5 +50,6 @@ with tempfile.TemporaryDirectory() as folder:
     for pages in (64, 16_384, 65_536):
         filling = seconds(program, "fill", pages)
         for command, times, told in WORK:
-            took = max(0, seconds(program, command, pages) - filling)
-            print(f"| {told(pages)} | {pages:,} | {took if times > 16 else took / times:.5f} |")
+            took = seconds(program, command, pages) - filling
+            once = took if command != "clean" else took / times
+            print(f"| {told(pages)} | {pages:,} | {f'{once:.4f}' if once >= 0.0001 else 'under 0.0001'} |")
