@@ -1,10 +1,10 @@
 -- Merging word by word: what the first words have come to, and one word more.
-use Rattle.std.proofs.Common.{◌≡◌, ◌≢◌, ℕ, ℤ, ◌+◌, ◌*◌, ◌<◌, ◌≤◌, ◌^◌, ◌⊎◌, Bool, true, false, List, [], ◌∷◌, zero, suc, Some, None, length, slice_get, slice_set, nat_eq, nat_le, refl, sym, ◌∙◌, ap, subst, arith, bit_and}
+use Rattle.std.proofs.Common.{◌≡◌, ◌≢◌, ℕ, ℤ, ◌+◌, ◌<◌, ◌≤◌, ◌^◌, true, false, List, [], ◌∷◌, zero, suc, Some, length, slice_get, nat_eq, nat_le, refl, sym, ◌∙◌, ap, subst, arith}
 use Rattle.std.proofs.Math.ListN.{set, length-set}
-use Rattle.std.specs.Int.{IsBitSet, bit_at}
+use Rattle.std.specs.Int.{IsBitSet}
 use Rattle.std.proofs.lemmas.Nat.Bits.{and_pow, bit_at_above}
-use Rattle.std.proofs.lemmas.Option.{slice_get_past, slice_get-get_or, get_or_from_slice_get}
-use Rattle.std.proofs.lemmas.List.{get_or-set_same, get_or-set_other}
+use Rattle.std.proofs.lemmas.Option.{slice_get-get_or}
+use Rattle.std.proofs.lemmas.List.{get_or-set_same}
 use Rattle.page_words.specs.Page.{IsMerged}
 
 pub slice_get-set_same : {X : Type 0} (xs : List X) (k : ℕ) (w : X) → k < length xs → slice_get (set xs k w) k ≡ Some w

@@ -1,8 +1,8 @@
-use Rattle.std.proofs.Common.{◌≡◌, ℤ, w64, get_or, to_z, of_z, pos, FitsSigned, slice_get, Some, rules, arith, subst, sym, ◌∙◌}
+use Rattle.std.proofs.Common.{ℤ, w64, get_or, pos, FitsSigned, rules, arith}
 use Rattle.std.specs.Int.{IsBitSet}
 use Rattle.std.proofs.lemmas.Int.{to_z-of_z}
 use Rattle.std.proofs.lemmas.Option.{slice_get-get_or}
-use Rattle.page_words.proofs.Merging.{none_merged, one_more_marked, one_more_left, all_merged, IsMergedBelow}
+use Rattle.page_words.proofs.Merging.{one_more_marked, one_more_left, all_merged}
 use Rattle.page_words.proofs.page.merge_words.Goals as goal
 use Rattle.page_words.proofs.page.merge_words.Goals.{then-mask-bit-ne0, else-mask-bit-ne0}
 

@@ -1,4 +1,3 @@
-use Rattle.std.proofs.Common.{arith}
 use Rattle.std.proofs.lemmas.List.{drop-replicate}
 use Rattle.page_words.proofs.page.Page.from_words.Goals as goal
 
