@@ -5,6 +5,10 @@ use Rattle.std.proofs.lemmas.List.FromFn.{length-range_with_len}
 use Rattle.std.specs.List.{Contains, range_with_len}
 use Rattle.turnstile.specs.Lists.{put_in, union}
 
+-- a list that is a row is as long as the row says
+pub row_length : (xs : List ℕ) (a n : ℕ) → xs ≡ range_with_len a n → length xs ≡ n
+row_length xs a n e = ap (λ (ys : List ℕ). length ys) e ∙ length-range_with_len a n
+
 -- both parts of a row are rows
 pub parts : (xs ys : List ℕ) (f n : ℕ) → xs ++ ys ≡ range_with_len f n → (xs ≡ range_with_len f (length xs)) × (ys ≡ range_with_len (f + length xs) (length ys))
 parts [] ys f n e =
