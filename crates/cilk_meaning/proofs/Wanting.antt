@@ -2,10 +2,10 @@
 use Rattle.std.proofs.Common.{◌≡◌, ◌⊎◌, ℕ, zero, suc, ◌≤◌, ◌<◌, List, [], ◌∷◌, ◌++◌, length, take, Option, Some, None, refl, sym, ap, ◌∙◌, subst, inl, inr, arith, length-append}
 use Rattle.std.specs.Prelude.{ℤ, Bool, true, false, not, slice_get}
 use Rattle.std.specs.List.{last_or}
-use Rattle.cilk_meaning.specs.Alone.{Block, block_after, block_of, AllFit}
-use Rattle.cilk_meaning.specs.Instance.{Limits, limits, Meaning, ends, ask}
+use Rattle.cilk_meaning.specs.Alone.{HasReturned, Block, block_after, block_of, AllFit}
+use Rattle.cilk_meaning.specs.Instance.{wants, Limits, limits, Meaning, ends, ask}
 use Rattle.cilk_meaning.specs.Laws.{BoundIsHidden, WantsAreKept, AlwaysWants, ReturnsSynced}
-use Rattle.cilk_meaning.specs.Parted.{IsParted, IsPlain}
+use Rattle.cilk_meaning.specs.Parted.{CallsPlain, IsParted, IsPlain}
 use Rattle.cilk_meaning.specs.Resolved.{Function, Program}
 use Rattle.cilk_meaning.specs.Wants.{Request, Read, Write, Add, Print, Spawn, Sync, Call, LoopTurn, Want, Asks, Returns, Traps, Answer, suits}
 use Rattle.cilk_meaning.proofs.Asks.{IsKept, IsNoSpawn, Follows, out_after}
@@ -159,8 +159,69 @@ synced_leaves most program depth k procedure function is cilk =
     subst (λ f. Leaves true Synced synced_kept most program depth (no_claim {A = IsParted program}) false f k (λ v. ends (Returns v)) (λ v. ends (Returns v))) (sym is)
     (λ v. subst (λ c. Synced (not c) k (ends (Returns v)) (ends (Returns v))) (sym cilk) (synced_kept.returns k v))
 
-pub returns_synced : ReturnsSynced
-returns_synced program depth procedure function arguments answers v is cilk e =
+some_same : {function other : Function} → Some function ≡ Some other → function ≡ other
+some_same e = cc
+
+-- a `cilk` procedure, of any program
+pub procedure_returns_synced : (program : Program) (depth procedure : ℕ) (function : Function) (arguments : List ℤ) (answers : List Answer) (v : ℤ) →
+    slice_get program.functions procedure ≡ Some function → function.«cilk» ≡ true →
+    HasReturned program depth procedure arguments answers v → block_of [] (wants program depth procedure arguments answers) ≡ []
+procedure_returns_synced program depth procedure function arguments answers v is cilk e =
     let n = suc (length answers) in
     instance_at true Synced synced_kept limits program depth (no_claim {A = IsParted program}) n n n (omega arith) (omega arith) procedure arguments (λ f is_f e'. no_claim {A = IsPlain program f.body} e')
     (synced_leaves limits program depth n procedure function is cilk) [] None answers v (omega arith) (λ no. refl) (λ u (clash : None ≡ Some (Returns u)). absurd cc) e
+
+-- without spawns no block has a child
+abbrev Childless : Bool → ℕ → Meaning → Meaning → Type 0
+Childless out k g h = (answers : List Answer) → length answers < k → block_of [] (g answers) ≡ []
+
+childless_on : (request : Request) → IsNoSpawn request → block_after request [] ≡ []
+childless_on (Read word) no_spawn = refl
+childless_on (Write word value) no_spawn = refl
+childless_on (Add word addend) no_spawn = refl
+childless_on (Print value) no_spawn = refl
+childless_on (Spawn target procedure arguments) no_spawn = absurd no_spawn
+childless_on Sync no_spawn = refl
+childless_on Call no_spawn = refl
+childless_on LoopTurn no_spawn = refl
+
+childless_asks : (out : Bool) (k : ℕ) (request : Request) (f f' : Answer → Meaning) → (false ≡ false → IsNoSpawn request) → Follows Childless request out k f f' → Childless out (suc k) (ask request f) (ask request f')
+childless_asks out k request f f' may follows [] lt = childless_on request (may refl)
+childless_asks out k request f f' may follows (a ∷ answers) lt = ap (λ b. block_of b (f a answers)) (childless_on request (may refl)) ∙ next (suits_or request a)
+  where
+    next : (suits request a ≡ true) ⊎ (suits request a ≡ false) → block_of [] (f a answers) ≡ []
+    next (inl good) = follows.fit a good answers (omega arith)
+    next (inr bad) = ap (λ (g : Meaning). block_of [] (g answers)) (follows.unfit a bad).0
+
+childless_kept : IsKept false Childless
+childless_kept = record {
+  none = λ out g h answers lt. absurd (omega arith);
+  less = λ out k m g h le childless answers lt. childless answers (omega arith);
+  settled = λ k g h childless. childless;
+  traps = λ out k kind answers lt. refl;
+  returns = λ k v answers lt. refl;
+  asks = childless_asks }
+
+-- a plain function whose program is parted, or one that is not there
+plain_childless : (program : Program) → IsParted program → (depth procedure : ℕ) (arguments : List ℤ) (answers : List Answer) → CallsPlain program procedure →
+    block_of [] (wants program depth procedure arguments answers) ≡ []
+plain_childless program parted depth procedure arguments answers plain =
+    let n = suc (length answers) in
+    instance_at false Childless childless_kept limits program depth (λ e. parted) n n n (omega arith) (omega arith) procedure arguments
+        (λ function is e. parted procedure function is (plain function is)) (leaves (slice_get program.functions procedure)) answers (omega arith)
+  where
+    leaves : (function : Option Function) → Leaves false Childless childless_kept limits program depth (λ e. parted) false function (suc (length answers)) (λ v. ends (Returns v)) (λ v. ends (Returns v))
+    leaves None = λ v a lt. refl
+    leaves (Some function) = λ v a lt. refl
+
+pub returns_synced : ReturnsSynced
+returns_synced program parted depth procedure arguments answers v e = by (slice_get program.functions procedure) refl
+  where
+    by : (found : Option Function) → slice_get program.functions procedure ≡ found → block_of [] (wants program depth procedure arguments answers) ≡ []
+    by None is = plain_childless program parted depth procedure arguments answers (λ function is_f. (let clash : None ≡ Some function = sym is ∙ is_f in absurd cc))
+    by (Some function) is = kind function.«cilk» refl
+      where
+        kind : (b : Bool) → function.«cilk» ≡ b → block_of [] (wants program depth procedure arguments answers) ≡ []
+        kind true is_cilk = procedure_returns_synced program depth procedure function arguments answers v is is_cilk e
+        kind false is_plain = plain_childless program parted depth procedure arguments answers
+            (λ other is_other. (let same : function ≡ other = some_same (sym is ∙ is_other) in sym (ap (λ (f : Function). f.«cilk») same) ∙ is_plain))
