@@ -1,6 +1,6 @@
 -- While answers of the right kind come, an instance wants something: so a service comes to an end by a tick that is wanted.
 use Rattle.std.proofs.Common.{◌≡◌, ℕ, zero, suc, ◌+◌, ◌≤◌, List, [], ◌∷◌, length, Option, Some, None, refl, subst, arith}
-use Rattle.std.specs.Prelude.{ℤ, Bool, true, slice_get}
+use Rattle.std.specs.Prelude.{ℤ, Bool, true}
 use Rattle.cilk_meaning.specs.declared.ends.NodeEnd.TheVariants.{Finished, Trapped, Budget}
 use Rattle.cilk_meaning.specs.declared.ends.TrapKind.{TrapKind}
 use Rattle.cilk_meaning.specs.Instance.{Limits, Meaning, ends, instance}

@@ -1,8 +1,8 @@
 -- The plain functions of a lawful source neither spawn nor sync, and call plain functions alone.
-use Rattle.std.proofs.Common.{◌≡◌, ℕ, zero, suc, List, [], ◌∷◌, ◌++◌, map, Option, Some, None, refl, sym, ap, ◌∙◌, subst}
+use Rattle.std.proofs.Common.{◌≡◌, ℕ, suc, List, [], ◌∷◌, ◌++◌, map, Option, Some, None, refl, sym, ap, ◌∙◌, subst}
 use Rattle.std.proofs.lemmas.List.Folds.{find_at}
 use Rattle.std.proofs.lemmas.Option.{slice_get-map}
-use Rattle.std.specs.List.{find, flat_map, list_any, position_or_len}
+use Rattle.std.specs.List.{flat_map, list_any}
 use Rattle.std.specs.Option.{option_map, option_map_or}
 use Rattle.std.specs.Prelude.{Bool, true, false, not, ◌||◌, slice_get}
 use Rattle.std.specs.Str.{bytes_eq}
@@ -16,12 +16,12 @@ use Rattle.cilk_tree.specs.declared.tree.Stmt.TheOpen.{Stmt-F}
 use Rattle.cilk_tree.specs.Lawful.Flow as flow
 use Rattle.cilk_tree.specs.Lawful.Flow.{Site, Part, sites, flow_of, inside, after_all, after_list, part_here, part_of}
 use Rattle.cilk_tree.specs.Lawful.Lawful.{IsLawful}
-use Rattle.cilk_tree.specs.Lawful.Rules.{Use, NeedsFunction, uses, target_uses, variable_use, function_use, head_uses, is_wrong, is_function, is_cilk, declares_again, uses_unknown, uses_wrong, has_wrong_arity, lacks_value, spawns_in_plain, calls_cilk, spawns_plain, kind_if, statement_kinds, kinds_in, kinds_at}
+use Rattle.cilk_tree.specs.Lawful.Rules.{Use, NeedsFunction, uses, target_uses, variable_use, function_use, is_wrong, is_function, is_cilk, declares_again, uses_unknown, uses_wrong, has_wrong_arity, lacks_value, spawns_in_plain, calls_cilk, spawns_plain, kind_if, statement_kinds, kinds_in}
 use Rattle.cilk_tree.specs.Lawful.Scope.{Point, Meaning, Unknown, Variable, Array, Procedure, entry, first_meaning, meaning, is_known, local_named, is_array, function_named}
-use Rattle.cilk_meaning.specs.Laws.{LawfulIsParted}
-use Rattle.cilk_meaning.specs.Parted.{CallsPlain, IsPlain, IsParted}
-use Rattle.cilk_meaning.specs.Resolved.{Function, Program}
-use Rattle.cilk_meaning.specs.Resolving.{Resolving, part_in, in_order, stmt_here, resolving_here, resolving, resolved_function, resolved, function_number}
+use Rattle.cilk_meaning.specs.Laws.{LawfulIsParted, NamesInScope}
+use Rattle.cilk_meaning.specs.Parted.{CallsPlain, IsPlain}
+use Rattle.cilk_meaning.specs.Resolved.{Function}
+use Rattle.cilk_meaning.specs.Resolving.{Resolving, part_in, in_order, resolving_here, resolving, resolved_function, resolved, function_number}
 
 -- ---- lists of sites
 
@@ -84,7 +84,8 @@ clean source function site e =
       known = not_broken (uses_unknown source site.point site.head) 202 (nil_right k1 k2 (nil_left (k1 ++ k2) k3 to3));
       right = not_broken (uses_wrong source site.point site.head) 203 (nil_right (k1 ++ k2) k3 to3);
       inside = not_broken (spawns_in_plain function site.head) 206 (nil_right (k1 ++ k2 ++ k3 ++ k4 ++ k5) k6 to6);
-      calls = not_broken (calls_cilk source site.point site.head) 207 (nil_right (k1 ++ k2 ++ k3 ++ k4 ++ k5 ++ k6) k7 to7) }
+      calls = not_broken (calls_cilk source site.point site.head) 207 (nil_right (k1 ++ k2 ++ k3 ++ k4 ++ k5 ++ k6) k7 to7);
+    }
 
 -- each site of a function of a lawful source does
 all_clean : (source : source_program.Program) → IsLawful source → (number : ℕ) (function : source_function.Function) → slice_get source.functions number ≡ Some function →
@@ -118,7 +119,7 @@ module _ (source : source_program.Program) where
   callee_plain name f named plain function is =
       let found : slice_get source.functions (function_number source name) ≡ Some f = sym (find_at (λ function. bytes_eq function.name name) source.functions) ∙ named in
       let same : Some (resolved_function source f) ≡ Some function =
-          sym (slice_get-map (resolved_function source) source.functions (function_number source name) ∙ ap (λ o. option_map (resolved_function source) o) found) ∙ is in
+      sym (slice_get-map (resolved_function source) source.functions (function_number source name) ∙ ap (λ o. option_map (resolved_function source) o) found) ∙ is in
       let one : resolved_function source f ≡ function = cc in
       sym (ap (λ (g : Function). g.«cilk») one) ∙ plain
 
@@ -130,13 +131,51 @@ module _ (source : source_program.Program) where
       let callee = unknown_or (meaning source point.scope name) known right c.calls in
       callee_plain name callee.0 (procedure_is (local_named point.scope name) (is_array source name) (function_named source name) callee.0 callee.1) callee.2
 
+  -- ---- the scopes are those of the rules
+
+  abbrev IsInScope : Stmt → Type 0
+  IsInScope s = (resolving source s).part ≡ part_of s
+
+  abbrev Scoped : Type 0
+  Scoped = (s : Stmt) × IsInScope s
+
+  scoped_parts : (ys : List Scoped) → map part_in (map (resolving source) (map (λ s. s.0) ys)) ≡ map part_of (map (λ s. s.0) ys)
+  scoped_parts [] = refl
+  scoped_parts (y ∷ ys) = ap (λ p. p ∷ map part_in (map (resolving source) (map (λ s. s.0) ys))) y.1 ∙ ap (λ ps. part_of y.0 ∷ ps) (scoped_parts ys)
+
+  layer_scoped : (y : Stmt-F Scoped) →
+      (resolving_here source (map-Stmt Stmt Resolving (resolving source) (map-Stmt Scoped Stmt (λ s. s.0) y))).part ≡ part_here (map-Stmt Stmt Part part_of (map-Stmt Scoped Stmt (λ s. s.0) y))
+  layer_scoped (head.Declare name) = refl
+  layer_scoped (head.Assign name value) = refl
+  layer_scoped (head.Put name index value) = refl
+  layer_scoped (head.Print value) = refl
+  layer_scoped (head.If condition met unmet) =
+      ap (λ ps. part_here (head.If condition ps (map part_in (map (resolving source) (map (λ (s : Scoped). s.0) unmet))))) (scoped_parts met)
+      ∙ ap (λ ps. part_here (head.If condition (map part_of (map (λ (s : Scoped). s.0) met)) ps)) (scoped_parts unmet)
+  layer_scoped (head.While condition body) = ap (λ ps. part_here (head.While condition ps)) (scoped_parts body)
+  layer_scoped (head.Block body) = ap (λ ps. part_here (head.Block ps)) (scoped_parts body)
+  layer_scoped (head.Call target name arguments) = refl
+  layer_scoped (head.Spawn target name arguments) = refl
+  layer_scoped (head.Add target name index addend) = refl
+  layer_scoped head.Sync = refl
+  layer_scoped (head.Return value) = refl
+
+  pub in_scope : (s : Stmt) → IsInScope s
+  in_scope = ind-Stmt IsInScope (λ x y is. subst (λ z. IsInScope (roll-Stmt z)) is
+      (ap (λ (r : Resolving). r.part) (fold-roll-Stmt Resolving (resolving_here source) (map-Stmt Scoped Stmt (λ s. s.0) y))
+      ∙ layer_scoped y
+      ∙ sym (fold-roll-Stmt Part part_here (map-Stmt Scoped Stmt (λ s. s.0) y))))
+
+  parts_in_scope : (list : List Stmt) → map part_in (map (resolving source) list) ≡ map part_of list
+  parts_in_scope [] = refl
+  parts_in_scope (s ∷ list) = ap (λ p. p ∷ map part_in (map (resolving source) list)) (in_scope s) ∙ ap (λ ps. part_of s ∷ ps) (parts_in_scope list)
+
   -- ---- statements
 
   module _ (caller : source_function.Function) (is_plain : caller.«cilk» ≡ false) where
-    -- names are resolved by the scopes of the rules, and where the sites are clean what comes of the statement is plain
-    record Fits (r : Resolving) (p : Part) : Type 0 where
-      same : r.part ≡ p
-      plain : (point : Point) → Each (IsClean source caller) (sites (p.flow point)) → IsPlain (resolved source) (r.stmt point)
+    -- where the sites of a part are clean, what comes of it is plain
+    abbrev Fits : Resolving → Part → Type 0
+    Fits r p = (point : Point) → Each (IsClean source caller) (sites (p.flow point)) → IsPlain (resolved source) (r.stmt point)
 
     abbrev FitsAt : Stmt → Type 0
     FitsAt s = Fits (resolving source s) (part_of s)
@@ -152,53 +191,38 @@ module _ (source : source_program.Program) where
     all_fit [] = tt
     all_fit (y ∷ ys) = (y.1, all_fit ys)
 
-    parts_same : (list : List Stmt) → AllFit list → map part_in (map (resolving source) list) ≡ map part_of list
-    parts_same [] h = refl
-    parts_same (s ∷ list) h = ap (λ p. p ∷ map part_in (map (resolving source) list)) h.0.same ∙ ap (λ ps. part_of s ∷ ps) (parts_same list h.1)
-
     list_plain : (list : List Stmt) → AllFit list → (point : Point) → Each (IsClean source caller) (sites (flow.in_order (map part_of list) point)) → IsPlain (resolved source) (in_order (map (resolving source) list) point)
     list_plain [] h point c = tt
     list_plain (s ∷ list) h point c =
-        let parts = each_parts (IsClean source caller) (sites ((part_of s).flow point)) (sites (flow.in_order (map part_of list) ((part_of s).after point))) c in
-        (h.0.plain point parts.0,
-         subst (λ (p : Part). IsPlain (resolved source) (in_order (map (resolving source) list) (p.after point))) (sym h.0.same) (list_plain list h.1 ((part_of s).after point) parts.1))
+        let parts = each_parts (IsClean source caller) (sites ((part_of s).flow point)) (sites (flow.in_order (map part_of list) ((part_of s).after point))) c in (
+          h.0 point parts.0,
+          subst (λ (p : Part). IsPlain (resolved source) (in_order (map (resolving source) list) (p.after point))) (sym (in_scope s)) (list_plain list h.1 ((part_of s).after point) parts.1),
+        )
 
     no_spawn : (h : flow.Head) → spawns_in_plain caller h ≡ not caller.«cilk» → spawns_in_plain caller h ≡ false → ⊥
     no_spawn h is e = let clash : not caller.«cilk» ≡ false = sym is ∙ e in let yes_cilk : not caller.«cilk» ≡ true = ap not is_plain in cc
 
     layer_fits : (y : Stmt-F Fitting) →
         Fits (resolving_here source (map-Stmt Stmt Resolving (resolving source) (map-Stmt Fitting Stmt (λ s. s.0) y))) (part_here (map-Stmt Stmt Part part_of (map-Stmt Fitting Stmt (λ s. s.0) y)))
-    layer_fits (head.Declare name) = record { same = refl; plain = λ point c. tt }
-    layer_fits (head.Assign name value) = record { same = refl; plain = λ point c. tt }
-    layer_fits (head.Put name index value) = record { same = refl; plain = λ point c. tt }
-    layer_fits (head.Print value) = record { same = refl; plain = λ point c. tt }
-    layer_fits (head.If condition met unmet) =
-        let mets = map (λ (s : Fitting). s.0) met in
+    layer_fits (head.Declare name) = λ point c. tt
+    layer_fits (head.Assign name value) = λ point c. tt
+    layer_fits (head.Put name index value) = λ point c. tt
+    layer_fits (head.Print value) = λ point c. tt
+    layer_fits (head.If condition met unmet) = λ point c.
+        (let mets = map (λ (s : Fitting). s.0) met in
         let unmets = map (λ (s : Fitting). s.0) unmet in
-        let met_same = parts_same mets (all_fit met) in
-        let unmet_same = parts_same unmets (all_fit unmet) in
-        record {
-          same = ap (λ ps. part_here (head.If condition ps (map part_in (map (resolving source) unmets)))) met_same ∙ ap (λ ps. part_here (head.If condition (map part_of mets) ps)) unmet_same;
-          plain = λ point c.
-              (let parts = each_parts (IsClean source caller) (sites (flow.in_order (map part_of mets) (inside point))) (sites (flow.in_order (map part_of unmets) (after_list (map part_of mets) (inside point)))) c.1 in
-              (list_plain mets (all_fit met) (inside point) parts.0,
-               subst (λ ps. IsPlain (resolved source) (in_order (map (resolving source) unmets) (after_list ps (inside point)))) (sym met_same)
-                   (list_plain unmets (all_fit unmet) (after_list (map part_of mets) (inside point)) parts.1))) }
-    layer_fits (head.While condition body) =
-        let bodies = map (λ (s : Fitting). s.0) body in
-        record {
-          same = ap (λ ps. part_here (head.While condition ps)) (parts_same bodies (all_fit body));
-          plain = λ point c. list_plain bodies (all_fit body) (inside point) c.1 }
-    layer_fits (head.Block body) =
-        let bodies = map (λ (s : Fitting). s.0) body in
-        record {
-          same = ap (λ ps. part_here (head.Block ps)) (parts_same bodies (all_fit body));
-          plain = λ point c. list_plain bodies (all_fit body) (inside point) c.1 }
-    layer_fits (head.Call target name arguments) = record { same = refl; plain = λ point c. call_plain caller point target name arguments c.0 }
-    layer_fits (head.Spawn target name arguments) = record { same = refl; plain = λ point c. no_spawn (head.Spawn target name arguments) refl c.0.inside }
-    layer_fits (head.Add target name index addend) = record { same = refl; plain = λ point c. tt }
-    layer_fits head.Sync = record { same = refl; plain = λ point c. no_spawn head.Sync refl c.0.inside }
-    layer_fits (head.Return value) = record { same = refl; plain = λ point c. tt }
+        let between = after_list (map part_of mets) (inside point) in
+        let parts = each_parts (IsClean source caller) (sites (flow.in_order (map part_of mets) (inside point))) (sites (flow.in_order (map part_of unmets) between)) c.1 in (
+          list_plain mets (all_fit met) (inside point) parts.0,
+          subst (λ ps. IsPlain (resolved source) (in_order (map (resolving source) unmets) (after_list ps (inside point)))) (sym (parts_in_scope mets)) (list_plain unmets (all_fit unmet) between parts.1),
+        ))
+    layer_fits (head.While condition body) = λ point c. list_plain (map (λ (s : Fitting). s.0) body) (all_fit body) (inside point) c.1
+    layer_fits (head.Block body) = λ point c. list_plain (map (λ (s : Fitting). s.0) body) (all_fit body) (inside point) c.1
+    layer_fits (head.Call target name arguments) = λ point c. call_plain caller point target name arguments c.0
+    layer_fits (head.Spawn target name arguments) = λ point c. no_spawn (head.Spawn target name arguments) refl c.0.inside
+    layer_fits (head.Add target name index addend) = λ point c. tt
+    layer_fits head.Sync = λ point c. no_spawn head.Sync refl c.0.inside
+    layer_fits (head.Return value) = λ point c. tt
 
     fits : (s : Stmt) → FitsAt s
     fits = ind-Stmt FitsAt (λ x y is. subst (λ z. FitsAt (roll-Stmt z)) is
@@ -226,6 +250,9 @@ lawful_is_parted source lawful number function is is_plain = by (slice_get sourc
     by None none = absurd (none_clash (sym (slice_get-map (resolved_function source) source.functions number ∙ ap (λ o. option_map (resolved_function source) o) none) ∙ is))
     by (Some caller) found =
         let same : resolved_function source caller ≡ function =
-            some_same (sym (slice_get-map (resolved_function source) source.functions number ∙ ap (λ o. option_map (resolved_function source) o) found) ∙ is) in
+        some_same (sym (slice_get-map (resolved_function source) source.functions number ∙ ap (λ o. option_map (resolved_function source) o) found) ∙ is) in
         let caller_plain : caller.«cilk» ≡ false = ap (λ (f : Function). f.«cilk») same ∙ is_plain in
         subst (λ (f : Function). IsPlain (resolved source) f.body) same (body_plain source caller caller_plain (all_clean source lawful number caller found))
+
+pub names_in_scope : NamesInScope
+names_in_scope = in_scope

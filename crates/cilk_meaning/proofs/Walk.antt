@@ -165,9 +165,9 @@ module _ (may_spawn : Bool) (R : Bool → ℕ → Meaning → Meaning → Type 0
     calls_at (suc m) zero opened most lm ln (suc k) le f vs g h plain r = absurd (omega arith)
     calls_at (suc m) (suc n) opened most lm ln (suc k) le f vs g h plain r =
         limited_at true (suc k) limits.calls opened _ _ (kept.asks true k want.Call _ _ (λ e. tt) (quiet_follows R true k want.Call _ _ refl
-            (entered_at true k (calls limits program depth m (suc opened)) (calls limits program depth n (suc opened))
-            (calls_at m n (suc opened) k (omega arith) (omega arith)) m n (omega arith) (omega arith) (slice_get program.functions f) (λ function is e. parted e f function is (plain e function is)) vs g h
-            (leaves_on (slice_get program.functions f) k g h (λ v. kept.less true k (suc k) (g v) (h v) (omega arith) (r v))))))
+        (entered_at true k (calls limits program depth m (suc opened)) (calls limits program depth n (suc opened))
+        (calls_at m n (suc opened) k (omega arith) (omega arith)) m n (omega arith) (omega arith) (slice_get program.functions f) (λ function is e. parted e f function is (plain e function is)) vs g h
+        (leaves_on (slice_get program.functions f) k g h (λ v. kept.less true k (suc k) (g v) (h v) (omega arith) (r v))))))
 
     -- The relation holds of an instance with two bounds, where it holds of its return.
     pub instance_at : (m n most : ℕ) → most ≤ m → most ≤ n → (f : ℕ) (vs : List ℤ) → Enters program (slice_get program.functions f) → Leaves false (slice_get program.functions f) most (λ v. ends (Returns v)) (λ v. ends (Returns v)) →
@@ -183,7 +183,7 @@ pub instance_kept : (R : Bool → ℕ → Meaning → Meaning → Type 0) → Is
     ((out : Bool) (v : ℤ) → R out most (ends (Returns v)) (ends (Returns v))) → R false most (instance limits program depth m f vs) (instance limits program depth n f vs)
 instance_kept R kept limits program depth m n most lm ln f vs returns =
     instance_at true R kept limits program depth (no_claim {A = IsParted program}) m n most lm ln f vs
-        (λ function is e. no_claim {A = IsPlain program function.body} e) (leaves (slice_get program.functions f))
+    (λ function is e. no_claim {A = IsPlain program function.body} e) (leaves (slice_get program.functions f))
   where
     leaves : (function : Option Function) → Leaves true R kept limits program depth (no_claim {A = IsParted program}) false function most (λ v. ends (Returns v)) (λ v. ends (Returns v))
     leaves None = returns false

@@ -200,7 +200,8 @@ childless_kept = record {
   settled = λ k g h childless. childless;
   traps = λ out k kind answers lt. refl;
   returns = λ k v answers lt. refl;
-  asks = childless_asks }
+  asks = childless_asks;
+}
 
 -- a plain function whose program is parted, or one that is not there
 plain_childless : (program : Program) → IsParted program → (depth procedure : ℕ) (arguments : List ℤ) (answers : List Answer) → CallsPlain program procedure →
@@ -208,7 +209,7 @@ plain_childless : (program : Program) → IsParted program → (depth procedure 
 plain_childless program parted depth procedure arguments answers plain =
     let n = suc (length answers) in
     instance_at false Childless childless_kept limits program depth (λ e. parted) n n n (omega arith) (omega arith) procedure arguments
-        (λ function is e. parted procedure function is (plain function is)) (leaves (slice_get program.functions procedure)) answers (omega arith)
+    (λ function is e. parted procedure function is (plain function is)) (leaves (slice_get program.functions procedure)) answers (omega arith)
   where
     leaves : (function : Option Function) → Leaves false Childless childless_kept limits program depth (λ e. parted) false function (suc (length answers)) (λ v. ends (Returns v)) (λ v. ends (Returns v))
     leaves None = λ v a lt. refl

@@ -1,5 +1,5 @@
 -- Programs whose plain functions are plain: only `cilk` procedures spawn and sync, and a plain call is one of a plain function.
-use Rattle.std.specs.Prelude.{◌≡◌, ℕ, Bool, false, Option, Some, slice_get}
+use Rattle.std.specs.Prelude.{◌≡◌, ℕ, false, Some, slice_get}
 use Rattle.cilk_meaning.specs.Resolved.{Stmt, Skip, Then, Assign, Put, Print, If, While, Call, Spawn, Add, Sync, Return, Function, Program}
 
 abbrev pub CallsPlain : Program → ℕ → Type 0
