@@ -16,6 +16,26 @@ is_quiet Sync = false
 is_quiet Call = true
 is_quiet LoopTurn = true
 
+abbrev pub IsNoSpawn : Request → Type 0
+IsNoSpawn (Read word) = Unit {0}
+IsNoSpawn (Write word value) = Unit {0}
+IsNoSpawn (Add word addend) = Unit {0}
+IsNoSpawn (Print value) = Unit {0}
+IsNoSpawn (Spawn target procedure arguments) = ⊥
+IsNoSpawn Sync = Unit {0}
+IsNoSpawn Call = Unit {0}
+IsNoSpawn LoopTurn = Unit {0}
+
+pub quiet_no_spawn : (request : Request) → is_quiet request ≡ true → IsNoSpawn request
+quiet_no_spawn (Read word) is = tt
+quiet_no_spawn (Write word value) is = tt
+quiet_no_spawn (Add word addend) is = tt
+quiet_no_spawn (Print value) is = tt
+quiet_no_spawn (Spawn target procedure arguments) is = absurd cc
+quiet_no_spawn Sync is = tt
+quiet_no_spawn Call is = tt
+quiet_no_spawn LoopTurn is = tt
+
 -- whether a child may be out behind a request
 abbrev pub out_after : Request → Bool → Bool
 out_after (Read word) out = out
@@ -33,13 +53,14 @@ pub record Follows (R : Bool → ℕ → Meaning → Meaning → Type 0) (reques
   pub unfit : (a : Answer) → suits request a ≡ false → (f a ≡ silent) × (f' a ≡ silent)
 
 -- An index says below how many answers the relation holds, and a flag whether a child of the block may be out.
-pub record IsKept (R : Bool → ℕ → Meaning → Meaning → Type 0) : Type 0 where
+-- Where no spawn may come, none has to keep it.
+pub record IsKept (may_spawn : Bool) (R : Bool → ℕ → Meaning → Meaning → Type 0) : Type 0 where
   pub none : (out : Bool) (g h : Meaning) → R out 0 g h
   pub less : (out : Bool) (k m : ℕ) (g h : Meaning) → k ≤ m → R out m g h → R out k g h
   pub settled : (k : ℕ) (g h : Meaning) → R true k g h → R false k g h
   pub traps : (out : Bool) (k : ℕ) (kind : TrapKind) → R out k (ends (Traps kind)) (ends (Traps kind))
   pub returns : (k : ℕ) (v : ℤ) → R false k (ends (Returns v)) (ends (Returns v))
-  pub asks : (out : Bool) (k : ℕ) (request : Request) (f f' : Answer → Meaning) → Follows R request out k f f' → R out (suc k) (ask request f) (ask request f')
+  pub asks : (out : Bool) (k : ℕ) (request : Request) (f f' : Answer → Meaning) → (may_spawn ≡ false → IsNoSpawn request) → Follows R request out k f f' → R out (suc k) (ask request f) (ask request f')
 
 module _ (R : Bool → ℕ → Meaning → Meaning → Type 0) where
   pub read_follows : (out : Bool) (k word : ℕ) (g h : ℤ → Meaning) → ((v : ℤ) → R out k (g v) (h v)) → Follows R (Read word) out k (on_value g) (on_value h)

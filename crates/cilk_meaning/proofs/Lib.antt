@@ -4,6 +4,7 @@ pub mod Elisions
 pub mod Keeps
 pub mod Living
 pub mod Names
+pub mod Parting
 pub mod Resolving
 pub mod Serial
 pub mod Ticks

@@ -1,6 +1,6 @@
 -- While answers of the right kind come, an instance wants something: so a service comes to an end by a tick that is wanted.
 use Rattle.std.proofs.Common.{◌≡◌, ℕ, zero, suc, ◌+◌, ◌≤◌, List, [], ◌∷◌, length, Option, Some, None, refl, subst, arith}
-use Rattle.std.specs.Prelude.{ℤ, Bool, true, slice_get}
+use Rattle.std.specs.Prelude.{ℤ, Bool, true}
 use Rattle.cilk_meaning.specs.declared.ends.NodeEnd.TheVariants.{Finished, Trapped, Budget}
 use Rattle.cilk_meaning.specs.declared.ends.TrapKind.{TrapKind}
 use Rattle.cilk_meaning.specs.Instance.{Limits, Meaning, ends, instance}
@@ -10,8 +10,7 @@ use Rattle.cilk_meaning.specs.Wants.{Request, Read, Write, Add, Print, Spawn, Sy
 use Rattle.cilk_meaning.specs.World.{End}
 use Rattle.cilk_meaning.proofs.Asks.{IsKept}
 use Rattle.cilk_meaning.proofs.Keeps.{IsInvariant, serve_keeps}
-use Rattle.cilk_meaning.proofs.Walk.{instance_at}
-use Rattle.cilk_meaning.proofs.Wanting.{leaves_any}
+use Rattle.cilk_meaning.proofs.Walk.{instance_kept}
 
 -- for so many answers of the right kind something is wanted
 abbrev LivesAt : (Meaning → Type 0) → Option Want → Meaning → Type 0
@@ -46,20 +45,19 @@ returns_live (suc k) v = tt
 abbrev Living : Bool → ℕ → Meaning → Meaning → Type 0
 Living out k g h = Lives k g
 
-living_kept : IsKept Living
+living_kept : IsKept true Living
 living_kept = record {
   none = λ out g h. tt;
   less = λ out k m g h le lives. lives_less k m g le lives;
   settled = λ k g h lives. lives;
   traps = λ out k kind. traps_live k kind;
   returns = λ k v. returns_live k v;
-  asks = λ out k request f f' follows a good. follows.fit a good;
+  asks = λ out k request f f' may follows a good. follows.fit a good;
 }
 
 pub instance_lives : (most : Limits) (program : Program) (depth bound : ℕ) (f : ℕ) (vs : List ℤ) → Lives bound (instance most program depth bound f vs)
 instance_lives most program depth bound f vs =
-    instance_at Living living_kept most program depth bound bound bound (omega arith) (omega arith) f vs
-    (leaves_any Living living_kept most program depth bound (λ out v. returns_live bound v) (slice_get program.functions f))
+    instance_kept Living living_kept most program depth bound bound bound (omega arith) (omega arith) f vs (λ out v. returns_live bound v)
 
 -- ---- how many ticks a service makes
 

@@ -1,10 +1,16 @@
 -- Laws of what instances want, and of the serial elision.
-use Rattle.std.specs.Prelude.{◌≡◌, ◌≢◌, ℕ, suc, ◌<◌, ◌≤◌, ℤ, true, Some, List, [], ◌++◌, length, take, slice_get}
+use Rattle.std.specs.Prelude.{◌≡◌, ◌≢◌, ℕ, suc, ◌<◌, ◌≤◌, ℤ, List, [], ◌++◌, length, take}
+use Rattle.cilk_tree.specs.declared.tree.Program as source_program
+use Rattle.cilk_tree.specs.declared.tree.Stmt.{Stmt}
+use Rattle.cilk_tree.specs.Lawful.Flow.{part_of}
+use Rattle.cilk_tree.specs.Lawful.Lawful.{IsLawful}
 use Rattle.cilk_meaning.specs.declared.ends.NodeEnd.TheVariants.{Budget}
 use Rattle.cilk_meaning.specs.Alone.{AreFitting, HasReturned, block_of}
 use Rattle.cilk_meaning.specs.Elision.{elision_within}
 use Rattle.cilk_meaning.specs.Instance.{Limits, instance, wants, wants_within}
-use Rattle.cilk_meaning.specs.Resolved.{Function, Program}
+use Rattle.cilk_meaning.specs.Parted.{IsParted}
+use Rattle.cilk_meaning.specs.Resolved.{Program}
+use Rattle.cilk_meaning.specs.Resolving.{resolved, resolving}
 use Rattle.cilk_meaning.specs.Serve.{serve, first_state}
 use Rattle.cilk_meaning.specs.Wants.{Answer}
 use Rattle.cilk_meaning.specs.World.{ticks_of}
@@ -24,10 +30,17 @@ abbrev pub AlwaysWants : Type 0
 AlwaysWants = (program : Program) (depth procedure : ℕ) (arguments : List ℤ) (answers : List Answer) → AreFitting program depth procedure arguments answers →
     length (wants program depth procedure arguments answers) ≡ suc (length answers)
 
--- A `cilk` procedure returns only where it has spawned nothing since its last Sync.
+-- Names are resolved by the scopes of the rules of lawful programs: point after point they are the same.
+abbrev pub NamesInScope : Type 0
+NamesInScope = (source : source_program.Program) (statement : Stmt) → (resolving source statement).part ≡ part_of statement
+
+-- The resolved program of a lawful source has plain functions that are plain.
+abbrev pub LawfulIsParted : Type 0
+LawfulIsParted = (source : source_program.Program) → IsLawful source → IsParted (resolved source)
+
+-- An instance returns only where it has spawned nothing since its last Sync.
 abbrev pub ReturnsSynced : Type 0
-ReturnsSynced = (program : Program) (depth procedure : ℕ) (function : Function) (arguments : List ℤ) (answers : List Answer) (v : ℤ) →
-    slice_get program.functions procedure ≡ Some function → function.«cilk» ≡ true →
+ReturnsSynced = (program : Program) → IsParted program → (depth procedure : ℕ) (arguments : List ℤ) (answers : List Answer) (v : ℤ) →
     HasReturned program depth procedure arguments answers v → block_of [] (wants program depth procedure arguments answers) ≡ []
 
 -- The serial elision is the depth-first service of the instances, with the same end, world and ticks.

@@ -5,6 +5,7 @@ pub mod Ends
 pub mod Instance
 pub mod Laws
 pub mod Locals
+pub mod Parted
 pub mod Resolved
 pub mod Resolving
 pub mod Serve

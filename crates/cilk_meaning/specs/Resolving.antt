@@ -1,9 +1,9 @@
 -- The program that a source stands for: in place of each name the number of what it stands for. The scopes are those of the rules of
 -- lawful programs, point after point: a parameter is in scope in the whole body, a local from its declaration to the end of the list
 -- that holds it, arrays and functions everywhere. In a lawful program each name stands for something of the kind that is wanted; any
--- other name counts as number 0.
+-- other name counts as local 0, or as the number behind the last array or function.
 use Rattle.std.specs.Prelude.{ℕ, ◌+◌, pos, List, [], ◌∷◌, length, map, codes, Option, Some, None, unwrap_or, option_map}
-use Rattle.std.specs.List.{position}
+use Rattle.std.specs.List.{position_or_len}
 use Rattle.std.specs.Str.{bytes_eq}
 use Rattle.cilk_tree.specs.declared.tree.Expr as source_expr
 use Rattle.cilk_tree.specs.declared.tree.Expr.{fold-Expr}
@@ -25,13 +25,13 @@ use Rattle.cilk_meaning.specs.Resolved.{Expr, Stmt, Function, Extent, Program}
 abbrev pub local_number : List Local → List ℕ → ℕ
 local_number scope name = unwrap_or (local_named scope name) 0
 
--- of the first array of this name
+-- of the first array of this name, or the number of arrays
 abbrev pub array_number : source_program.Program → List ℕ → ℕ
-array_number program name = unwrap_or (position (λ array. bytes_eq array.name name) program.shared) 0
+array_number program name = position_or_len (λ array. bytes_eq array.name name) program.shared
 
--- of the first function of this name
+-- of the first function of this name, or the number of functions
 abbrev pub function_number : source_program.Program → List ℕ → ℕ
-function_number program name = unwrap_or (position (λ function. bytes_eq function.name name) program.functions) 0
+function_number program name = position_or_len (λ function. bytes_eq function.name name) program.functions
 
 -- one step of `resolved_expr`: what an expression stands for where these locals are in scope
 abbrev pub expr_here : source_program.Program → Expr-F (List Local → Expr) → List Local → Expr

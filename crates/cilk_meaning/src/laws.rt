@@ -1,6 +1,16 @@
 //! Laws of the definitions, each the contract of a function that does nothing.
 
-ghost use Rattle.cilk_meaning.specs.Laws.{BoundIsHidden, WantsAreKept, AlwaysWants, ReturnsSynced, ElisionIsService, MoreTicks, TicksAreCounted};
+ghost use Rattle.cilk_meaning.specs.Laws.{NamesInScope, LawfulIsParted, BoundIsHidden, WantsAreKept, AlwaysWants, ReturnsSynced, ElisionIsService, MoreTicks, TicksAreCounted};
+
+/// Names are resolved by the scopes of the rules of lawful programs.
+pub fn names_in_scope()
+    ensures { NamesInScope }
+{}
+
+/// The plain functions of a lawful program neither spawn nor sync, and call plain functions alone.
+pub fn lawful_is_parted()
+    ensures { LawfulIsParted }
+{}
 
 /// The bound that the definition of an instance's wants takes does not show.
 pub fn bound_is_hidden()
@@ -17,7 +27,7 @@ pub fn always_wants()
     ensures { AlwaysWants }
 {}
 
-/// A `cilk` procedure returns only where it has spawned nothing since its last sync.
+/// An instance returns only where it has spawned nothing since its last sync.
 pub fn returns_synced()
     ensures { ReturnsSynced }
 {}

@@ -12,6 +12,6 @@ pub use cases::{
 };
 pub use ends::{NodeEnd, TrapKind};
 pub use laws::{
-    always_wants, bound_is_hidden, elision_is_service, more_ticks, returns_synced,
-    ticks_are_counted, wants_are_kept,
+    always_wants, bound_is_hidden, elision_is_service, lawful_is_parted, more_ticks,
+    names_in_scope, returns_synced, ticks_are_counted, wants_are_kept,
 };
