@@ -1,4 +1,3 @@
-use Rattle.std.proofs.Common.{ap, subst, sym}
 use Rattle.page_cache.proofs.Numbers.{no_numbers}
 use Rattle.page_cache.proofs.cache.Cache.new.Goals as goal
 

@@ -1,4 +1,4 @@
-use Rattle.std.proofs.Common.{◌≡◌, ℕ, Bool, cond, None, Some, sym, ◌∙◌, ap, subst}
+use Rattle.std.proofs.Common.{ℕ, Bool, cond, Some, sym, ◌∙◌, ap, subst}
 use Rattle.std.specs.List.{find}
 use Rattle.page_cache.specs.Cache.{AreNumbers, IsLeastFrom, is_dirty}
 use Rattle.page_cache.proofs.Search.{least_dirty}
