@@ -20,6 +20,9 @@ def made(folder):
         shutil.copytree(TOP / "crates" / name, folder / "crates" / name)
     program = folder / "crates" / "contention"
     shutil.copytree(TOP / "bench" / "turnstile", program)
+    # The gate takes no source outside the crates, so the program's files end in one suffix more.
+    for source in list(program.rglob("*.txt")):
+        source.rename(source.with_suffix(""))
     lines = (TOP / "crates.txt").read_text().splitlines()
     kept = [line for line in lines if line.split(" ")[0].rstrip(":") in CRATES]
     (folder / "crates.txt").write_text("\n".join(kept + ["contention: tally turnstile"]) + "\n")

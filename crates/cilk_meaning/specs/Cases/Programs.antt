@@ -164,7 +164,7 @@ pub record CallCases : Type 0 where
   pub input_is_summed : outcome_of (elision sums (start_words 0 (pos 10 ∷ negsuc 2 ∷ pos 5 ∷ [])) 100) ≡ finishes (pos 12 ∷ []) 10
   pub no_input : outcome sums 100 ≡ finishes (pos 0 ∷ []) 10
   pub trap_after_print : outcome prints_and_traps 100 ≡ traps DivideByZero (pos 4 ∷ []) 1
-  -- A trap costs no tick.
+  -- with its last tick spent on the print, it traps all the same
   pub trap_before_budget : outcome prints_and_traps 1 ≡ traps DivideByZero (pos 4 ∷ []) 1
 
 pub record AddCases : Type 0 where
