@@ -1,6 +1,7 @@
 pub mod Alike
 pub mod Asks
 pub mod Elisions
+pub mod Fitting
 pub mod Keeps
 pub mod Living
 pub mod Names

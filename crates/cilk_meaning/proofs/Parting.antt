@@ -7,6 +7,8 @@ use Rattle.std.specs.Option.{option_map, option_map_or}
 use Rattle.std.specs.Prelude.{Bool, true, false, not, ◌||◌, slice_get}
 use Rattle.std.specs.Str.{bytes_eq}
 use Rattle.cilk_tree.specs.declared.place.CheckPlace.TheVariants as place
+use Rattle.cilk_tree.specs.declared.rule.Rule.{Rule}
+use Rattle.cilk_tree.specs.declared.rule.Rule.TheVariants as rule
 use Rattle.cilk_tree.specs.declared.tree.Expr.{Expr}
 use Rattle.cilk_tree.specs.declared.tree.Function as source_function
 use Rattle.cilk_tree.specs.declared.tree.Program as source_program
@@ -47,7 +49,7 @@ nil_right : (xs ys : List ℕ) → xs ++ ys ≡ [] → ys ≡ []
 nil_right [] ys e = e
 nil_right (x ∷ xs) ys e = absurd cc
 
-not_broken : (b : Bool) (kind : ℕ) → kind_if b kind ≡ [] → b ≡ false
+not_broken : (b : Bool) (kind : Rule) → kind_if b kind ≡ [] → b ≡ false
 not_broken true kind e = absurd cc
 not_broken false kind e = refl
 
@@ -68,23 +70,23 @@ record IsClean (source : source_program.Program) (function : source_function.Fun
 
 clean : (source : source_program.Program) (function : source_function.Function) (site : Site) → statement_kinds source function site ≡ [] → IsClean source function site
 clean source function site e =
-    let k1 = kind_if (declares_again source site.point site.head) 201 in
-    let k2 = kind_if (uses_unknown source site.point site.head) 202 in
-    let k3 = kind_if (uses_wrong source site.point site.head) 203 in
-    let k4 = kind_if (has_wrong_arity source site.point site.head) 204 in
-    let k5 = kind_if (lacks_value source function site.point site.head) 205 in
-    let k6 = kind_if (spawns_in_plain function site.head) 206 in
-    let k7 = kind_if (calls_cilk source site.point site.head) 207 in
-    let k8 = kind_if (spawns_plain source site.point site.head) 208 in
+    let k1 = kind_if (declares_again source site.point site.head) rule.DuplicateName in
+    let k2 = kind_if (uses_unknown source site.point site.head) rule.UnknownName in
+    let k3 = kind_if (uses_wrong source site.point site.head) rule.WrongKind in
+    let k4 = kind_if (has_wrong_arity source site.point site.head) rule.WrongArity in
+    let k5 = kind_if (lacks_value source function site.point site.head) rule.NoValue in
+    let k6 = kind_if (spawns_in_plain function site.head) rule.SpawnInPlain in
+    let k7 = kind_if (calls_cilk source site.point site.head) rule.CallOfCilk in
+    let k8 = kind_if (spawns_plain source site.point site.head) rule.SpawnOfPlain in
     let to7 = nil_left (k1 ++ k2 ++ k3 ++ k4 ++ k5 ++ k6 ++ k7) k8 e in
     let to6 = nil_left (k1 ++ k2 ++ k3 ++ k4 ++ k5 ++ k6) k7 to7 in
     let to5 = nil_left (k1 ++ k2 ++ k3 ++ k4 ++ k5) k6 to6 in
     let to3 = nil_left (k1 ++ k2 ++ k3) k4 (nil_left (k1 ++ k2 ++ k3 ++ k4) k5 to5) in
     record {
-      known = not_broken (uses_unknown source site.point site.head) 202 (nil_right k1 k2 (nil_left (k1 ++ k2) k3 to3));
-      right = not_broken (uses_wrong source site.point site.head) 203 (nil_right (k1 ++ k2) k3 to3);
-      inside = not_broken (spawns_in_plain function site.head) 206 (nil_right (k1 ++ k2 ++ k3 ++ k4 ++ k5) k6 to6);
-      calls = not_broken (calls_cilk source site.point site.head) 207 (nil_right (k1 ++ k2 ++ k3 ++ k4 ++ k5 ++ k6) k7 to7);
+      known = not_broken (uses_unknown source site.point site.head) rule.UnknownName (nil_right k1 k2 (nil_left (k1 ++ k2) k3 to3));
+      right = not_broken (uses_wrong source site.point site.head) rule.WrongKind (nil_right (k1 ++ k2) k3 to3);
+      inside = not_broken (spawns_in_plain function site.head) rule.SpawnInPlain (nil_right (k1 ++ k2 ++ k3 ++ k4 ++ k5) k6 to6);
+      calls = not_broken (calls_cilk source site.point site.head) rule.CallOfCilk (nil_right (k1 ++ k2 ++ k3 ++ k4 ++ k5 ++ k6) k7 to7);
     }
 
 -- each site of a function of a lawful source does

@@ -1,8 +1,8 @@
 -- An instance by itself: its want, its acts and what it returned with, and which answers it may get.
-use Rattle.std.specs.Prelude.{◌≡◌, ℕ, ℤ, Bool, true, false, Option, Some, None, List, [], ◌∷◌, ◌++◌, length, map, slice_get}
+use Rattle.std.specs.Prelude.{◌≡◌, ℕ, ℤ, Bool, true, false, Option, Some, None, List, [], ◌∷◌, ◌++◌, map}
 use Rattle.std.specs.List.{All, last_or}
 use Rattle.cilk_meaning.specs.Instance.{wants}
-use Rattle.cilk_meaning.specs.Resolved.{Function, Program}
+use Rattle.cilk_meaning.specs.Resolved.{Program}
 use Rattle.cilk_meaning.specs.Values.{fits}
 use Rattle.cilk_meaning.specs.Wants as wanted
 use Rattle.cilk_meaning.specs.Wants.{Request, Read, Add, Spawn, Sync, Call, LoopTurn, Want, Asks, Returns, Traps, Deposit, Answer, Value, Children, Done}
@@ -57,13 +57,6 @@ block_of block (_ ∷ wants) = block_of block wants
 
 abbrev pub IsValue : ℤ → Type 0
 IsValue value = fits value ≡ true
-
--- arguments that a procedure may get: as many values as it has parameters
-pub record AreArguments (program : Program) (procedure : ℕ) (arguments : List ℤ) : Type 0 where
-  pub function : Function
-  pub is_function : slice_get program.functions procedure ≡ Some function
-  pub is_count : length arguments ≡ function.params
-  pub are_values : All IsValue arguments
 
 -- it has values alone
 abbrev pub HasValues : Answer → Type 0

@@ -1,5 +1,5 @@
--- The serial elision of a program, by cases on the tree: a spawn is a call of the child, and a sync does nothing but cost a tick. One
--- list of shared words is handed along, and the ticks that are left.
+-- The serial elision of a program, by cases on the tree: a spawn is a call of the child, and a sync hands out what the children gave
+-- back. One world of shared words is handed along, and the ticks that are left.
 use Rattle.std.specs.Prelude.{ℕ, zero, suc, ◌==◌, ℤ, pos, ◌+ℤ◌, Bool, true, false, if◌then◌else◌, Option, Some, None, Result, Ok, Err, List, [], ◌∷◌, ◌++◌, slice_get, slice_set}
 use Rattle.cilk_meaning.specs.declared.ends.NodeEnd.{NodeEnd}
 use Rattle.cilk_meaning.specs.declared.ends.NodeEnd.TheVariants.{Finished, Trapped, Budget}

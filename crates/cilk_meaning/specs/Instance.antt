@@ -101,8 +101,8 @@ synced false locals next = next locals
 abbrev pub Calling : Type 0
 Calling = ℕ → List ℤ → (ℤ → Meaning) → Meaning
 
--- What the statements of a function may use: the arrays, whether the function is a `cilk` procedure, the most deep that the
--- instance's children may be and how deep they are, its plain calls, a bound on the turns of a loop, and what follows its return.
+-- What the statements of a function may use: the arrays, whether the function is a `cilk` procedure, how deep an instance may be and
+-- how deep this one is, its plain calls, a bound on the turns of a loop, and what follows its return.
 pub record Around : Type 0 where
   pub shared : List Extent
   pub «cilk» : Bool
@@ -146,7 +146,7 @@ module _ (most : Limits) (program : Program) (depth : ℕ) where
       whole (record { shared = program.shared; «cilk» = function.«cilk»; deepest = most.depth; depth = depth; call = call; turns = bound; leave = leave })
       function.body (first_locals function arguments)
 
-  -- a plain call where so many are open; what follows has at most `bound` turns in each loop, and calls nested so deep
+  -- a plain call where so many are open; in the function each loop has at most `bound` turns, and calls nest at most so deep
   abbrev pub calls : ℕ → ℕ → Calling
   calls zero opened function arguments next = silent
   calls (suc bound) opened function arguments next =

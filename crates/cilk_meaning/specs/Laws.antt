@@ -30,7 +30,8 @@ abbrev pub AlwaysWants : Type 0
 AlwaysWants = (program : Program) (depth procedure : ℕ) (arguments : List ℤ) (answers : List Answer) → AreFitting program depth procedure arguments answers →
     length (wants program depth procedure arguments answers) ≡ suc (length answers)
 
--- Names are resolved by the scopes of the rules of lawful programs: point after point they are the same.
+-- Names are resolved from the points of the rules of lawful programs: each statement is the same part of its function, so each point has
+-- the same scope there. What number a name gets in a scope is for the definition to say, and for the cases to show.
 abbrev pub NamesInScope : Type 0
 NamesInScope = (source : source_program.Program) (statement : Stmt) → (resolving source statement).part ≡ part_of statement
 
@@ -57,3 +58,8 @@ MoreTicks = (most : Limits) (program : Program) (memory : ℕ → ℤ) (few many
 abbrev pub TicksAreCounted : Type 0
 TicksAreCounted = (most : Limits) (program : Program) (memory : ℕ → ℤ) (budget : ℕ) →
     (ticks_of (elision_within most program memory budget) ≤ budget) × ((elision_within most program memory budget).end ≡ Budget → ticks_of (elision_within most program memory budget) ≡ budget)
+
+-- It ends for want of ticks only where it would make one more.
+abbrev pub BudgetWantsMore : Type 0
+BudgetWantsMore = (most : Limits) (program : Program) (memory : ℕ → ℤ) (budget : ℕ) → (elision_within most program memory budget).end ≡ Budget →
+    ticks_of (elision_within most program memory (suc budget)) ≡ suc budget

@@ -1,4 +1,4 @@
--- Programs whose plain functions are plain: only `cilk` procedures spawn and sync, and a plain call is one of a plain function.
+-- Programs whose plain functions are plain: they neither spawn nor sync, and call plain functions alone.
 use Rattle.std.specs.Prelude.{◌≡◌, ℕ, false, Some, slice_get}
 use Rattle.cilk_meaning.specs.Resolved.{Stmt, Skip, Then, Assign, Put, Print, If, While, Call, Spawn, Add, Sync, Return, Function, Program}
 

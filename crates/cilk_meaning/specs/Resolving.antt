@@ -1,7 +1,7 @@
 -- The program that a source stands for: in place of each name the number of what it stands for. The scopes are those of the rules of
 -- lawful programs, point after point: a parameter is in scope in the whole body, a local from its declaration to the end of the list
--- that holds it, arrays and functions everywhere. In a lawful program each name stands for something of the kind that is wanted; any
--- other name counts as local 0, or as the number behind the last array or function.
+-- that holds it, arrays and functions everywhere. By the rules each name of a lawful program stands for something of the kind that is
+-- wanted, so it does not matter that any other counts as local 0, or as the number behind the last array or function.
 use Rattle.std.specs.Prelude.{ℕ, ◌+◌, pos, List, [], ◌∷◌, length, map, codes, Option, Some, None, unwrap_or, option_map}
 use Rattle.std.specs.List.{position_or_len}
 use Rattle.std.specs.Str.{bytes_eq}

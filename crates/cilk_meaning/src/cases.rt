@@ -4,7 +4,7 @@ ghost use Rattle.cilk_meaning.specs.Cases.Expressions.{ArithmeticCases, TestCase
 ghost use Rattle.cilk_meaning.specs.Cases.Programs.{SpawnCases, LogCases, CallCases, AddCases};
 ghost use Rattle.cilk_meaning.specs.Cases.Names.{NameCases};
 ghost use Rattle.cilk_meaning.specs.Cases.Limits.{LimitCases};
-ghost use Rattle.cilk_meaning.specs.Cases.Instances.{InstanceCases};
+ghost use Rattle.cilk_meaning.specs.Cases.Instances.{InstanceCases, FittingCases};
 
 /// What arithmetic gives, and where it traps.
 pub fn arithmetic_cases()
@@ -49,6 +49,11 @@ pub fn limit_cases()
 /// What instances want after some answers.
 pub fn instance_cases()
     ensures { InstanceCases }
+{}
+
+/// Answers that an instance may get, and some that it may not.
+pub fn fitting_cases()
+    ensures { FittingCases }
 {}
 
 /// What names stand for.

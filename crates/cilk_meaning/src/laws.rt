@@ -1,8 +1,8 @@
 //! Laws of the definitions, each the contract of a function that does nothing.
 
-ghost use Rattle.cilk_meaning.specs.Laws.{NamesInScope, LawfulIsParted, BoundIsHidden, WantsAreKept, AlwaysWants, ReturnsSynced, ElisionIsService, MoreTicks, TicksAreCounted};
+ghost use Rattle.cilk_meaning.specs.Laws.{NamesInScope, LawfulIsParted, BoundIsHidden, WantsAreKept, AlwaysWants, ReturnsSynced, ElisionIsService, MoreTicks, TicksAreCounted, BudgetWantsMore};
 
-/// Names are resolved by the scopes of the rules of lawful programs.
+/// Names are resolved from the points of the rules of lawful programs, so in the same scopes.
 pub fn names_in_scope()
     ensures { NamesInScope }
 {}
@@ -45,4 +45,9 @@ pub fn more_ticks()
 /// The elision makes no more ticks than it may, and all of them where it ends for want of one more.
 pub fn ticks_are_counted()
     ensures { TicksAreCounted }
+{}
+
+/// The elision ends for want of ticks only where, with one more, it makes one more.
+pub fn budget_wants_more()
+    ensures { BudgetWantsMore }
 {}

@@ -1,4 +1,4 @@
--- The last entry of a list.
+-- The law of a tally that `Chronicle` asks for: a list has one last entry. A source may cite it only from here.
 use Rattle.std.proofs.Common.{◌≡◌, ℕ, List, [], ◌∷◌, ◌++◌, sym, ◌∙◌}
 
 last_of : (xs : List ℕ) (x y : ℕ) → xs ++ x ∷ [] ≡ xs ++ y ∷ [] → x ≡ y

@@ -1,9 +1,9 @@
 //! Callers of a turnstile, whose conditions they meet.
-ghost use Rattle.std.specs.Prelude.{◌≡◌, ◌+◌, ◌<◌, ◌≤◌, ℕ, List, [], ◌∷◌, ◌++◌, length, IfOk, OnOk};
+ghost use Rattle.std.specs.Prelude.{◌≡◌, ◌+◌, ◌<◌, ◌≤◌, ℕ, List, [], ◌∷◌, ◌++◌, length, IfOk, OnOk, OnErr};
 ghost use Rattle.std.specs.List.{Contains};
 ghost use Rattle.std.specs.Thread.{IsSync};
 ghost use mathlib.Core.List.{IsPrefix};
-ghost use Rattle.turnstile.specs.Passes.{first_pass, IsIdle};
+ghost use Rattle.turnstile.specs.Passes.{first_pass, IsIdle, OwnSeen};
 ghost use Rattle.tally.specs.Has.{Has};
 
 use crate::tally::Tally;
@@ -24,7 +24,7 @@ pub fn opened(alloc: Global, shares: u32) -> Result<(Turnstile<Tally>, Pass<Tall
     }
 }
 
-/// Enters, adds one entry and leaves. `Err` is want of memory, and nothing was added.
+/// Enters, adds one entry and leaves. `Err` is want of memory: then the pass has seen no entry of its own that is new.
 pub fn add<R: Wait>(
     rt: &R,
     gate: &Turnstile<Tally>,
@@ -36,7 +36,8 @@ pub fn add<R: Wait>(
     requires own { Contains pass.old.numbers number }
     ensures pass { pass.new ≡ record pass.old { seen = pass.new.seen } }
     ensures seen { IsPrefix pass.old.seen pass.new.seen }
-    ensures added { OnOk result ((found : List ℕ) × (pass.new.seen ≡ found ++ number ∷ [])) }
+    ensures added { OnOk result ((found : List ℕ) × IsPrefix pass.old.seen found × (pass.new.seen ≡ found ++ number ∷ [])) }
+    ensures err { OnErr result (OwnSeen (λ n. n) pass.old.numbers (length pass.old.seen) pass.new.seen) }
 {
     let mut held = gate.enter(rt, pass);
     let added = held.get_mut().add(number);
@@ -50,6 +51,7 @@ pub fn look<V: Chronicle, R: Wait>(rt: &R, gate: &Turnstile<V>, pass: &mut Pass<
     requires idle { IsIdle pass.old }
     ensures pass { pass.new ≡ record pass.old { seen = pass.new.seen } }
     ensures seen { IsPrefix pass.old.seen pass.new.seen }
+    ensures none { OwnSeen V.names pass.old.numbers (length pass.old.seen) pass.new.seen }
 {
     let held = gate.enter(rt, pass);
     gate.leave(pass, held);

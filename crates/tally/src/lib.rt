@@ -1,5 +1,5 @@
-//! A value for a turnstile that keeps who added to it, in order, and callers that add from many threads. The rows of
-//! `turnstile` are its tests.
+//! A value for a turnstile that keeps who added to it, in order, and callers that add from many threads. The tests of
+//! `turnstile` stand here, since here it is seen from outside.
 #![tactic(auto)]
 
 mod callers;

@@ -1,9 +1,9 @@
 -- What expressions give, and in which order they are evaluated.
-use Rattle.std.specs.Prelude.{◌≡◌, pos, negsuc, [], ◌∷◌}
+use Rattle.std.specs.Prelude.{◌≡◌, pos, negsuc, None, [], ◌∷◌}
 use Rattle.cilk_tree.specs.declared.tree.BinaryOp.TheVariants as op
 use Rattle.cilk_tree.specs.declared.tree.UnaryOp.TheVariants.{Not}
 use Rattle.cilk_meaning.specs.declared.ends.TrapKind.TheVariants.{DivideByZero, IndexOutOfRange, Overflow}
-use Rattle.cilk_meaning.specs.Resolved.{Expr, Get, Unary, Binary, Stmt, Put}
+use Rattle.cilk_meaning.specs.Resolved.{Expr, Get, Unary, Binary, Stmt, Put, Add}
 use Rattle.cilk_meaning.specs.Cases.Words.{Outcome, number, minus, plain_main, outcome, printing, finishes, prints, traps_at_once}
 
 -- `9223372036854775807`
@@ -40,6 +40,10 @@ pub record ArithmeticCases : Type 0 where
   pub quotient_by_negative : printing (Binary op.Div (number 7) (minus (number 2))) ≡ prints (negsuc 2)
   -- print(7 % -2);
   pub remainder_by_negative : printing (Binary op.Rem (number 7) (minus (number 2))) ≡ prints (pos 1)
+  -- print(-7 / -2);
+  pub quotient_of_negatives : printing (Binary op.Div (minus (number 7)) (minus (number 2))) ≡ prints (pos 3)
+  -- print(-7 % -2);
+  pub remainder_of_negatives : printing (Binary op.Rem (minus (number 7)) (minus (number 2))) ≡ prints (negsuc 0)
   -- print(9223372036854775807 + 1);
   pub sum_overflows : printing overflows ≡ traps_at_once Overflow
   -- print(-9223372036854775807 - 1);
@@ -106,3 +110,5 @@ pub record OrderCases : Type 0 where
   pub value_before_test : doing (Put 0 (number 2) divides) ≡ traps_at_once DivideByZero
   -- a[9223372036854775807 + 1] = 1 / 0;
   pub index_before_value : doing (Put 0 overflows divides) ≡ traps_at_once Overflow
+  -- fetch_add(a[9223372036854775807 + 1], 1 / 0);
+  pub index_before_addend : doing (Add None 0 overflows divides) ≡ traps_at_once Overflow

@@ -53,6 +53,14 @@ argument_traps = program 0 (
     plain 1 1 (Call None 3 (Binary op.Div (number 1) (number 0) ∷ []) ∷ []) ∷
     plain 1 1 [] ∷ [])
 
+-- cilk void low(int n) { } cilk void high(int n) { spawn low(1 / 0); } cilk void top(int n) { spawn high(n); } cilk int main() { spawn top(1); }
+abbrev pub spawned_argument_traps : Program
+spawned_argument_traps = program 0 (
+    procedure 0 0 (Spawn None 1 (number 1 ∷ []) ∷ []) ∷
+    procedure 1 1 (Spawn None 2 (Local 0 ∷ []) ∷ []) ∷
+    procedure 1 1 (Spawn None 3 (Binary op.Div (number 1) (number 0) ∷ []) ∷ []) ∷
+    procedure 1 1 [] ∷ [])
+
 pub record LimitCases : Type 0 where
   -- 4,096 instances below main: a spawn and a sync for each, and main's sync
   pub deepest_spawn : outcome (spawns_down 4096) 8193 ≡ finishes [] 8193
@@ -69,5 +77,6 @@ pub record LimitCases : Type 0 where
   pub children_side_by_side : outcome_of_two spawns_again 100 ≡ finishes [] 10
   -- Arguments are evaluated before the limit is looked at, and the limit before a tick is asked for.
   pub argument_before_limit : outcome_of_two argument_traps 100 ≡ traps DivideByZero [] 2
+  pub spawned_argument_before_limit : outcome_of_two spawned_argument_traps 100 ≡ traps DivideByZero [] 2
   pub limit_before_budget : outcome_of_two (calls_down 3) 2 ≡ traps TooDeep [] 2
   pub spawn_limit_before_budget : outcome_of_two (spawns_down 3) 2 ≡ traps TooDeep [] 2

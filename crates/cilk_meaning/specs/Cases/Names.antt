@@ -1,12 +1,13 @@
 -- Programs with names: what they stand for, and what comes of them.
-use Rattle.std.specs.Prelude.{◌≡◌, pos, codes, true, false, Some, [], ◌∷◌}
+use Rattle.std.specs.Prelude.{◌≡◌, pos, codes, true, false, Some, None, [], ◌∷◌}
 use Rattle.cilk_tree.specs.declared.tree.BinaryOp.TheVariants as op
 use Rattle.cilk_tree.specs.declared.tree.Expr.TheVariants as expr
 use Rattle.cilk_tree.specs.declared.tree.Program.{Program}
 use Rattle.cilk_tree.specs.declared.tree.Stmt.TheVariants as stmt
+use Rattle.cilk_tree.specs.declared.tree.UnaryOp.TheVariants.{Neg, Not}
 use Rattle.cilk_meaning.specs.Resolved as tree
 use Rattle.cilk_meaning.specs.Resolving.{resolved}
-use Rattle.cilk_meaning.specs.Cases.Words.{number, in_order, outcome, finishes}
+use Rattle.cilk_meaning.specs.Cases.Words.{number, minus, in_order, procedure, outcome, finishes}
 
 -- int a[2], b[3];
 -- int first(int x) { return b[x]; }
@@ -73,7 +74,63 @@ scopes_resolved = record {
       } ∷ [];
 }
 
+-- int a[2], b[3];
+-- cilk void none() { return; }
+-- cilk int twice(int n) {
+--   int r, s;
+--   if (n) { int k; k = fetch_add(b[n], -r); } else { int m; m = !n; r = spawn twice(m); }
+--   sync; s = spawn twice(r); sync; return s;
+-- }
+-- cilk int main() { spawn none(); return 0; }
+abbrev pub branches : Program
+branches = record {
+  shared = record { name = codes "a"; words = 2 } ∷ record { name = codes "b"; words = 3 } ∷ [];
+  functions =
+      record { «cilk» = true; gives = false; name = codes "none"; params = []; body = stmt.Return None ∷ [] } ∷
+      record {
+        «cilk» = true;
+        gives = true;
+        name = codes "twice";
+        params = codes "n" ∷ [];
+        body =
+            stmt.Declare (codes "r") ∷
+            stmt.Declare (codes "s") ∷
+            stmt.If (expr.Local (codes "n")) (
+            stmt.Declare (codes "k") ∷
+            stmt.Add (Some (codes "k")) (codes "b") (expr.Local (codes "n")) (expr.Unary Neg (expr.Local (codes "r"))) ∷ []) (
+            stmt.Declare (codes "m") ∷
+            stmt.Assign (codes "m") (expr.Unary Not (expr.Local (codes "n"))) ∷
+            stmt.Spawn (Some (codes "r")) (codes "twice") (expr.Local (codes "m") ∷ []) ∷ []) ∷
+            stmt.Sync ∷
+            stmt.Spawn (Some (codes "s")) (codes "twice") (expr.Local (codes "r") ∷ []) ∷
+            stmt.Sync ∷
+            stmt.Return (Some (expr.Local (codes "s"))) ∷ [];
+      } ∷
+      record { «cilk» = true; gives = true; name = codes "main"; params = []; body = stmt.Spawn None (codes "none") [] ∷ stmt.Return (Some (expr.Number (pos 0))) ∷ [] } ∷ [];
+}
+
+-- The locals are `n`, `r`, `s`, and then `k` of the first list and `m` of the second.
+abbrev pub branches_resolved : tree.Program
+branches_resolved = record {
+  shared = record { base = 0; words = 2 } ∷ record { base = 2; words = 3 } ∷ [];
+  main = 2;
+  functions =
+      procedure 0 0 (tree.Return (number 0) ∷ []) ∷
+      procedure 1 5 (
+      tree.Assign 1 (number 0) ∷
+      tree.Assign 2 (number 0) ∷
+      tree.If (tree.Local 0)
+      (in_order (tree.Assign 3 (number 0) ∷ tree.Add (Some 3) 1 (tree.Local 0) (minus (tree.Local 1)) ∷ []))
+      (in_order (tree.Assign 4 (number 0) ∷ tree.Assign 4 (tree.Unary Not (tree.Local 0)) ∷ tree.Spawn (Some 1) 1 (tree.Local 4 ∷ []) ∷ [])) ∷
+      tree.Sync ∷
+      tree.Spawn (Some 2) 1 (tree.Local 1 ∷ []) ∷
+      tree.Sync ∷
+      tree.Return (tree.Local 2) ∷ []) ∷
+      procedure 0 0 (tree.Spawn None 0 [] ∷ tree.Return (number 0) ∷ []) ∷ [];
+}
+
 pub record NameCases : Type 0 where
+  pub branches_are_numbered : resolved branches ≡ branches_resolved
   pub scopes_are_numbered : resolved scopes ≡ scopes_resolved
   -- Each turn sets `s` to 0 again. Three tests, two prints and two writes; a call, its read, and a print.
   pub scopes_run : outcome (resolved scopes) 100 ≡ finishes (pos 1 ∷ pos 1 ∷ pos 1 ∷ []) 10

@@ -1,11 +1,13 @@
--- Programs with calls, loops, spawns, syncs and adds: what they print, how they end, and their ticks.
+-- Programs with calls, loops, spawns, syncs and adds: what they print, how they end, and their ticks. Beside each stands a text of the
+-- same outcome: a declaration that is not looked at before it is assigned is left out of the tree, and `main` comes first.
 use Rattle.std.specs.Prelude.{◌≡◌, ℕ, pos, negsuc, Some, None, [], ◌∷◌}
 use Rattle.cilk_tree.specs.declared.tree.BinaryOp.TheVariants as op
 use Rattle.cilk_meaning.specs.declared.ends.TrapKind.TheVariants.{DivideByZero, Overflow}
 use Rattle.cilk_meaning.specs.Elision.{elision}
-use Rattle.cilk_meaning.specs.Resolved.{Local, Get, Binary, Skip, Then, Assign, Put, Print, If, While, Call, Spawn, Add, Sync, Return, Program}
+use Rattle.cilk_meaning.specs.Resolved.{Expr, Local, Get, Binary, Skip, Then, Assign, Put, Print, If, While, Call, Spawn, Add, Sync, Return, Program}
 use Rattle.cilk_meaning.specs.World.{Event, Acts, Ticks, End, start_words, events_of}
 use Rattle.cilk_meaning.specs.World as act
+use Rattle.cilk_meaning.specs.Cases.Expressions.{divides, overflows}
 use Rattle.cilk_meaning.specs.Cases.Words.{number, procedure, plain, program, plain_main, run, outcome, outcome_of, finishes, traps, spends}
 
 -- cilk int main() { }
@@ -123,6 +125,30 @@ sums = program 4 (plain 0 2 (
 abbrev pub prints_and_traps : Program
 prints_and_traps = plain_main 0 (Print (number 4) ∷ Print (Binary op.Div (number 1) (number 0)) ∷ [])
 
+-- int a[2], input[3]; int main() { print(a[1]); print(input[0]); print(input[2]); }
+abbrev pub input_behind_array : Program
+input_behind_array = record {
+  shared = record { base = 0; words = 2 } ∷ record { base = 2; words = 3 } ∷ [];
+  functions = plain 0 0 (Print (Get 0 (number 1)) ∷ Print (Get 1 (number 0)) ∷ Print (Get 1 (number 2)) ∷ []) ∷ [];
+  main = 0;
+}
+
+-- int a[2]; int main() { print(a[0] - a[1]); }
+abbrev pub reads_twice : Program
+reads_twice = plain_main 0 (Print (Binary op.Sub (Get 0 (number 0)) (Get 0 (number 1))) ∷ [])
+
+-- int a[2]; int main() { int i; while (i < 1) i++; print(i); }
+abbrev pub turns_once : Program
+turns_once = plain_main 1 (While (Binary op.Lt (Local 0) (number 1)) (Assign 0 (Binary op.Add (Local 0) (number 1))) ∷ Print (Local 0) ∷ [])
+
+-- int f(int x, int y) { } int main() { f(e, e'); }
+abbrev pub calls_with : Expr → Expr → Program
+calls_with e e' = program 0 (plain 0 0 (Call None 1 (e ∷ e' ∷ []) ∷ []) ∷ plain 2 2 [] ∷ [])
+
+-- cilk void f(int x, int y) { } cilk int main() { spawn f(e, e'); }
+abbrev pub spawns_with : Expr → Expr → Program
+spawns_with e e' = program 0 (procedure 0 0 (Spawn None 1 (e ∷ e' ∷ []) ∷ []) ∷ procedure 2 2 [] ∷ [])
+
 pub record SpawnCases : Type 0 where
   -- a sync at the end of the body
   pub nothing_finishes : outcome nothing 1 ≡ finishes [] 1
@@ -141,6 +167,8 @@ pub record SpawnCases : Type 0 where
   pub says_in_order : outcome says 1000 ≡ finishes (pos 1 ∷ pos 2 ∷ pos 3 ∷ []) 211
   -- the sync stands before the expression
   pub returns_after_sync : outcome returns_synced 100 ≡ finishes (pos 14 ∷ []) 7
+  pub first_argument_first : outcome (spawns_with divides overflows) 100 ≡ traps DivideByZero [] 0
+  pub second_argument_second : outcome (spawns_with overflows divides) 100 ≡ traps Overflow [] 0
   pub bodies_give_zero : outcome gives_zero 100 ≡ finishes (pos 0 ∷ pos 0 ∷ []) 7
 
 -- The events of `puts`, in order: a row is numbered as it starts, and a child's events stand directly behind its spawn.
@@ -153,8 +181,11 @@ pub record LogCases : Type 0 where
       Acts 0 (act.Spawn 1 1 (pos 3 ∷ [])) ∷ Acts 1 (act.Add 0 (pos 0) (pos 3)) ∷ Acts 1 act.Sync ∷
       Acts 0 (act.Spawn 2 1 (pos 4 ∷ [])) ∷ Acts 2 (act.Add 0 (pos 3) (pos 4)) ∷ Acts 2 act.Sync ∷
       Acts 0 act.Sync ∷ Acts 0 (act.Print (pos 3)) ∷ Acts 0 (act.Read 0 (pos 7)) ∷ Acts 0 (act.Print (pos 7)) ∷ Acts 0 act.Sync ∷ []
-  -- a loop test that fails is an event too
   pub calls_in_order : events_of (run nested 100) ≡ Ticks 0 ∷ Ticks 0 ∷ Ticks 0 ∷ Ticks 0 ∷ Acts 0 (act.Print (pos 10)) ∷ []
+  -- A loop's test that fails is an event too.
+  pub tests_in_order : events_of (run turns_once 100) ≡ Ticks 0 ∷ Ticks 0 ∷ Acts 0 (act.Print (pos 1)) ∷ []
+  pub reads_in_order : events_of (elision reads_twice (start_words 0 (pos 7 ∷ pos 2 ∷ [])) 100) ≡
+      Acts 0 (act.Read 0 (pos 7)) ∷ Acts 0 (act.Read 1 (pos 2)) ∷ Acts 0 (act.Print (pos 5)) ∷ []
 
 pub record CallCases : Type 0 where
   -- four plain calls and a print
@@ -162,7 +193,12 @@ pub record CallCases : Type 0 where
   -- three tests, the child's sync, and four ticks of main
   pub returns_from_loop : outcome returns_in_loop 100 ≡ finishes (pos 3 ∷ []) 8
   pub input_is_summed : outcome_of (elision sums (start_words 0 (pos 10 ∷ negsuc 2 ∷ pos 5 ∷ [])) 100) ≡ finishes (pos 12 ∷ []) 10
+  -- Words before the input's first and behind its last number start at 0.
+  pub input_from_its_base : outcome_of (elision input_behind_array (start_words 2 (pos 5 ∷ pos 6 ∷ [])) 100) ≡ finishes (pos 0 ∷ pos 5 ∷ pos 0 ∷ []) 6
   pub no_input : outcome sums 100 ≡ finishes (pos 0 ∷ []) 10
+  -- Arguments are evaluated from left to right.
+  pub first_argument_first : outcome (calls_with divides overflows) 100 ≡ traps DivideByZero [] 0
+  pub second_argument_second : outcome (calls_with overflows divides) 100 ≡ traps Overflow [] 0
   pub trap_after_print : outcome prints_and_traps 100 ≡ traps DivideByZero (pos 4 ∷ []) 1
   -- with its last tick spent on the print, it traps all the same
   pub trap_before_budget : outcome prints_and_traps 1 ≡ traps DivideByZero (pos 4 ∷ []) 1
