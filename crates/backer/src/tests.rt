@@ -87,7 +87,7 @@ const OVERFLOW: Status = Status::Trap {
 
 #[test]
 fn sources(rt: HostRuntime) -> Result<(), Fail> {
-    let rows = [
+    static ROWS: [(&str, Status, &str); 25] = [
         (
             "int main() { int x; x = 6; print(x * 7 - 2); print(x); }",
             Status::Done,
@@ -146,7 +146,7 @@ fn sources(rt: HostRuntime) -> Result<(), Fail> {
         ("int main() { if (1) ; }", NOT_YET, ""),
         ("int main() { main(); }", NOT_YET, ""),
     ];
-    for (source, status, out) in rows {
+    for &(source, status, out) in &ROWS {
         let left = run_source(rt.alloc(), source, NOTHING)?;
         assert_eq!(rt; left.ended.status, status, "{source}");
         assert_eq!(rt; left.ended.mute, false, "{source}");
@@ -164,7 +164,7 @@ fn sources(rt: HostRuntime) -> Result<(), Fail> {
 /// `serial` checks its program before it looks whether it can run it.
 #[test]
 fn unlawful_sources(rt: HostRuntime) -> Result<(), Fail> {
-    let rows = [
+    static ROWS: [(&str, &str); 7] = [
         ("", "210 in program"),
         (
             "int main() { print(y); }",
@@ -185,7 +185,7 @@ fn unlawful_sources(rt: HostRuntime) -> Result<(), Fail> {
             "209 in function main statement 2",
         ),
     ];
-    for (source, breach) in rows {
+    for &(source, breach) in &ROWS {
         let left = run_source(rt.alloc(), source, NOTHING)?;
         let line = format!(in rt.alloc(); "backer: source refused: {breach}\n")?;
         assert_eq!(rt; left.err.held(), line.as_bytes(), "{source}");
@@ -251,20 +251,20 @@ fn assert_refused(rt: &impl Abort, alloc: Global, row: Refused) -> Result<(), Fa
 
 #[test]
 fn refused_tokens(rt: HostRuntime) -> Result<(), Fail> {
-    let rows = [
-        wrong("int main() { /* x", "", 103),
-        wrong("int main() { /*/", "", 103),
-        wrong("int main() { print(", "10000000000000000000); }", 102),
-        wrong("int main() { print(", "9223372036854775808); }", 102),
-        wrong("int main() { print(", "0x1); }", 102),
-        wrong("int main() { print(", "007); }", 102),
-        wrong("int main() { print(1 ", "& 1); }", 101),
-        wrong("int main() { print(1 ", "| 1); }", 101),
-        wrong("", "#include", 101),
-        wrong("int main() { x", "$ = 1; }", 101),
+    static ROWS: [(&str, &str, u16); 10] = [
+        ("int main() { /* x", "", 103),
+        ("int main() { /*/", "", 103),
+        ("int main() { print(", "10000000000000000000); }", 102),
+        ("int main() { print(", "9223372036854775808); }", 102),
+        ("int main() { print(", "0x1); }", 102),
+        ("int main() { print(", "007); }", 102),
+        ("int main() { print(1 ", "& 1); }", 101),
+        ("int main() { print(1 ", "| 1); }", 101),
+        ("", "#include", 101),
+        ("int main() { x", "$ = 1; }", 101),
     ];
-    for row in rows {
-        assert_refused(&rt, rt.alloc(), row)?;
+    for &(before, after, kind) in &ROWS {
+        assert_refused(&rt, rt.alloc(), wrong(before, after, kind))?;
     }
     let mut bytes = b"int main() { ".to_vec(rt.alloc())?;
     bytes.push(255)?;
@@ -282,39 +282,39 @@ fn refused_tokens(rt: HostRuntime) -> Result<(), Fail> {
 
 #[test]
 fn refused_structure(rt: HostRuntime) -> Result<(), Fail> {
-    let rows = [
-        wrong("int main() { print(", "--1); }", 103),
-        wrong("int main() { print(1 + ", "); }", 103),
-        wrong("int main() { print((1)", "; }", 103),
-        wrong("int main() { x = 1 ", "}", 103),
-        wrong("int main() { if (1) ", "int x; }", 103),
-        wrong("int main() { ", "else ; }", 103),
-        wrong("int main() { if (1) ; else ; ", "else ; }", 103),
-        wrong("int main() { a[1] ", "+= 1; }", 103),
-        wrong("int main() { x = spawn ", "1; }", 103),
-        wrong("int main() { print(f", "(1)); }", 103),
-        wrong("int main() { x ", "== 1; }", 103),
-        wrong("int main() { for (int i = 0", ") ; }", 103),
-        wrong("int main() { for (f", "(); ; ) ; }", 103),
-        wrong("int a[", "-1];", 103),
-        wrong("int a", ";", 103),
-        wrong("void a", "[1];", 103),
-        wrong("int f(int a, ", ") { }", 103),
-        wrong("int f(void", ", int a) { }", 103),
-        wrong("cilk ", "f() { }", 103),
-        wrong("int main() { } ", "}", 103),
-        wrong("int ", "if() { }", 103),
-        wrong("int main() { ", "cilk_for (int i = 0; i < 1; i++) ; }", 103),
+    static ROWS: [(&str, &str); 22] = [
+        ("int main() { print(", "--1); }"),
+        ("int main() { print(1 + ", "); }"),
+        ("int main() { print((1)", "; }"),
+        ("int main() { x = 1 ", "}"),
+        ("int main() { if (1) ", "int x; }"),
+        ("int main() { ", "else ; }"),
+        ("int main() { if (1) ; else ; ", "else ; }"),
+        ("int main() { a[1] ", "+= 1; }"),
+        ("int main() { x = spawn ", "1; }"),
+        ("int main() { print(f", "(1)); }"),
+        ("int main() { x ", "== 1; }"),
+        ("int main() { for (int i = 0", ") ; }"),
+        ("int main() { for (f", "(); ; ) ; }"),
+        ("int a[", "-1];"),
+        ("int a", ";"),
+        ("void a", "[1];"),
+        ("int f(int a, ", ") { }"),
+        ("int f(void", ", int a) { }"),
+        ("cilk ", "f() { }"),
+        ("int main() { } ", "}"),
+        ("int ", "if() { }"),
+        ("int main() { ", "cilk_for (int i = 0; i < 1; i++) ; }"),
     ];
-    for row in rows {
-        assert_refused(&rt, rt.alloc(), row)?;
+    for &(before, after) in &ROWS {
+        assert_refused(&rt, rt.alloc(), wrong(before, after, 103))?;
     }
     Ok(())
 }
 
 #[test]
 fn refused_at_the_end(rt: HostRuntime) -> Result<(), Fail> {
-    let rows = [
+    static ROWS: [&str; 34] = [
         "int",
         "int main",
         "int main(",
@@ -350,38 +350,32 @@ fn refused_at_the_end(rt: HostRuntime) -> Result<(), Fail> {
         "int main() { // x",
         "int main() { /* x */",
     ];
-    for row in rows {
-        assert_refused(&rt, rt.alloc(), wrong(row, "", 103))?;
+    for &source in &ROWS {
+        assert_refused(&rt, rt.alloc(), wrong(source, "", 103))?;
     }
     Ok(())
 }
 
 #[test]
 fn refused_levels(rt: HostRuntime) -> Result<(), Fail> {
-    let rows = [
-        repeated("int main() { print(", "(", 64, "", "1", 104),
-        repeated("int main() { print(", "- ", 64, "", "1); }", 104),
-        repeated("int main() { print(", "a[", 64, "", "1", 104),
-        repeated("int main() {", "{", 64, "", "x = 1;", 104),
-        repeated("int main() {", "{", 64, "", ";", 104),
-        repeated("int main() {", "if (1) ", 64, "", ";", 104),
-        repeated("int main() {", "if (1) {", 64, "", "; }", 104),
-        repeated("int main() {", "while (1) ", 64, "", "x++; }", 104),
-        repeated("int main() {{", "for (;;) ", 31, "for (", ";;) ; }}", 104),
-        repeated(
-            "int main() {",
-            "{",
-            62,
-            "for (x = 1; x < 2; ",
-            "x++) ; }",
-            104,
-        ),
-        repeated("int main() {", "{", 62, "for (;;) ", "x++; }", 104),
-        repeated("int main() {", "{", 63, "x += ", "1; }", 104),
-        repeated("int main() {", "{", 63, "a[", "1] = 1; }", 104),
-        repeated("int main() {", "{", 63, "print(-", "1); }", 104),
+    static ROWS: [(&str, &str, usize, &str, &str); 14] = [
+        ("int main() { print(", "(", 64, "", "1"),
+        ("int main() { print(", "- ", 64, "", "1); }"),
+        ("int main() { print(", "a[", 64, "", "1"),
+        ("int main() {", "{", 64, "", "x = 1;"),
+        ("int main() {", "{", 64, "", ";"),
+        ("int main() {", "if (1) ", 64, "", ";"),
+        ("int main() {", "if (1) {", 64, "", "; }"),
+        ("int main() {", "while (1) ", 64, "", "x++; }"),
+        ("int main() {{", "for (;;) ", 31, "for (", ";;) ; }}"),
+        ("int main() {", "{", 62, "for (x = 1; x < 2; ", "x++) ; }"),
+        ("int main() {", "{", 62, "for (;;) ", "x++; }"),
+        ("int main() {", "{", 63, "x += ", "1; }"),
+        ("int main() {", "{", 63, "a[", "1] = 1; }"),
+        ("int main() {", "{", 63, "print(-", "1); }"),
     ];
-    for row in rows {
+    for &(before, part, count, behind, after) in &ROWS {
+        let row = repeated(before, part, count, behind, after, 104);
         assert_refused(&rt, rt.alloc(), row)?;
     }
     Ok(())
@@ -417,7 +411,7 @@ fn is_read(alloc: Global, source: &str) -> bool {
 
 #[test]
 fn levels_that_are_kept(rt: HostRuntime) -> Result<(), Fail> {
-    let rows = [
+    static ROWS: [(&str, &str, usize, &str, &str, &str); 7] = [
         ("int main() { print(", "(", 63, "1", ")", "); }"),
         ("int main() { print(", "- ", 63, "1", "", "); }"),
         ("int main() { print(", "a[", 63, "1", "]", "); }"),
@@ -433,7 +427,7 @@ fn levels_that_are_kept(rt: HostRuntime) -> Result<(), Fail> {
         ),
         ("int main() {", "{", 62, "for (;;) { }", "}", "}"),
     ];
-    for (before, opening, count, inside, closing, after) in rows {
+    for &(before, opening, count, inside, closing, after) in &ROWS {
         let mut source = repeating(rt.alloc(), before, opening, count, inside)?;
         source.push_str(repeating(rt.alloc(), "", closing, count, after)?.as_str())?;
         assert!(rt; is_read(rt.alloc(), source.as_str()), "{before} {opening}");
@@ -467,7 +461,7 @@ struct Counting {
 
 #[test]
 fn counts(rt: HostRuntime) -> Result<(), Fail> {
-    let rows = [
+    static ROWS: [Counting; 9] = [
         Counting {
             before: "int main() { print(0",
             opening: "+",
@@ -550,7 +544,7 @@ fn counts(rt: HostRuntime) -> Result<(), Fail> {
             after: "",
         },
     ];
-    for row in rows {
+    for row in &ROWS {
         let mut kept = String::from_str(rt.alloc(), row.before)?;
         kept.push_str(numbered(rt.alloc(), row.opening, row.most, row.closing)?.as_str())?;
         let mut past = kept.clone()?;
@@ -630,7 +624,7 @@ fn canonical(alloc: Global, statements: &str) -> Result<String, Fail> {
 
 #[test]
 fn sugar(rt: HostRuntime) -> Result<(), Fail> {
-    let rows = [
+    static ROWS: [(&str, &str); 17] = [
         ("int x, y = 1;", "  int x;\n  int y;\n  y = 1;\n"),
         (
             "int x = f(), y = spawn g(x);",
@@ -673,7 +667,7 @@ fn sugar(rt: HostRuntime) -> Result<(), Fail> {
         ("x = (1 || 2) && (3 && 4);", "  x = (1 || 2) && (3 && 4);\n"),
         ("sync; while (x) { }", "  sync;\n  while (x) {\n  }\n"),
     ];
-    for (source, lines) in rows {
+    for &(source, lines) in &ROWS {
         let text = canonical(rt.alloc(), source)?;
         let mut wanted = String::from_str(rt.alloc(), "int main() {\n")?;
         wanted.push_str(lines)?;
@@ -697,7 +691,7 @@ fn names_of_bytes(rt: HostRuntime) -> Result<(), Fail> {
 
 #[test]
 fn canonical_programs(rt: HostRuntime) -> Result<(), Fail> {
-    let rows = [
+    static ROWS: [(&str, &str); 5] = [
         (
             "int a[2];int main(){int i;for(i=0;i<2;i++)a[i]=-(-i)+1;}",
             "int a[2];\nint main() {\n  int i;\n  {\n    i = 0;\n    while (i < 2) {\n      a[i] = - -i + 1;\n      i = i + 1;\n    }\n  }\n}\n",
@@ -713,7 +707,7 @@ fn canonical_programs(rt: HostRuntime) -> Result<(), Fail> {
         ("// nothing", ""),
         ("/* a */ /**/ /***/", ""),
     ];
-    for (source, wanted) in rows {
+    for &(source, wanted) in &ROWS {
         let Ok(program) = read_program(rt.alloc(), source.as_bytes()) else {
             assert!(rt; false, "{source}");
             continue;
@@ -731,7 +725,7 @@ fn canonical_programs(rt: HostRuntime) -> Result<(), Fail> {
 
 #[test]
 fn refused_words(rt: HostRuntime) -> Result<(), Fail> {
-    let rows: [&[&str]; 9] = [
+    static ROWS: [&[&str]; 9] = [
         &[],
         &["check"],
         &["check", "f", "f"],
@@ -742,7 +736,7 @@ fn refused_words(rt: HostRuntime) -> Result<(), Fail> {
         &["serial", ""],
         &["frob", "f"],
     ];
-    for words in rows {
+    for &words in &ROWS {
         let left = run(rt.alloc(), words, Vec::new(rt.alloc()), NOTHING)?;
         assert_eq!(rt; left.ended.status, Status::Words);
         assert_eq!(rt; left.ended.number(), 1);

@@ -7,41 +7,40 @@ use std::test::Fail;
 
 #[test]
 fn refused_additions(rt: HostRuntime) -> Result<(), Fail> {
-    let rows = [
-        wrong("int main() { fetch_add(a", ", 1); }", 103),
-        wrong("int main() { fetch_add(a[0]", "); }", 103),
-        wrong("int main() { fetch_add(a[0] ", "1); }", 103),
-        wrong("int main() { fetch_add(a[0], 1", "; }", 103),
-        wrong("int main() { fetch_add(a[0], 1", ", 2); }", 103),
-        wrong("int main() { fetch_add(a[0", ", 1); }", 103),
-        wrong("int main() { fetch_add(a[", "], 1); }", 103),
-        wrong("int main() { fetch_add(a[0], ", "); }", 103),
-        wrong("int main() { fetch_add", "[0]; }", 103),
-        wrong("int main() { fetch_add(", "1[0], 1); }", 103),
-        wrong("int main() { fetch_add ", "= 1; }", 103),
-        wrong("int main() { fetch_add(a[0], 1) ", "+ 1; }", 103),
-        wrong(
+    static ROWS: [(&str, &str); 25] = [
+        ("int main() { fetch_add(a", ", 1); }"),
+        ("int main() { fetch_add(a[0]", "); }"),
+        ("int main() { fetch_add(a[0] ", "1); }"),
+        ("int main() { fetch_add(a[0], 1", "; }"),
+        ("int main() { fetch_add(a[0], 1", ", 2); }"),
+        ("int main() { fetch_add(a[0", ", 1); }"),
+        ("int main() { fetch_add(a[", "], 1); }"),
+        ("int main() { fetch_add(a[0], ", "); }"),
+        ("int main() { fetch_add", "[0]; }"),
+        ("int main() { fetch_add(", "1[0], 1); }"),
+        ("int main() { fetch_add ", "= 1; }"),
+        ("int main() { fetch_add(a[0], 1) ", "+ 1; }"),
+        (
             "int main() { x = fetch_add(a[0], ",
             "fetch_add(a[0], 1)); }",
-            103,
         ),
-        wrong("int main() { print(", "fetch_add(a[0], 1)); }", 103),
-        wrong("int main() { x += ", "fetch_add(a[0], 1); }", 103),
-        wrong("int main() { a[0] = ", "fetch_add(a[0], 1); }", 103),
-        wrong("int main() { x = 1 + ", "fetch_add(a[0], 1); }", 103),
-        wrong("int main() { spawn ", "fetch_add(a[0], 1); }", 103),
-        wrong("int main() { x = spawn ", "fetch_add(a[0], 1); }", 103),
-        wrong("int main() { for (", "fetch_add(a[0], 1); ; ) ; }", 103),
-        wrong("int main() { for (; ; ", "fetch_add(a[0], 1)) ; }", 103),
-        wrong("int main() { int ", "fetch_add; }", 103),
-        wrong("int f(int ", "fetch_add) { }", 103),
-        wrong("int ", "fetch_add[1];", 103),
-        wrong("void ", "fetch_add() { }", 103),
+        ("int main() { print(", "fetch_add(a[0], 1)); }"),
+        ("int main() { x += ", "fetch_add(a[0], 1); }"),
+        ("int main() { a[0] = ", "fetch_add(a[0], 1); }"),
+        ("int main() { x = 1 + ", "fetch_add(a[0], 1); }"),
+        ("int main() { spawn ", "fetch_add(a[0], 1); }"),
+        ("int main() { x = spawn ", "fetch_add(a[0], 1); }"),
+        ("int main() { for (", "fetch_add(a[0], 1); ; ) ; }"),
+        ("int main() { for (; ; ", "fetch_add(a[0], 1)) ; }"),
+        ("int main() { int ", "fetch_add; }"),
+        ("int f(int ", "fetch_add) { }"),
+        ("int ", "fetch_add[1];"),
+        ("void ", "fetch_add() { }"),
     ];
-    for row in rows {
-        assert_refused(&rt, rt.alloc(), row)?;
+    for &(before, after) in &ROWS {
+        assert_refused(&rt, rt.alloc(), wrong(before, after, 103))?;
     }
-    let ends = [
+    static ENDS: [&str; 12] = [
         "fetch_add",
         "fetch_add(",
         "fetch_add(a",
@@ -55,7 +54,7 @@ fn refused_additions(rt: HostRuntime) -> Result<(), Fail> {
         "x = fetch_add(a[0], 1)",
         "int x = fetch_add(a[0], 1)",
     ];
-    for end in ends {
+    for &end in &ENDS {
         let source = repeating(rt.alloc(), "int main() { ", "", 0, end)?;
         assert_eq!(rt;
             refusal_of(rt.alloc(), source.as_str()),
@@ -69,35 +68,22 @@ fn refused_additions(rt: HostRuntime) -> Result<(), Fail> {
 /// The brackets make one level, the parentheses none.
 #[test]
 fn levels_of_additions(rt: HostRuntime) -> Result<(), Fail> {
-    let rows = [
-        repeated("int main() {", "{", 63, "fetch_add(a[", "0], 1); }", 104),
-        repeated(
-            "int main() {",
-            "{",
-            63,
-            "x = fetch_add(a[",
-            "0], 1); }",
-            104,
-        ),
-        repeated("int main() {", "{", 62, "fetch_add(a[(", "0)], 1); }", 104),
-        repeated(
-            "int main() {",
-            "{",
-            62,
-            "fetch_add(a[0], ((",
-            "1))); }",
-            104,
-        ),
+    static ROWS: [(usize, &str, &str); 4] = [
+        (63, "fetch_add(a[", "0], 1); }"),
+        (63, "x = fetch_add(a[", "0], 1); }"),
+        (62, "fetch_add(a[(", "0)], 1); }"),
+        (62, "fetch_add(a[0], ((", "1))); }"),
     ];
-    for row in rows {
+    for &(blocks, inside, after) in &ROWS {
+        let row = repeated("int main() {", "{", blocks, inside, after, 104);
         assert_refused(&rt, rt.alloc(), row)?;
     }
-    let kept = [
+    static KEPT: [(usize, &str); 3] = [
         (62, "fetch_add(a[0], (1));"),
         (62, "x = fetch_add(a[0], 1);"),
         (61, "int x = fetch_add(a[-y], ((1)));"),
     ];
-    for (blocks, inside) in kept {
+    for &(blocks, inside) in &KEPT {
         let mut source = repeating(rt.alloc(), "int main() {", "{", blocks, inside)?;
         source.push_str(repeating(rt.alloc(), "", "}", blocks, "}")?.as_str())?;
         assert!(rt; is_read(rt.alloc(), source.as_str()), "{inside}");
@@ -131,7 +117,7 @@ fn counts_of_additions(rt: HostRuntime) -> Result<(), Fail> {
 
 #[test]
 fn canonical_additions(rt: HostRuntime) -> Result<(), Fail> {
-    let rows = [
+    static ROWS: [(&str, &str); 6] = [
         ("fetch_add(a[0],1);", "  fetch_add(a[0], 1);\n"),
         (
             "x = fetch_add(a[(i) + 1], ((-y) * 2));",
@@ -154,7 +140,7 @@ fn canonical_additions(rt: HostRuntime) -> Result<(), Fail> {
             "  if (x) {\n    fetch_add(a[0], 1);\n  } else {\n    while (x) {\n      y = fetch_add(a[b[0]], a[1]);\n    }\n  }\n",
         ),
     ];
-    for (source, lines) in rows {
+    for &(source, lines) in &ROWS {
         let text = canonical(rt.alloc(), source)?;
         let wanted = repeating(rt.alloc(), "int main() {\n", lines, 1, "}\n")?;
         assert_eq!(rt; text.as_str(), wanted.as_str(), "{source}");
@@ -169,7 +155,7 @@ fn canonical_additions(rt: HostRuntime) -> Result<(), Fail> {
 
 #[test]
 fn lawful_additions(rt: HostRuntime) -> Result<(), Fail> {
-    let rows = [
+    static ROWS: [(&str, &str); 17] = [
         ("fetch_add(a[0], 1); int x; x = fetch_add(a[x], x);", ""),
         (
             "int x; fetch_add(x[0], 1);",
@@ -218,7 +204,7 @@ fn lawful_additions(rt: HostRuntime) -> Result<(), Fail> {
             "",
         ),
     ];
-    for (body, breach) in rows {
+    for &(body, breach) in &ROWS {
         assert_main(&rt, rt.alloc(), body, breach)?;
     }
     assert_checked(

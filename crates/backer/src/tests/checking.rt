@@ -56,7 +56,7 @@ pub(super) fn assert_main(
 /// Two things that share a name, and names that do not clash.
 #[test]
 fn names(rt: HostRuntime) -> Result<(), Fail> {
-    let rows = [
+    static ROWS: [(&str, &str); 21] = [
         (
             "cilk int f() { return 1; } cilk int main() { int i; int x; for (i = 0; i < 2; i++) { print(x); x = spawn f(); } sync; return 0; }",
             "209 in function main statement 5",
@@ -127,7 +127,7 @@ fn names(rt: HostRuntime) -> Result<(), Fail> {
         ("cilk int main() { int x = x; }", ""),
         ("int main() { f(a[0]); } void f(int x) { } int a[1];", ""),
     ];
-    for (source, breach) in rows {
+    for &(source, breach) in &ROWS {
         assert_checked(&rt, rt.alloc(), source, breach)?;
     }
     Ok(())
@@ -136,7 +136,7 @@ fn names(rt: HostRuntime) -> Result<(), Fail> {
 /// Names that are none in scope, and how far scopes reach.
 #[test]
 fn scopes(rt: HostRuntime) -> Result<(), Fail> {
-    let rows = [
+    static ROWS: [(&str, &str); 9] = [
         (
             "cilk int main() { { int x; } x = 1; }",
             "202 in function main statement 2",
@@ -171,7 +171,7 @@ fn scopes(rt: HostRuntime) -> Result<(), Fail> {
             "202 in function main statement 4",
         ),
     ];
-    for (source, breach) in rows {
+    for &(source, breach) in &ROWS {
         assert_checked(&rt, rt.alloc(), source, breach)?;
     }
     Ok(())
@@ -180,7 +180,7 @@ fn scopes(rt: HostRuntime) -> Result<(), Fail> {
 /// Names in each position that stand for nothing or for another kind of thing, and calls that do not fit.
 #[test]
 fn uses(rt: HostRuntime) -> Result<(), Fail> {
-    let rows = [
+    static ROWS: [(&str, &str); 28] = [
         ("int x; a = 1;", "203 in function main statement 1"),
         ("int x; x = 0 && u;", "202 in function main statement 1"),
         (
@@ -213,7 +213,7 @@ fn uses(rt: HostRuntime) -> Result<(), Fail> {
         ("int x; x = w(1);", "204 in function main statement 1"),
         ("v(main);", "203 in function main statement 0"),
     ];
-    for (source, breach) in rows {
+    for &(source, breach) in &ROWS {
         assert_main(&rt, rt.alloc(), source, breach)?;
     }
     Ok(())
@@ -222,7 +222,7 @@ fn uses(rt: HostRuntime) -> Result<(), Fail> {
 /// What functions of each kind may do, the main that a program has to have, and the limit of words.
 #[test]
 fn functions(rt: HostRuntime) -> Result<(), Fail> {
-    let rows = [
+    static ROWS: [(&str, &str); 18] = [
         (
             "int main() { if (0) main(1); }",
             "204 in function main statement 1",
@@ -275,7 +275,7 @@ fn functions(rt: HostRuntime) -> Result<(), Fail> {
             "209 in function d statement 1",
         ),
     ];
-    for (source, breach) in rows {
+    for &(source, breach) in &ROWS {
         assert_checked(&rt, rt.alloc(), source, breach)?;
     }
     Ok(())
@@ -301,7 +301,7 @@ fn the_last_local(rt: HostRuntime) -> Result<(), Fail> {
 /// A spawn's target before a sync, in a row and at `if`.
 #[test]
 fn pending_locals(rt: HostRuntime) -> Result<(), Fail> {
-    let rows = [
+    static ROWS: [(&str, &str); 23] = [
         (
             "int x, y; x = spawn c(1); print(x);",
             "209 in function main statement 3",
@@ -389,7 +389,7 @@ fn pending_locals(rt: HostRuntime) -> Result<(), Fail> {
             "209 in function main statement 4",
         ),
     ];
-    for (source, breach) in rows {
+    for &(source, breach) in &ROWS {
         assert_main(&rt, rt.alloc(), source, breach)?;
     }
     Ok(())
@@ -398,7 +398,7 @@ fn pending_locals(rt: HostRuntime) -> Result<(), Fail> {
 /// The same in loops.
 #[test]
 fn pending_locals_in_loops(rt: HostRuntime) -> Result<(), Fail> {
-    let rows = [
+    static ROWS: [(&str, &str); 16] = [
         (
             "int x; while (0) { sync; x = spawn c(1); } print(x);",
             "209 in function main statement 4",
@@ -461,7 +461,7 @@ fn pending_locals_in_loops(rt: HostRuntime) -> Result<(), Fail> {
             "",
         ),
     ];
-    for (source, breach) in rows {
+    for &(source, breach) in &ROWS {
         assert_main(&rt, rt.alloc(), source, breach)?;
     }
     Ok(())
@@ -470,7 +470,7 @@ fn pending_locals_in_loops(rt: HostRuntime) -> Result<(), Fail> {
 /// The first of several breaches, and statements that are counted as what they mean.
 #[test]
 fn first_breach(rt: HostRuntime) -> Result<(), Fail> {
-    let rows = [
+    static ROWS: [(&str, &str); 32] = [
         ("int a[4194305]; int main() { }", "211 in array a"),
         ("int a[1]; int a() { } int main() { }", "201 in function a"),
         ("int f() { }", "210 in program"),
@@ -582,7 +582,7 @@ fn first_breach(rt: HostRuntime) -> Result<(), Fail> {
             "203 in function f statement 0",
         ),
     ];
-    for (source, breach) in rows {
+    for &(source, breach) in &ROWS {
         assert_checked(&rt, rt.alloc(), source, breach)?;
     }
     Ok(())
@@ -591,7 +591,7 @@ fn first_breach(rt: HostRuntime) -> Result<(), Fail> {
 /// What the answer says where its line is not asked for.
 #[test]
 fn breaches(rt: HostRuntime) -> Result<(), Fail> {
-    let rows = [
+    static ROWS: [(&str, u16, CheckPlace); 4] = [
         ("int a[1], a[1];", 201, CheckPlace::Shared(1)),
         ("int a() { } int a() { }", 201, CheckPlace::Function(1)),
         (
@@ -601,7 +601,7 @@ fn breaches(rt: HostRuntime) -> Result<(), Fail> {
         ),
         ("", 210, CheckPlace::Whole),
     ];
-    for (source, kind, place) in rows {
+    for &(source, kind, place) in &ROWS {
         let text = source.as_bytes().to_vec(rt.alloc())?;
         let left = run(rt.alloc(), &["check", "f"], text, NOTHING)?;
         assert_eq!(rt;
