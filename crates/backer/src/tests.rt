@@ -249,6 +249,18 @@ fn assert_refused(rt: &impl Abort, alloc: Global, row: Refused) -> Result<(), Fa
     Ok(())
 }
 
+/// Where the second part of each text begins stands what is not expected.
+fn assert_each_unexpected(
+    rt: &impl Abort,
+    alloc: Global,
+    rows: &[(&'static str, &'static str)],
+) -> Result<(), Fail> {
+    for &(before, after) in rows {
+        assert_refused(rt, alloc, wrong(before, after, 103))?;
+    }
+    Ok(())
+}
+
 #[test]
 fn refused_tokens(rt: HostRuntime) -> Result<(), Fail> {
     static ROWS: [(&str, &str, u16); 10] = [
@@ -306,10 +318,7 @@ fn refused_structure(rt: HostRuntime) -> Result<(), Fail> {
         ("int ", "if() { }"),
         ("int main() { ", "cilk_for (int i = 0; i < 1; i++) ; }"),
     ];
-    for &(before, after) in &ROWS {
-        assert_refused(&rt, rt.alloc(), wrong(before, after, 103))?;
-    }
-    Ok(())
+    assert_each_unexpected(&rt, rt.alloc(), &ROWS)
 }
 
 #[test]

@@ -1,5 +1,5 @@
 -- What a command makes of a text.
-use Rattle.std.specs.Prelude.{◌≡◌, ℕ, ◌<◌, ◌≤◌, Result, Ok, Err, List, length}
+use Rattle.std.specs.Prelude.{◌≡◌, ℕ, ◌*◌, ◌<◌, ◌≤◌, Result, Ok, Err, List, length}
 use Rattle.cilk_reader.specs.Refusals.{IsRefusedAt}
 use Rattle.cilk_tree.specs.declared.tree.Program.{Program}
 use Rattle.cilk_tree.specs.Canonical.{canonical_text}
@@ -28,6 +28,10 @@ Accepts text program = IsProgramOf text program × IsLawful program
 -- How many ticks a serial run may make. A print is one, and no program of a text within the limit has as many.
 abbrev pub tick_budget : ℕ
 tick_budget = 2000000
+
+-- How large a program may be for the budget to suffice: each print, which is a tick, has a statement and an expression.
+abbrev pub largest_run : ℕ
+largest_run = 2 * tick_budget
 
 -- the serial elision within the budget
 abbrev pub meaning : Program → Run

@@ -1,5 +1,5 @@
 ghost use Rattle.std.specs.Prelude.{◌≡◌, ◌⊎◌, ◌≤◌, MatchResult};
-ghost use Rattle.backer_top.specs.Due.{Makes};
+ghost use Rattle.backer_top.specs.Due.{Makes, largest_run};
 ghost use Rattle.cilk_tree.specs.Size.{program_size};
 
 use crate::lines::lines_of;
@@ -15,7 +15,7 @@ const BUDGET: u64 = 2_000_000;
 
 /// What the command makes of a lawful program: a text for `out`, or the status that stands in place of one.
 pub(crate) fn made(alloc: Global, command: Command, program: &Program) -> Result<Vec<u8>, Status>
-    requires { program_size program.now ≤ 4000000 }
+    requires { program_size program.now ≤ largest_run }
     ensures { MatchResult result (λ text. Makes command program.now (Ok text.items))
         (λ status. Makes command program.now (Err status) ⊎ (status ≡ Status.Memory)) }
 {
@@ -30,7 +30,7 @@ pub(crate) fn made(alloc: Global, command: Command, program: &Program) -> Result
 
 /// What the program prints as its serial elision, each value on a line.
 fn run_main(alloc: Global, program: &Program) -> Result<Vec<u8>, Status>
-    requires { program_size program.now ≤ 4000000 }
+    requires { program_size program.now ≤ largest_run }
     ensures { MatchResult result (λ text. Makes Command.Serial program.now (Ok text.items))
         (λ status. Makes Command.Serial program.now (Err status) ⊎ (status ≡ Status.Memory)) }
 {

@@ -1,5 +1,5 @@
 ghost use Rattle.cilk_checker.specs.Judged.{due, Tells};
-ghost use Rattle.cilk_checker.specs.Sound.{IsRefusal};
+ghost use Rattle.cilk_checker.specs.Sound.{IsRefusal, largest_checked};
 ghost use Rattle.cilk_checker.specs.Tables.{IsComplete};
 ghost use Rattle.cilk_tree.specs.Lawful.Lawful.{IsCheckRefusal, IsLawful};
 ghost use Rattle.cilk_tree.specs.Lawful.Rules.{lacks_main};
@@ -44,7 +44,7 @@ impl Checked {
         ensures same { result.now ≡ self.now }
         ensures lawful { IsLawful self.now }
         ensures writable { IsWritable self.now }
-        ensures small { program_size self.now ≤ 2097152 }
+        ensures small { program_size self.now ≤ largest_checked }
     {
         &self.program
     }
@@ -55,7 +55,7 @@ impl Checked {
 /// on syncs is broken, at the first use of a local that a spawn may still set. A program that is refused is dropped.
 pub fn check_program(alloc: Global, program: Program) -> Result<Checked, CheckRefusal>
     requires writable { IsWritable program }
-    requires small { program_size program ≤ 2097152 }
+    requires small { program_size program ≤ largest_checked }
     ensures lawful { IfOk result (λ checked. (checked ≡ program) × IsLawful program) }
     ensures accepted { IsLawful program → MatchResult result (λ checked. checked ≡ program) (λ refusal. refusal ≡ CheckRefusal.Memory) }
     ensures refused { IfErr result (IsRefusal program) }
@@ -67,7 +67,7 @@ pub fn check_program(alloc: Global, program: Program) -> Result<Checked, CheckRe
 
 /// Judges the program by all rules.
 fn check_rules(alloc: Global, program: &Program) -> Result<(), CheckRefusal>
-    requires { program_size program.now ≤ 2097152 }
+    requires { program_size program.now ≤ largest_checked }
     ensures ok { OnOk result (due program.now ≡ None) }
     ensures err { IfErr result (λ refusal. Tells (due program.now) refusal) }
 {

@@ -1,5 +1,6 @@
 ghost use Rattle.cilk_checker.specs.Judged.{first_refusal, first_use, judged_function, judged_functions, Tells};
 ghost use Rattle.cilk_checker.specs.Names.{value_at};
+ghost use Rattle.cilk_checker.specs.Sound.{largest_checked};
 ghost use Rattle.cilk_checker.specs.Tables.{IsComplete};
 ghost use Rattle.cilk_tree.specs.declared.place.CheckPlace.TheVariants.{Statement};
 ghost use Rattle.cilk_tree.specs.Lawful.Flow.{flow_of};
@@ -29,7 +30,7 @@ pub(crate) fn check_functions(
     globals: &Globals,
 ) -> Result<Option<CheckPlace>, CheckRefusal>
     requires complete { IsComplete globals.now }
-    requires few { length globals.now.program.now.functions ≤ 2097152 }
+    requires few { length globals.now.program.now.functions ≤ largest_checked }
     ensures ok { OnOk result (first_refusal (judged_functions globals.now.program.now 0 globals.now.program.now.functions) ≡ None) }
     ensures found { IfOk result (λ found. found ≡ first_use 0 globals.now.program.now.functions) }
     ensures err { IfErr result (λ refusal. Tells (first_refusal (judged_functions globals.now.program.now 0 globals.now.program.now.functions)) refusal) }

@@ -1,6 +1,7 @@
 ghost use Rattle.cilk_checker.specs.Judged.{first_refusal, judged_arrays, Tells};
 ghost use Rattle.cilk_checker.specs.Meanings.{seen, entry_meaning, global_meaning};
 ghost use Rattle.cilk_checker.specs.Names.{value_at};
+ghost use Rattle.cilk_checker.specs.Sound.{largest_checked};
 ghost use Rattle.cilk_checker.specs.Tables.{IsComplete};
 ghost use Rattle.cilk_tree.specs.Lawful.Scope.{meaning};
 ghost use Rattle.std.specs.Prelude.{◌≡◌, ◌≤◌, ℕ, List, [], codes, None, IfOk, IfErr, OnOk, length, MatchResult};
@@ -45,7 +46,7 @@ pub(crate) fn collect_globals<'a>(
     alloc: Global,
     program: &'a Program,
 ) -> Result<Globals<'a>, CheckRefusal>
-    requires { length program.now.shared ≤ 2097152 }
+    requires { length program.now.shared ≤ largest_checked }
     ensures complete { IfOk result (λ globals. IsComplete globals) }
     ensures of { IfOk result (λ globals. globals.program.now ≡ program.now) }
     ensures ok { OnOk result (first_refusal (judged_arrays program.now 0 program.now.shared) ≡ None) }
@@ -68,7 +69,7 @@ fn add_arrays<'a>(
     program: &'a Program,
 ) -> Result<(), CheckRefusal>
     requires empty { (name : List ℕ) → value_at names.old.values name ≡ None }
-    requires few { length program.now.shared ≤ 2097152 }
+    requires few { length program.now.shared ≤ largest_checked }
     ensures names { OnOk result ((name : List ℕ) → entry_meaning (value_at names.new.values name) ≡ global_meaning program.now.shared [] name) }
     ensures answer { MatchResult result (λ _. first_refusal (judged_arrays program.now 0 program.now.shared) ≡ None) (λ refusal. Tells (first_refusal (judged_arrays program.now 0 program.now.shared)) refusal) }
 {

@@ -1,6 +1,9 @@
 //! The rows of `fetch_add`: what text is one, where its levels and counts end, how it is printed, and which are lawful.
-use super::checking::{assert_checked, assert_main};
-use super::{assert_refused, canonical, is_read, numbered, refusal_of, repeated, repeating, wrong};
+use super::checking::{assert_checked, assert_each_main};
+use super::{
+    assert_each_unexpected, assert_refused, canonical, is_read, numbered, refusal_of, repeated,
+    repeating,
+};
 use cilk_reader::read_program;
 use cilk_tree::print_program;
 use std::test::Fail;
@@ -37,9 +40,7 @@ fn refused_additions(rt: HostRuntime) -> Result<(), Fail> {
         ("int ", "fetch_add[1];"),
         ("void ", "fetch_add() { }"),
     ];
-    for &(before, after) in &ROWS {
-        assert_refused(&rt, rt.alloc(), wrong(before, after, 103))?;
-    }
+    assert_each_unexpected(&rt, rt.alloc(), &ROWS)?;
     static ENDS: [&str; 12] = [
         "fetch_add",
         "fetch_add(",
@@ -204,9 +205,7 @@ fn lawful_additions(rt: HostRuntime) -> Result<(), Fail> {
             "",
         ),
     ];
-    for &(body, breach) in &ROWS {
-        assert_main(&rt, rt.alloc(), body, breach)?;
-    }
+    assert_each_main(&rt, rt.alloc(), &ROWS)?;
     assert_checked(
         &rt,
         rt.alloc(),

@@ -38,12 +38,7 @@ pub(super) fn assert_checked(
 }
 
 /// The same of a program whose main, which has this body, stands behind an array, and functions of each kind.
-pub(super) fn assert_main(
-    rt: &impl Abort,
-    alloc: Global,
-    body: &str,
-    breach: &str,
-) -> Result<(), Fail> {
+fn assert_main(rt: &impl Abort, alloc: Global, body: &str, breach: &str) -> Result<(), Fail> {
     let mut source = String::from_str(
         alloc,
         "int a[2]; int f(int p) { return p; } cilk int c(int p) { return p; } void v() { } cilk void w() { } cilk int main() { ",
@@ -51,6 +46,26 @@ pub(super) fn assert_main(
     source.push_str(body)?;
     source.push_str(" }")?;
     assert_checked(rt, alloc, source.as_str(), breach)
+}
+
+/// `assert_checked` of each row.
+fn assert_each_checked(rt: &impl Abort, alloc: Global, rows: &[(&str, &str)]) -> Result<(), Fail> {
+    for &(source, breach) in rows {
+        assert_checked(rt, alloc, source, breach)?;
+    }
+    Ok(())
+}
+
+/// `assert_main` of each row.
+pub(super) fn assert_each_main(
+    rt: &impl Abort,
+    alloc: Global,
+    rows: &[(&str, &str)],
+) -> Result<(), Fail> {
+    for &(body, breach) in rows {
+        assert_main(rt, alloc, body, breach)?;
+    }
+    Ok(())
 }
 
 /// Two things that share a name, and names that do not clash.
@@ -127,10 +142,7 @@ fn names(rt: HostRuntime) -> Result<(), Fail> {
         ("cilk int main() { int x = x; }", ""),
         ("int main() { f(a[0]); } void f(int x) { } int a[1];", ""),
     ];
-    for &(source, breach) in &ROWS {
-        assert_checked(&rt, rt.alloc(), source, breach)?;
-    }
-    Ok(())
+    assert_each_checked(&rt, rt.alloc(), &ROWS)
 }
 
 /// Names that are none in scope, and how far scopes reach.
@@ -171,10 +183,7 @@ fn scopes(rt: HostRuntime) -> Result<(), Fail> {
             "202 in function main statement 4",
         ),
     ];
-    for &(source, breach) in &ROWS {
-        assert_checked(&rt, rt.alloc(), source, breach)?;
-    }
-    Ok(())
+    assert_each_checked(&rt, rt.alloc(), &ROWS)
 }
 
 /// Names in each position that stand for nothing or for another kind of thing, and calls that do not fit.
@@ -213,10 +222,7 @@ fn uses(rt: HostRuntime) -> Result<(), Fail> {
         ("int x; x = w(1);", "204 in function main statement 1"),
         ("v(main);", "203 in function main statement 0"),
     ];
-    for &(source, breach) in &ROWS {
-        assert_main(&rt, rt.alloc(), source, breach)?;
-    }
-    Ok(())
+    assert_each_main(&rt, rt.alloc(), &ROWS)
 }
 
 /// What functions of each kind may do, the main that a program has to have, and the limit of words.
@@ -275,10 +281,7 @@ fn functions(rt: HostRuntime) -> Result<(), Fail> {
             "209 in function d statement 1",
         ),
     ];
-    for &(source, breach) in &ROWS {
-        assert_checked(&rt, rt.alloc(), source, breach)?;
-    }
-    Ok(())
+    assert_each_checked(&rt, rt.alloc(), &ROWS)
 }
 
 /// The last of 256 locals is pending as the others are.
@@ -389,10 +392,7 @@ fn pending_locals(rt: HostRuntime) -> Result<(), Fail> {
             "209 in function main statement 4",
         ),
     ];
-    for &(source, breach) in &ROWS {
-        assert_main(&rt, rt.alloc(), source, breach)?;
-    }
-    Ok(())
+    assert_each_main(&rt, rt.alloc(), &ROWS)
 }
 
 /// The same in loops.
@@ -461,10 +461,7 @@ fn pending_locals_in_loops(rt: HostRuntime) -> Result<(), Fail> {
             "",
         ),
     ];
-    for &(source, breach) in &ROWS {
-        assert_main(&rt, rt.alloc(), source, breach)?;
-    }
-    Ok(())
+    assert_each_main(&rt, rt.alloc(), &ROWS)
 }
 
 /// The first of several breaches, and statements that are counted as what they mean.
@@ -582,10 +579,7 @@ fn first_breach(rt: HostRuntime) -> Result<(), Fail> {
             "203 in function f statement 0",
         ),
     ];
-    for &(source, breach) in &ROWS {
-        assert_checked(&rt, rt.alloc(), source, breach)?;
-    }
-    Ok(())
+    assert_each_checked(&rt, rt.alloc(), &ROWS)
 }
 
 /// What the answer says where its line is not asked for.

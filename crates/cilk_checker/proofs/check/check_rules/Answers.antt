@@ -1,6 +1,7 @@
 use Rattle.std.proofs.Common.{◌≤◌, length, sym, ap, subst, ◌∙◌, arith}
 use Rattle.cilk_tree.specs.Lawful.Rules.{lacks_main}
 use Rattle.cilk_checker.specs.Judged.{first_refusal, first_use, judged_functions, Tells}
+use Rattle.cilk_checker.specs.Sound.{largest_checked}
 use Rattle.cilk_checker.proofs.Due.{few_functions, arrays_tell, functions_tell, whole_tells, use_tells, nothing_due}
 use Rattle.cilk_checker.proofs.Exits.{passed_on}
 use Rattle.cilk_checker.proofs.check.check_rules.Goals as goal
@@ -13,7 +14,7 @@ returns-in_err-globals-clause-err c =
 pub check_functions-requires-clause-few : goal.check_functions-requires-clause-few
 check_functions-requires-clause-few c =
     let few = few_functions c.args.program.now.functions in
-    subst (λ program. length program.functions ≤ 2097152) (sym c.in_ok-globals.ensures.of) (omega (arith, few))
+    subst (λ program. length program.functions ≤ largest_checked) (sym c.in_ok-globals.ensures.of) (omega (arith, few))
 
 pub returns-in_err-used-clause-err : goal.returns-in_err-used-clause-err
 returns-in_err-used-clause-err c =
