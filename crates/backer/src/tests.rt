@@ -249,7 +249,7 @@ fn assert_refused(rt: &impl Abort, alloc: Global, row: Refused) -> Result<(), Fa
     Ok(())
 }
 
-/// Where the second part of each text begins stands what is not expected.
+/// In each row the second part begins with what is not expected there.
 fn assert_each_unexpected(
     rt: &impl Abort,
     alloc: Global,
@@ -365,6 +365,7 @@ fn refused_at_the_end(rt: HostRuntime) -> Result<(), Fail> {
     Ok(())
 }
 
+/// What stands before, what is repeated so many times, what stands behind that up to the refusal, and what follows.
 #[test]
 fn refused_levels(rt: HostRuntime) -> Result<(), Fail> {
     static ROWS: [(&str, &str, usize, &str, &str); 14] = [
@@ -418,6 +419,7 @@ fn is_read(alloc: Global, source: &str) -> bool {
     read_program(alloc, source.as_bytes()).is_ok()
 }
 
+/// What stands before, what is repeated so many times, what is inside, what is repeated as often, and what follows.
 #[test]
 fn levels_that_are_kept(rt: HostRuntime) -> Result<(), Fail> {
     static ROWS: [(&str, &str, usize, &str, &str, &str); 7] = [

@@ -66,7 +66,8 @@ fn refused_additions(rt: HostRuntime) -> Result<(), Fail> {
     Ok(())
 }
 
-/// The brackets make one level, the parentheses none.
+/// The brackets make one level, the parentheses none. A row has how many blocks stand around, what stands in them up to the
+/// refusal, and what follows.
 #[test]
 fn levels_of_additions(rt: HostRuntime) -> Result<(), Fail> {
     static ROWS: [(usize, &str, &str); 4] = [
