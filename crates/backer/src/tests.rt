@@ -19,6 +19,23 @@ struct Left {
     calls: u64,
 }
 
+// Each takes what it compares behind a reference, so that nothing has to be dropped between its assertions.
+impl Left {
+    /// Compares how the call ended, and what stands on `out` and on `err`.
+    fn assert_is(&self, rt: &impl Abort, ended: Ended, out: &[u8], err: &str, row: &str) {
+        assert_eq!(rt; self.ended, ended, "{row}");
+        assert_eq!(rt; self.out.held(), out, "{row}");
+        assert_eq!(rt; self.err.held(), err.as_bytes(), "{row}");
+    }
+
+    /// The call ended with this number, put this line on `err`, and nothing on `out`.
+    fn assert_told(&self, rt: &impl Abort, number: u8, line: &str, row: &str) {
+        assert_eq!(rt; self.err.held(), line.as_bytes(), "{row}");
+        assert_eq!(rt; self.ended.number(), number, "{row}");
+        assert_eq!(rt; self.out.puts(), 0, "{row}");
+    }
+}
+
 /// The call of the shelf that fails, and how many bytes the sinks' failing calls keep, each with its number.
 #[derive(Clone, Copy)]
 struct Failing {
@@ -148,15 +165,16 @@ fn sources(rt: HostRuntime) -> Result<(), Fail> {
     ];
     for &(source, status, out) in &ROWS {
         let left = run_source(rt.alloc(), source, NOTHING)?;
-        assert_eq!(rt; left.ended.status, status, "{source}");
-        assert_eq!(rt; left.ended.mute, false, "{source}");
-        assert_eq!(rt; left.out.held(), out.as_bytes(), "{source}");
         let line: &str = match status {
             Status::Done => "",
             Status::Source(_) => "backer: source refused: not yet\n",
             _ => "backer: trap Overflow on node 0\n",
         };
-        assert_eq!(rt; left.err.held(), line.as_bytes(), "{source}");
+        let ended = Ended {
+            status,
+            mute: false,
+        };
+        left.assert_is(&rt, ended, out.as_bytes(), line, source);
     }
     Ok(())
 }
@@ -188,9 +206,7 @@ fn unlawful_sources(rt: HostRuntime) -> Result<(), Fail> {
     for &(source, breach) in &ROWS {
         let left = run_source(rt.alloc(), source, NOTHING)?;
         let line = format!(in rt.alloc(); "backer: source refused: {breach}\n")?;
-        assert_eq!(rt; left.err.held(), line.as_bytes(), "{source}");
-        assert_eq!(rt; left.ended.number(), 2, "{source}");
-        assert_eq!(rt; left.out.puts(), 0, "{source}");
+        left.assert_told(&rt, 2, line.as_str(), source);
     }
     Ok(())
 }
@@ -237,15 +253,13 @@ fn assert_refused(rt: &impl Abort, alloc: Global, row: Refused) -> Result<(), Fa
     source.push_str(row.after)?;
     let left = run_source(alloc, source.as_str(), NOTHING)?;
     let kind = row.kind;
-    assert_eq!(rt;
-        left.ended.status,
-        Status::Source(SourceRefusal::Read { kind, offset }),
-        "{}",
-        row.before
-    );
     let line = format!(in alloc; "backer: source refused: {kind} at byte {offset}\n")?;
-    assert_eq!(rt; left.err.held(), line.as_bytes(), "{}", row.before);
-    assert_eq!(rt; left.out.puts(), 0, "{}", row.before);
+    let ended = Ended {
+        status: Status::Source(SourceRefusal::Read { kind, offset }),
+        mute: false,
+    };
+    left.assert_is(rt, ended, b"", line.as_str(), row.before);
+    left.assert_told(rt, 2, line.as_str(), row.before);
     Ok(())
 }
 
@@ -414,6 +428,11 @@ fn refusal_of(alloc: Global, source: &str) -> Option<(u16, u64)> {
     }
 }
 
+/// Compares the refusal of the source with what is written.
+fn assert_refusal(rt: &impl Abort, alloc: Global, source: &str, kind: u16, offset: u64) {
+    assert_eq!(rt; refusal_of(alloc, source), Some((kind, offset)), "{source}");
+}
+
 /// Whether the source is read.
 fn is_read(alloc: Global, source: &str) -> bool {
     read_program(alloc, source.as_bytes()).is_ok()
@@ -450,9 +469,7 @@ fn levels_that_are_kept(rt: HostRuntime) -> Result<(), Fail> {
 fn numbered(alloc: Global, before: &str, count: usize, after: &str) -> Result<String, AllocError> {
     let mut text = String::new(alloc);
     for number in 0..count {
-        text.push_str(before)?;
-        text.push_str(format!(in alloc; "{number}")?.as_str())?;
-        text.push_str(after)?;
+        text.push_str(format!(in alloc; "{before}{number}{after}")?.as_str())?;
     }
     Ok(text)
 }
@@ -468,6 +485,18 @@ struct Counting {
     more: &'static str,
     place: u64,
     after: &'static str,
+}
+
+/// As many as there may be are read, and one more is refused in its place.
+fn assert_counted(rt: &impl Abort, alloc: Global, row: &Counting) -> Result<(), Fail> {
+    let counted = numbered(alloc, row.opening, row.most, row.closing)?;
+    let kept = repeating(alloc, row.before, counted.as_str(), 1, row.after)?;
+    assert!(rt; is_read(alloc, kept.as_str()), "{}", row.before);
+    let front = repeating(alloc, row.before, counted.as_str(), 1, "")?;
+    let place = (front.len() as u64).checked_add(row.place).ok_or("long")?;
+    let past = repeating(alloc, front.as_str(), row.more, 1, row.after)?;
+    assert_refusal(rt, alloc, past.as_str(), 105, place);
+    Ok(())
 }
 
 #[test]
@@ -556,81 +585,115 @@ fn counts(rt: HostRuntime) -> Result<(), Fail> {
         },
     ];
     for row in &ROWS {
-        let mut kept = String::from_str(rt.alloc(), row.before)?;
-        kept.push_str(numbered(rt.alloc(), row.opening, row.most, row.closing)?.as_str())?;
-        let mut past = kept.clone()?;
-        let offset = (past.len() as u64)
-            .checked_add(row.place)
-            .ok_or("too long")?;
-        past.push_str(row.more)?;
-        past.push_str(row.after)?;
-        kept.push_str(row.after)?;
-        assert!(rt; is_read(rt.alloc(), kept.as_str()), "{}", row.before);
-        assert_eq!(rt;
-            refusal_of(rt.alloc(), past.as_str()),
-            Some((105, offset)),
-            "{}",
-            row.before
-        );
+        assert_counted(&rt, rt.alloc(), row)?;
+    }
+    Ok(())
+}
+
+/// In each row the third part begins with what is too many.
+fn assert_each_too_many(
+    rt: &impl Abort,
+    alloc: Global,
+    rows: &[(&str, &str, &str)],
+) -> Result<(), Fail> {
+    for &(before, between, after) in rows {
+        let front = repeating(alloc, before, between, 1, "")?;
+        let source = repeating(alloc, front.as_str(), after, 1, "")?;
+        assert_refusal(rt, alloc, source.as_str(), 105, front.len() as u64);
     }
     Ok(())
 }
 
 #[test]
-fn places_of_counts(rt: HostRuntime) -> Result<(), Fail> {
+fn too_many_arrays(rt: HostRuntime) -> Result<(), Fail> {
     let arrays = numbered(rt.alloc(), "int a", 1024, "[1];")?;
-    let functions = numbered(rt.alloc(), "int f", 1024, "() { }")?;
-    let long = repeating(rt.alloc(), "", "x", 64, "")?;
     let rows = [
         (arrays.as_str(), "int ", "b[1];"),
         (arrays.as_str(), "int c() { } int ", "b[1];"),
+    ];
+    assert_each_too_many(&rt, rt.alloc(), &rows)
+}
+
+#[test]
+fn too_many_functions(rt: HostRuntime) -> Result<(), Fail> {
+    let functions = numbered(rt.alloc(), "int f", 1024, "() { }")?;
+    let rows = [
         (functions.as_str(), "", "int g() { }"),
         (functions.as_str(), "", "void g() { }"),
         (functions.as_str(), "int c[1]; ", "cilk void g() { }"),
+    ];
+    assert_each_too_many(&rt, rt.alloc(), &rows)
+}
+
+#[test]
+fn long_names(rt: HostRuntime) -> Result<(), Fail> {
+    let long = repeating(rt.alloc(), "", "x", 64, "")?;
+    let rows = [
         ("int main() { print(1); ", "int ", long.as_str()),
         ("int main() { ", "print(", long.as_str()),
         ("int ", "", long.as_str()),
         ("int f(int ", "", long.as_str()),
     ];
-    for (before, between, after) in rows {
-        let mut source = String::from_str(rt.alloc(), before)?;
-        source.push_str(between)?;
-        let place = source.len() as u64;
-        source.push_str(after)?;
-        assert_eq!(rt;
-            refusal_of(rt.alloc(), source.as_str()),
-            Some((105, place)),
-            "{between} {after}"
-        );
-    }
+    assert_each_too_many(&rt, rt.alloc(), &rows)?;
     let longest = repeating(rt.alloc(), "int ", "x", 63, "[1]; void main() { }")?;
     assert!(rt; is_read(rt.alloc(), longest.as_str()));
-    // Past both limits `int NAME` is judged by the sign behind it; where none follows, that sign is unexpected.
-    let mut both = arrays.clone()?;
-    both.push_str(functions.as_str())?;
-    let whole = both.len() as u64;
-    for (tail, kind, further) in [("int g(", 105, 0), ("int g[", 105, 4), ("int g;", 103, 5)] {
-        let mut source = both.clone()?;
-        source.push_str(tail)?;
-        assert_eq!(rt;
-            refusal_of(rt.alloc(), source.as_str()),
-            Some((kind, whole + further)),
-            "{tail}"
-        );
+    Ok(())
+}
+
+/// Past both limits `int NAME` is judged by the sign behind it; where none follows, that sign is unexpected.
+#[test]
+fn too_many_of_both(rt: HostRuntime) -> Result<(), Fail> {
+    let arrays = numbered(rt.alloc(), "int a", 1024, "[1];")?;
+    let functions = numbered(rt.alloc(), "int f", 1024, "() { }")?;
+    for (front, tail, kind) in [
+        ("", "int g(", 105),
+        ("int ", "g[", 105),
+        ("int g", ";", 103),
+    ] {
+        let before = repeating(rt.alloc(), arrays.as_str(), functions.as_str(), 1, front)?;
+        let source = repeating(rt.alloc(), before.as_str(), tail, 1, "")?;
+        assert_refusal(&rt, rt.alloc(), source.as_str(), kind, before.len() as u64);
     }
     Ok(())
 }
 
-/// What the statement of `main` is in the canonical text, between the lines of the function.
-fn canonical(alloc: Global, statements: &str) -> Result<String, Fail> {
-    let mut source = String::from_str(alloc, "int main() { ")?;
-    source.push_str(statements)?;
-    source.push_str(" }")?;
-    let Ok(program) = read_program(alloc, source.as_bytes()) else {
-        return Ok(String::from_str(alloc, "refused")?);
-    };
-    let text = print_program(alloc, &program)?;
-    Ok(String::from_utf8(text).ok().ok_or("no text")?)
+/// The canonical text of the source, which is read.
+fn printed(alloc: Global, source: &str) -> Result<Vec<u8>, Fail> {
+    let program = read_program(alloc, source.as_bytes())?;
+    Ok(print_program(alloc, &program)?)
+}
+
+/// Compares the canonical text of the source with what is written.
+fn assert_printed(rt: &impl Abort, alloc: Global, source: &str, wanted: &str) -> Result<(), Fail> {
+    assert!(rt; is_read(alloc, source), "{source}");
+    let text = printed(alloc, source)?;
+    assert_eq!(rt; text.as_slice(), wanted.as_bytes(), "{source}");
+    Ok(())
+}
+
+/// The same, and that this text is its own canonical text.
+fn assert_canonical(
+    rt: &impl Abort,
+    alloc: Global,
+    source: &str,
+    wanted: &str,
+) -> Result<(), Fail> {
+    assert_printed(rt, alloc, source, wanted)?;
+    assert_printed(rt, alloc, wanted, wanted)
+}
+
+/// `assert_canonical` of a `main` with the statements of each row, and of the lines that they are.
+fn assert_each_canonical(
+    rt: &impl Abort,
+    alloc: Global,
+    rows: &[(&str, &str)],
+) -> Result<(), Fail> {
+    for &(statements, lines) in rows {
+        let source = repeating(alloc, "int main() { ", statements, 1, " }")?;
+        let wanted = repeating(alloc, "int main() {\n", lines, 1, "}\n")?;
+        assert_canonical(rt, alloc, source.as_str(), wanted.as_str())?;
+    }
+    Ok(())
 }
 
 #[test]
@@ -678,14 +741,7 @@ fn sugar(rt: HostRuntime) -> Result<(), Fail> {
         ("x = (1 || 2) && (3 && 4);", "  x = (1 || 2) && (3 && 4);\n"),
         ("sync; while (x) { }", "  sync;\n  while (x) {\n  }\n"),
     ];
-    for &(source, lines) in &ROWS {
-        let text = canonical(rt.alloc(), source)?;
-        let mut wanted = String::from_str(rt.alloc(), "int main() {\n")?;
-        wanted.push_str(lines)?;
-        wanted.push_str("}\n")?;
-        assert_eq!(rt; text.as_str(), wanted.as_str(), "{source}");
-    }
-    Ok(())
+    assert_each_canonical(&rt, rt.alloc(), &ROWS)
 }
 
 /// A name that is put together byte by byte.
@@ -719,17 +775,7 @@ fn canonical_programs(rt: HostRuntime) -> Result<(), Fail> {
         ("/* a */ /**/ /***/", ""),
     ];
     for &(source, wanted) in &ROWS {
-        let Ok(program) = read_program(rt.alloc(), source.as_bytes()) else {
-            assert!(rt; false, "{source}");
-            continue;
-        };
-        let text = print_program(rt.alloc(), &program)?;
-        assert_eq!(rt; text.as_slice(), wanted.as_bytes(), "{source}");
-        let again = read_program(rt.alloc(), text.as_slice()).expect(&rt, "read again");
-        assert_eq!(rt;
-            print_program(rt.alloc(), &again)?.as_slice(),
-            wanted.as_bytes()
-        );
+        assert_canonical(&rt, rt.alloc(), source, wanted)?;
     }
     Ok(())
 }
@@ -749,136 +795,147 @@ fn refused_words(rt: HostRuntime) -> Result<(), Fail> {
     ];
     for &words in &ROWS {
         let left = run(rt.alloc(), words, Vec::new(rt.alloc()), NOTHING)?;
-        assert_eq!(rt; left.ended.status, Status::Words);
-        assert_eq!(rt; left.ended.number(), 1);
-        assert_eq!(rt; left.calls, 0);
-        assert_eq!(rt; left.out.puts(), 0);
-        assert_eq!(rt; left.err.held(), b"backer: words refused\n".as_slice());
+        assert_eq!(rt; (left.ended.status, left.calls), (Status::Words, 0));
+        left.assert_told(&rt, 1, "backer: words refused\n", "words");
+    }
+    Ok(())
+}
+
+const PRINTS_12: &str = "int main() { print(12); }";
+
+#[test]
+fn a_read_that_fails(rt: HostRuntime) -> Result<(), Fail> {
+    let failing = Failing {
+        read: Some(1),
+        out: None,
+        err: None,
+    };
+    let left = run_source(rt.alloc(), PRINTS_12, failing)?;
+    let ended = Ended {
+        status: Status::ReadFault,
+        mute: false,
+    };
+    left.assert_is(&rt, ended, b"", "backer: read failed\n", "read");
+    Ok(())
+}
+
+/// The put keeps some bytes of the output before it fails.
+#[test]
+fn puts_that_fail(rt: HostRuntime) -> Result<(), Fail> {
+    let ended = Ended {
+        status: Status::WriteFault,
+        mute: false,
+    };
+    for (kept, held) in [(0, ""), (1, "1"), (10_000, "12\n")] {
+        let failing = Failing {
+            read: None,
+            out: Some((1, kept)),
+            err: None,
+        };
+        let left = run_source(rt.alloc(), PRINTS_12, failing)?;
+        left.assert_is(&rt, ended, held.as_bytes(), "backer: write failed\n", held);
     }
     Ok(())
 }
 
 #[test]
-fn failing_devices(rt: HostRuntime) -> Result<(), Fail> {
-    let source = "int main() { print(12); }";
-    let unread = run_source(
-        rt.alloc(),
-        source,
-        Failing {
-            read: Some(1),
-            out: None,
-            err: None,
-        },
-    )?;
-    assert_eq!(rt; unread.ended.status, Status::ReadFault);
-    assert_eq!(rt; unread.err.held(), b"backer: read failed\n".as_slice());
-
-    for (kept, held) in [(0, ""), (1, "1"), (10_000, "12\n")] {
-        let left = run_source(
-            rt.alloc(),
-            source,
-            Failing {
-                read: None,
-                out: Some((1, kept)),
-                err: None,
-            },
-        )?;
-        assert_eq!(rt; left.ended.status, Status::WriteFault);
-        assert_eq!(rt; left.out.held(), held.as_bytes());
-        assert_eq!(rt; left.err.held(), b"backer: write failed\n".as_slice());
-    }
-
-    let silent = run(
-        rt.alloc(),
-        &[],
-        Vec::new(rt.alloc()),
-        Failing {
-            read: None,
-            out: None,
-            err: Some((1, 3)),
-        },
-    )?;
-    assert_eq!(rt;
-        silent.ended,
-        Ended {
-            status: Status::Words,
-            mute: true
-        }
-    );
-    assert_eq!(rt; silent.ended.number(), 4);
-    assert_eq!(rt; silent.err.puts(), 1);
-    assert_eq!(rt; silent.err.held(), b"bac".as_slice());
-
-    let both = run_source(
-        rt.alloc(),
-        source,
-        Failing {
-            read: None,
-            out: Some((1, 0)),
-            err: Some((1, 0)),
-        },
-    )?;
-    assert_eq!(rt;
-        both.ended,
-        Ended {
-            status: Status::WriteFault,
-            mute: true
-        }
-    );
+fn a_line_that_fails(rt: HostRuntime) -> Result<(), Fail> {
+    let failing = Failing {
+        read: None,
+        out: None,
+        err: Some((1, 3)),
+    };
+    let left = run(rt.alloc(), &[], Vec::new(rt.alloc()), failing)?;
+    let ended = Ended {
+        status: Status::Words,
+        mute: true,
+    };
+    left.assert_is(&rt, ended, b"", "bac", "words");
+    left.assert_told(&rt, 4, "bac", "words");
+    assert_eq!(rt; left.err.puts(), 1);
     Ok(())
+}
+
+#[test]
+fn both_that_fail(rt: HostRuntime) -> Result<(), Fail> {
+    let failing = Failing {
+        read: None,
+        out: Some((1, 0)),
+        err: Some((1, 0)),
+    };
+    let left = run_source(rt.alloc(), PRINTS_12, failing)?;
+    let ended = Ended {
+        status: Status::WriteFault,
+        mute: true,
+    };
+    left.assert_is(&rt, ended, b"", "", "both");
+    Ok(())
+}
+
+/// A program that prints the numbers from 0 to 2,999.
+fn printing_numbers(alloc: Global) -> Result<String, AllocError> {
+    let prints = numbered(alloc, " print(", 3000, ");")?;
+    repeating(alloc, "int main() {", prints.as_str(), 1, " }")
 }
 
 #[test]
 fn several_pieces(rt: HostRuntime) -> Result<(), Fail> {
-    let mut source = String::from_str(rt.alloc(), "int main() {")?;
-    let mut lines = String::new(rt.alloc());
-    for number in 0..3000 {
-        source.push_str(format!(in rt.alloc(); " print({number});")?.as_str())?;
-        lines.push_str(format!(in rt.alloc(); "{number}\n")?.as_str())?;
-    }
-    source.push_str(" }")?;
+    let lines = numbered(rt.alloc(), "", 3000, "\n")?;
     assert_eq!(rt; lines.len(), 13_890);
-
-    let whole = run_source(rt.alloc(), source.as_str(), NOTHING)?;
-    assert_eq!(rt; whole.ended.status, Status::Done);
-    assert_eq!(rt; whole.out.puts(), 4);
-    assert_eq!(rt; whole.out.held(), lines.as_bytes());
-
-    let cut = run_source(
-        rt.alloc(),
-        source.as_str(),
-        Failing {
-            read: None,
-            out: Some((2, 10)),
-            err: None,
-        },
-    )?;
-    assert_eq!(rt; cut.ended.status, Status::WriteFault);
-    assert_eq!(rt; cut.out.puts(), 2);
-    assert_eq!(rt;
-        cut.out.held(),
-        lines.as_bytes().get(..4_106).ok_or("long")?
-    );
+    let source = printing_numbers(rt.alloc())?;
+    let left = run_source(rt.alloc(), source.as_str(), NOTHING)?;
+    let ended = Ended {
+        status: Status::Done,
+        mute: false,
+    };
+    left.assert_is(&rt, ended, lines.as_bytes(), "", "whole");
+    assert_eq!(rt; left.out.puts(), 4);
     Ok(())
 }
 
 #[test]
-fn the_longest_sources(rt: HostRuntime) -> Result<(), Fail> {
-    for command in ["check", "serial"] {
-        let blanks = vec![in rt.alloc(); b' '; 1_048_576]?;
-        let left = run(rt.alloc(), &[command, "f"], blanks, NOTHING)?;
-        assert_eq!(rt;
-            left.err.held(),
-            b"backer: source refused: 210 in program\n".as_slice()
-        );
+fn a_second_piece_that_fails(rt: HostRuntime) -> Result<(), Fail> {
+    let lines = numbered(rt.alloc(), "", 3000, "\n")?;
+    let source = printing_numbers(rt.alloc())?;
+    let failing = Failing {
+        read: None,
+        out: Some((2, 10)),
+        err: None,
+    };
+    let left = run_source(rt.alloc(), source.as_str(), failing)?;
+    let ended = Ended {
+        status: Status::WriteFault,
+        mute: false,
+    };
+    let front = lines.as_bytes().get(..4_106).ok_or("long")?;
+    left.assert_is(&rt, ended, front, "backer: write failed\n", "cut");
+    assert_eq!(rt; left.out.puts(), 2);
+    Ok(())
+}
 
-        let blanks = vec![in rt.alloc(); b' '; 1_048_577]?;
+/// Blanks, as many as a source may have and one more.
+#[test]
+fn the_longest_sources(rt: HostRuntime) -> Result<(), Fail> {
+    static ROWS: [(&str, usize, &str); 4] = [
+        (
+            "check",
+            1_048_576,
+            "backer: source refused: 210 in program\n",
+        ),
+        ("check", 1_048_577, "backer: source refused: too long\n"),
+        (
+            "serial",
+            1_048_576,
+            "backer: source refused: 210 in program\n",
+        ),
+        ("serial", 1_048_577, "backer: source refused: too long\n"),
+    ];
+    for &(command, count, line) in &ROWS {
+        let blanks = vec![in rt.alloc(); b' '; count]?;
         let left = run(rt.alloc(), &[command, "f"], blanks, NOTHING)?;
-        assert_eq!(rt; left.ended.status, Status::Source(SourceRefusal::TooLong));
-        assert_eq!(rt;
-            left.err.held(),
-            b"backer: source refused: too long\n".as_slice()
-        );
+        left.assert_told(&rt, 2, line, command);
+        let is_long = left.ended.status == Status::Source(SourceRefusal::TooLong);
+        assert_eq!(rt; is_long, count == 1_048_577);
     }
     Ok(())
 }

@@ -1,11 +1,9 @@
 //! The rows of `fetch_add`: what text is one, where its levels and counts end, how it is printed, and which are lawful.
 use super::checking::{assert_checked, assert_each_main};
 use super::{
-    assert_each_unexpected, assert_refused, canonical, is_read, numbered, refusal_of, repeated,
-    repeating,
+    assert_each_canonical, assert_each_unexpected, assert_refusal, assert_refused, is_read,
+    numbered, repeated, repeating,
 };
-use cilk_reader::read_program;
-use cilk_tree::print_program;
 use std::test::Fail;
 
 #[test]
@@ -57,11 +55,7 @@ fn refused_additions(rt: HostRuntime) -> Result<(), Fail> {
     ];
     for &end in &ENDS {
         let source = repeating(rt.alloc(), "int main() { ", "", 0, end)?;
-        assert_eq!(rt;
-            refusal_of(rt.alloc(), source.as_str()),
-            Some((103, source.len() as u64)),
-            "{end}"
-        );
+        assert_refusal(&rt, rt.alloc(), source.as_str(), 103, source.len() as u64);
     }
     Ok(())
 }
@@ -97,22 +91,14 @@ fn levels_of_additions(rt: HostRuntime) -> Result<(), Fail> {
 #[test]
 fn counts_of_additions(rt: HostRuntime) -> Result<(), Fail> {
     let operators = numbered(rt.alloc(), "+", 256, "")?;
-    let mut index = String::from_str(rt.alloc(), "int main() { fetch_add(a[0")?;
-    index.push_str(operators.as_str())?;
-    let mut addend = index.clone()?;
-    addend.push_str("], 0")?;
-    addend.push_str(operators.as_str())?;
-    let mut kept = addend.clone()?;
-    kept.push_str("); print(1 + 1); }")?;
+    let operators = operators.as_str();
+    let index = repeating(rt.alloc(), "int main() { fetch_add(a[0", operators, 1, "")?;
+    let addend = repeating(rt.alloc(), index.as_str(), "], 0", 1, operators)?;
+    let kept = repeating(rt.alloc(), addend.as_str(), "); print(1 + 1); }", 1, "")?;
     assert!(rt; is_read(rt.alloc(), kept.as_str()));
-    for (before, more) in [(index, "+1], 1); }"), (addend, "+1); }")] {
-        let mut past = before.clone()?;
-        past.push_str(more)?;
-        assert_eq!(rt;
-            refusal_of(rt.alloc(), past.as_str()),
-            Some((105, before.len() as u64)),
-            "{more}"
-        );
+    for (before, more) in [(index.as_str(), "+1], 1); }"), (addend.as_str(), "+1); }")] {
+        let past = repeating(rt.alloc(), before, more, 1, "")?;
+        assert_refusal(&rt, rt.alloc(), past.as_str(), 105, before.len() as u64);
     }
     Ok(())
 }
@@ -142,17 +128,7 @@ fn canonical_additions(rt: HostRuntime) -> Result<(), Fail> {
             "  if (x) {\n    fetch_add(a[0], 1);\n  } else {\n    while (x) {\n      y = fetch_add(a[b[0]], a[1]);\n    }\n  }\n",
         ),
     ];
-    for &(source, lines) in &ROWS {
-        let text = canonical(rt.alloc(), source)?;
-        let wanted = repeating(rt.alloc(), "int main() {\n", lines, 1, "}\n")?;
-        assert_eq!(rt; text.as_str(), wanted.as_str(), "{source}");
-        let again = read_program(rt.alloc(), text.as_bytes()).expect(&rt, "read again");
-        assert_eq!(rt;
-            print_program(rt.alloc(), &again)?.as_slice(),
-            wanted.as_bytes()
-        );
-    }
-    Ok(())
+    assert_each_canonical(&rt, rt.alloc(), &ROWS)
 }
 
 #[test]

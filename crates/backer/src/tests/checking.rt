@@ -1,9 +1,7 @@
 //! The rows of `check`: which programs are lawful, and where each other one breaks which rule first.
-use super::{NOTHING, numbered, run};
-use backer_top::{SourceRefusal, Status};
+use super::{Left, NOTHING, numbered, printed, run};
+use backer_top::{Ended, SourceRefusal, Status};
 use cilk_checker::CheckPlace;
-use cilk_reader::read_program;
-use cilk_tree::print_program;
 use std::alloc::{AllocError, Global};
 use std::process::Abort;
 use std::test::Fail;
@@ -23,17 +21,22 @@ pub(super) fn assert_checked(
         NOTHING,
     )?;
     if breach.is_empty() {
-        assert_eq!(rt; left.ended.status, Status::Done, "{source}");
-        let program = read_program(alloc, source.as_bytes()).expect(rt, "a program");
-        let text = print_program(alloc, &program)?;
-        assert_eq!(rt; left.out.held(), text.as_slice(), "{source}");
-        assert_eq!(rt; left.err.puts(), 0, "{source}");
-        return Ok(());
+        return assert_accepted(rt, alloc, source, &left);
     }
     let line = format!(in alloc; "backer: source refused: {breach}\n")?;
-    assert_eq!(rt; left.err.held(), line.as_bytes(), "{source}");
-    assert_eq!(rt; left.ended.number(), 2, "{source}");
-    assert_eq!(rt; left.out.puts(), 0, "{source}");
+    left.assert_told(rt, 2, line.as_str(), source);
+    Ok(())
+}
+
+/// The canonical text of the source was put on `out`, and nothing on `err`.
+fn assert_accepted(rt: &impl Abort, alloc: Global, source: &str, left: &Left) -> Result<(), Fail> {
+    let ended = Ended {
+        status: Status::Done,
+        mute: false,
+    };
+    assert_eq!(rt; left.err.puts(), 0, "{source}");
+    let text = printed(alloc, source)?;
+    left.assert_is(rt, ended, text.as_slice(), "", source);
     Ok(())
 }
 
