@@ -1,0 +1,4 @@
+pub mod Machine
+pub mod Early
+pub mod StandsFor
+pub mod Valid
