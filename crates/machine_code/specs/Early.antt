@@ -1,5 +1,5 @@
 -- What may happen to a frame. A child's value may reach its target before the sync, and then no want before that sync changes.
-use Rattle.std.specs.Prelude.{◌≡◌, ℕ, suc, ◌==◌, ℤ, Bool, true, false, ◌||◌, if◌then◌else◌, Option, Some, None, List, [], ◌∷◌, ◌++◌, drop, slice_get}
+use Rattle.std.specs.Prelude.{◌≡◌, ℕ, suc, ◌==◌, ℤ, Bool, false, ◌||◌, if◌then◌else◌, Option, Some, None, List, [], ◌∷◌, ◌++◌, drop, slice_get}
 use Rattle.cilk_meaning.specs.Alone.{Block, block_after}
 use Rattle.cilk_meaning.specs.Locals.{Locals, deposited}
 use Rattle.cilk_meaning.specs.Wants as want

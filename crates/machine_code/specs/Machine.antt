@@ -1,9 +1,9 @@
 -- The stack machine: what each instruction does, and what a frame wants for a list of answers.
-use Rattle.std.specs.Prelude.{ℕ, zero, suc, ◌+◌, ◌-◌, ◌*◌, ◌==◌, ℤ, pos, ◌+ℤ◌, Bool, true, false, not, if◌then◌else◌, Option, Some, None, Result, Ok, Err, List, [], ◌∷◌, ◌++◌, length, take, drop, reverse, replicate, slice_get, slice_set}
+use Rattle.std.specs.Prelude.{ℕ, zero, suc, ◌+◌, ◌-◌, ◌*◌, ◌==◌, ℤ, pos, ◌+ℤ◌, Bool, false, not, if◌then◌else◌, Option, Some, None, Result, Ok, Err, List, [], ◌∷◌, ◌++◌, length, take, drop, reverse, replicate, slice_get, slice_set}
 use Rattle.cilk_tree.specs.declared.tree.BinaryOp.{BinaryOp}
 use Rattle.cilk_tree.specs.declared.tree.BinaryOp.TheVariants as op
 use Rattle.cilk_tree.specs.declared.tree.UnaryOp.{UnaryOp}
-use Rattle.cilk_tree.specs.declared.tree.UnaryOp.TheVariants as unary
+use Rattle.cilk_tree.specs.declared.tree.UnaryOp.TheVariants as unary_op
 use Rattle.cilk_meaning.specs.declared.ends.TrapKind.{TrapKind}
 use Rattle.cilk_meaning.specs.declared.ends.TrapKind.TheVariants.{Overflow, TooDeep}
 use Rattle.cilk_meaning.specs.Instance.{Meaning, limits}
@@ -139,8 +139,8 @@ act code f (Some instr.Sub) = binary f op.Sub
 act code f (Some instr.Mul) = binary f op.Mul
 act code f (Some instr.Div) = binary f op.Div
 act code f (Some instr.Rem) = binary f op.Rem
-act code f (Some instr.Neg) = unary f unary.Neg
-act code f (Some instr.Not) = unary f unary.Not
+act code f (Some instr.Neg) = unary f unary_op.Neg
+act code f (Some instr.Not) = unary f unary_op.Not
 act code f (Some instr.Eq) = binary f op.Eq
 act code f (Some instr.Ne) = binary f op.Ne
 act code f (Some instr.Lt) = binary f op.Lt

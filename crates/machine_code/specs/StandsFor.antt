@@ -1,5 +1,5 @@
 -- When a code stands for a program.
-use Rattle.std.specs.Prelude.{◌≡◌, ℕ, Bool, List, map}
+use Rattle.std.specs.Prelude.{◌≡◌, ℕ, ℤ, Bool, map}
 use Rattle.cilk_meaning.specs.Instance as instance
 use Rattle.cilk_meaning.specs.Resolved.{Program, Function}
 use Rattle.cilk_meaning.specs.World.{start_words}

@@ -1,10 +1,9 @@
 ghost use Rattle.std.specs.Prelude.{◌≡◌, ◌<◌, ◌≤◌, ◌+◌, length, slice_get, Some, pos};
 ghost use Rattle.machine_code.specs.Valid.{IsValid, words_in};
 
+use crate::instr::Instr;
 use outside::Words;
 use std::marker::Model;
-
-use crate::instr::Instr;
 
 /// A procedure of a code: whether it is a `cilk` procedure, where its instructions start, how many parameters it has, how many
 /// parameters and locals, and how many operands it has at once at most.
