@@ -1,0 +1,5 @@
+pub mod Heights
+pub mod Meaning
+pub mod Places
+pub mod Wants
+pub mod Whole

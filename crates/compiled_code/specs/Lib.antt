@@ -1,0 +1,4 @@
+pub mod Carries
+pub mod Emitted
+pub mod Laws
+pub mod WellFormed
