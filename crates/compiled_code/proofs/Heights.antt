@@ -10,8 +10,9 @@ use Rattle.cilk_meaning.specs.Resolved.{Expr, Stmt, Function, Program}
 use Rattle.machine_code.specs.declared.code.Proc.{Proc}
 use Rattle.machine_code.specs.declared.instr.Instr.{Instr}
 use Rattle.machine_code.specs.declared.instr.Instr.TheVariants as instr
-use Rattle.machine_code.specs.Valid.{Shape, takes, puts}
+use Rattle.machine_code.specs.Valid.{Shape, takes, puts, params_of}
 use Rattle.compiled_code.specs.Emitted.{unary_instr, then_operate, expr_code, exprs_code, target_code, sync_code, stmt_code, function_code}
+use Rattle.compiled_code.specs.WellFormed.{Suits, IsStmtInRange}
 
 -- How many operands are there at the next place. Behind a jump there is one less: what the code between made is joined where it leads.
 abbrev pub step : List Proc → Instr → ℕ → ℕ
@@ -124,3 +125,66 @@ module _ (procs : List Proc) where
   pub target_sweeps : (target : Option ℕ) → step procs (target_code target) 1 ≡ 0
   target_sweeps None = refl
   target_sweeps (Some k) = refl
+
+-- The procedures are those of the program's functions.
+abbrev pub AreThose : List Proc → Program → Type 0
+AreThose procs program = (number : ℕ) (function : Function) → slice_get program.functions number ≡ Some function →
+    (proc : Proc) × (slice_get procs number ≡ Some proc) × (proc.params ≡ function.params) × (proc.«cilk» ≡ function.«cilk»)
+
+module _ (procs : List Proc) (program : Program) (those : AreThose procs program) where
+  -- a call takes its arguments
+  pub takes_arguments : (number : ℕ) (kind : Bool) (arguments : List Expr) → Suits program number kind arguments → params_of (slice_get procs number) ≡ length arguments
+  takes_arguments number kind arguments s =
+      let h = those number s.function s.is in
+      ap params_of h.1 ∙ h.2 ∙ sym s.params
+
+  -- a statement leaves no operand
+  pub stmt_sweeps : (s : Stmt) («cilk» : Bool) (locals at : ℕ) → IsStmtInRange program «cilk» locals s → sweep procs 0 (stmt_code «cilk» at s) ≡ 0
+  stmt_sweeps tree.Skip «cilk» locals at r = refl
+  stmt_sweeps (tree.Then a b) «cilk» locals at r =
+      let ca = stmt_code «cilk» at a in
+      sweep_append procs 0 ca _ ∙ ap (λ n. sweep procs n (stmt_code «cilk» (at + length ca) b)) (stmt_sweeps a «cilk» locals at r.0) ∙ stmt_sweeps b «cilk» locals (at + length ca) r.1
+  stmt_sweeps (tree.Assign k e) «cilk» locals at r = sweep_append procs 0 (expr_code at e) _ ∙ ap (λ n. sweep procs n (instr.Store k ∷ [])) (expr_sweeps procs e 0 at)
+  stmt_sweeps (tree.Put a i e) «cilk» locals at r =
+      let ci = expr_code at i in
+      let ce = expr_code (at + length ci) e in
+      sweep_append procs 0 ci _ ∙ ap (λ n. sweep procs n (ce ++ instr.WriteShared a ∷ [])) (expr_sweeps procs i 0 at)
+      ∙ sweep_append procs 1 ce _ ∙ ap (λ n. sweep procs n (instr.WriteShared a ∷ [])) (expr_sweeps procs e 1 (at + length ci))
+  stmt_sweeps (tree.Print e) «cilk» locals at r = sweep_append procs 0 (expr_code at e) _ ∙ ap (λ n. sweep procs n (instr.PrintTop ∷ [])) (expr_sweeps procs e 0 at)
+  stmt_sweeps (tree.If t a b) «cilk» locals at r =
+      let ct = expr_code at t in
+      let pa = suc (at + length ct) in
+      let ca = stmt_code «cilk» pa a in
+      let pb = suc (pa + length ca) in
+      let cb = stmt_code «cilk» pb b in
+      sweep_append procs 0 ct _ ∙ ap (λ n. sweep procs n (instr.JumpIfZero pb ∷ (ca ++ (instr.Jump (pb + length cb) ∷ cb)))) (expr_sweeps procs t 0 at)
+      ∙ sweep_append procs 0 ca _ ∙ ap (λ n. sweep procs n (instr.Jump (pb + length cb) ∷ cb)) (stmt_sweeps a «cilk» locals pa r.1)
+      ∙ stmt_sweeps b «cilk» locals pb r.2
+  stmt_sweeps (tree.While t s) «cilk» locals at r =
+      let ct = expr_code (suc at) t in
+      let ps = suc (suc at + length ct) in
+      let cs = stmt_code «cilk» ps s in
+      sweep_append procs 0 ct _ ∙ ap (λ n. sweep procs n (instr.JumpIfZero (suc (ps + length cs)) ∷ (cs ++ instr.Jump at ∷ []))) (expr_sweeps procs t 0 (suc at))
+      ∙ sweep_append procs 0 cs _ ∙ ap (λ n. sweep procs n (instr.Jump at ∷ [])) (stmt_sweeps s «cilk» locals ps r.1)
+  stmt_sweeps (tree.Call target f es) «cilk» locals at r =
+      let n = takes_arguments f false es r.0 in
+      let none : step procs (instr.Call f) (length es) ≡ 1 = omega (arith, n) in
+      let given : sweep procs 0 (exprs_code at es) ≡ length es = exprs_sweep procs es 0 at ∙ omega arith in
+      sweep_append procs 0 (exprs_code at es) _ ∙ ap (λ n. sweep procs n (instr.Call f ∷ target_code target ∷ [])) given
+      ∙ ap (λ n. sweep procs n (target_code target ∷ [])) none ∙ target_sweeps procs target
+  stmt_sweeps (tree.Spawn target f es) «cilk» locals at r =
+      let n = takes_arguments f true es r.0 in
+      let given : sweep procs 0 (exprs_code at es) ≡ length es = exprs_sweep procs es 0 at ∙ omega arith in
+      let none : step procs (instr.Spawn f target) (length es) ≡ 0 = omega (arith, n) in
+      sweep_append procs 0 (exprs_code at es) _ ∙ ap (λ n. sweep procs n (instr.Spawn f target ∷ [])) given ∙ none
+  stmt_sweeps (tree.Add target a i e) «cilk» locals at r =
+      let ci = expr_code at i in
+      let ce = expr_code (at + length ci) e in
+      sweep_append procs 0 ci _ ∙ ap (λ n. sweep procs n (ce ++ instr.AddShared a ∷ target_code target ∷ [])) (expr_sweeps procs i 0 at)
+      ∙ sweep_append procs 1 ce _ ∙ ap (λ n. sweep procs n (instr.AddShared a ∷ target_code target ∷ [])) (expr_sweeps procs e 1 (at + length ci)) ∙ target_sweeps procs target
+  stmt_sweeps tree.Sync «cilk» locals at r = refl
+  stmt_sweeps (tree.Return e) «cilk» locals at r =
+      let sc = sync_code «cilk» in
+      let ce = expr_code (at + length sc) e in
+      sweep_append procs 0 sc _ ∙ ap (λ n. sweep procs n (ce ++ instr.Return ∷ [])) (sync_sweeps procs «cilk»)
+      ∙ sweep_append procs 0 ce _ ∙ ap (λ n. sweep procs n (instr.Return ∷ [])) (expr_sweeps procs e 0 (at + length sc))

@@ -1,3 +1,4 @@
+pub mod Fine
 pub mod Heights
 pub mod Meaning
 pub mod Places
