@@ -1,5 +1,8 @@
+pub mod Early
 pub mod Fine
 pub mod Heights
+pub mod Lockstep
+pub mod Marks
 pub mod Meaning
 pub mod Places
 pub mod Validity
