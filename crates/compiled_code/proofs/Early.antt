@@ -12,7 +12,8 @@ use Rattle.machine_code.specs.Machine.{Code, Activation, Frame, Move, GoesOn, Re
 use Rattle.machine_code.specs.Valid.{GoesForward}
 use Rattle.machine_code.proofs.Steps.{goes_wants, requests_wants}
 use Rattle.compiled_code.proofs.Lockstep.{deposited_more, with_more, mapped, shift_next, shifted, StepWaits, Answers, PlainAnswer, SyncAnswer, FollowerWaits, InOwn, TargetWaits, IsFree, look_waits, look_shift, values_at_sync}
-use Rattle.compiled_code.proofs.Marks.{Set, IsWithin, Targets, Marks, AreMarks, MayWait}
+use Rattle.compiled_code.specs.Safe.{Set}
+use Rattle.compiled_code.proofs.Marks.{IsWithin, Targets, Marks, AreMarks, MayWait}
 
 -- no early value, and more of them
 none_own : (cs : List Activation) → own_callers [] cs ≡ cs

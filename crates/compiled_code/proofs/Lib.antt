@@ -6,5 +6,6 @@ pub mod Marks
 pub mod Meaning
 pub mod Places
 pub mod Validity
+pub mod Waiting
 pub mod Wants
 pub mod Whole

@@ -18,7 +18,8 @@ use Rattle.machine_code.specs.declared.instr.Instr.{Instr}
 use Rattle.machine_code.specs.declared.instr.Instr.TheVariants as instr
 use Rattle.machine_code.specs.Early.{own, own_callers, with_values, at_sync}
 use Rattle.machine_code.specs.Machine.{Code, Activation, Frame, Move, GoesOn, Requests, Ends, Stuck, moved, next_with, stored, popping, given, limited, on_value, on_children, on_done, with_proc, binary, unary, called, returned, added, arguments_on, act, look, go_on, settle, remaining, settled, last_want, want_and, resumed, wants_for}
-use Rattle.compiled_code.proofs.Marks.{Set, IsWithin, Targets, Marks, Flows, Waits, IsMarked, AreMarks, MayWait}
+use Rattle.compiled_code.specs.Safe.{Set}
+use Rattle.compiled_code.proofs.Marks.{IsWithin, Targets, Marks, Flows, Waits, IsMarked, AreMarks, MayWait}
 
 pub deposited_more : (ds more : List Deposit) (l : Locals) → deposited (ds ++ more) l ≡ deposited more (deposited ds l)
 deposited_more [] more l = refl

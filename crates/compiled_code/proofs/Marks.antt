@@ -1,13 +1,11 @@
 -- Marks on a code: which locals may wait for a child's value before each instruction, and which instructions are those of plain functions.
 use Rattle.std.specs.Prelude.{◌≡◌, ℕ, suc, Bool, true, false, Option, Some, None, List, [], ◌∷◌, slice_get}
 use Rattle.cilk_meaning.specs.Wants.{Deposit}
+use Rattle.compiled_code.specs.Safe.{Set}
 use Rattle.machine_code.specs.Machine.{Code, Activation}
 use Rattle.machine_code.specs.declared.code.Proc.{Proc}
 use Rattle.machine_code.specs.declared.instr.Instr.{Instr}
 use Rattle.machine_code.specs.declared.instr.Instr.TheVariants as instr
-
-abbrev pub Set : Type 0
-Set = ℕ → Bool
 
 abbrev pub IsWithin : Set → Set → Type 0
 IsWithin few many = (k : ℕ) → few k ≡ true → many k ≡ true

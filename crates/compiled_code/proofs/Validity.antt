@@ -16,17 +16,17 @@ use Rattle.compiled_code.proofs.Heights.{sweep, Agrees, agrees_here, agrees_by, 
 use Rattle.compiled_code.proofs.Whole.{AllAt, all_append, all_get, has_itself, held, compiled_forward}
 
 -- a value for the first so many numbers, and something else for those behind them
-abbrev pick : {A : Type 0} → ℕ → ℕ → A → (ℕ → A) → A
+abbrev pub pick : {A : Type 0} → ℕ → ℕ → A → (ℕ → A) → A
 pick zero k here behind = behind k
 pick (suc n) zero here behind = here
 pick (suc n) (suc k) here behind = pick n k here behind
 
-pick_here : {A : Type 0} (n k : ℕ) (here : A) (behind : ℕ → A) → k < n → pick n k here behind ≡ here
+pub pick_here : {A : Type 0} (n k : ℕ) (here : A) (behind : ℕ → A) → k < n → pick n k here behind ≡ here
 pick_here {A} zero k here behind lt = absurd (omega (arith, lt))
 pick_here {A} (suc n) zero here behind lt = refl
 pick_here {A} (suc n) (suc k) here behind lt = pick_here n k here behind (omega (arith, lt))
 
-pick_behind : {A : Type 0} (n k : ℕ) (here : A) (behind : ℕ → A) → pick n (n + k) here behind ≡ behind k
+pub pick_behind : {A : Type 0} (n k : ℕ) (here : A) (behind : ℕ → A) → pick n (n + k) here behind ≡ behind k
 pick_behind {A} zero k here behind = let e : 0 + k ≡ k = omega arith in ap behind e
 pick_behind {A} (suc n) k here behind =
     let e : suc n + k ≡ suc (n + k) = omega arith in
