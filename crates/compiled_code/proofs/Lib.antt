@@ -2,6 +2,7 @@ pub mod Early
 pub mod Fine
 pub mod Heights
 pub mod Lockstep
+pub mod Marked
 pub mod Marks
 pub mod Meaning
 pub mod Places
