@@ -1,17 +1,15 @@
 -- A marked code takes values early.
-use Rattle.std.proofs.Common.{◌≡◌, ℕ, zero, suc, ◌+◌, List, [], ◌∷◌, ◌++◌, length, Option, Some, None, refl, sym, ap, ◌∙◌, subst}
+use Rattle.std.proofs.Common.{◌≡◌, ℕ, suc, List, [], ◌∷◌, ◌++◌, Option, Some, None, refl, sym, ap, ◌∙◌, subst}
 use Rattle.std.proofs.lemmas.Bool.{eqb-true}
-use Rattle.std.specs.Prelude.{ℤ, ◌==◌, Bool, true, false, ◌||◌, if◌then◌else◌, drop, slice_get}
-use Rattle.cilk_meaning.specs.Alone.{Block, block_after}
-use Rattle.cilk_meaning.specs.Locals.{deposited}
+use Rattle.std.specs.Prelude.{ℤ, ◌==◌, Bool, true, false, ◌||◌, if◌then◌else◌, drop}
+use Rattle.cilk_meaning.specs.Alone.{Block}
 use Rattle.cilk_meaning.specs.Wants as want
 use Rattle.cilk_meaning.specs.Wants.{Request, Want, Asks, Deposit, Answer, Value, Children, Done}
-use Rattle.machine_code.specs.declared.code.Proc.{Proc}
-use Rattle.machine_code.specs.Early.{own, own_callers, with_values, Event, Steps, Answered, Receives, Run, awaits, stepped, resumed_with, answered, happens, goes_on_with, after_events, start_run, HasRun, at_sync, held, answers_in, TakesEarly}
+use Rattle.machine_code.specs.Early.{own, own_callers, with_values, Event, Steps, Answered, Receives, Run, awaits, stepped, resumed_with, answered, goes_on_with, after_events, HasRun, at_sync, held, answers_in, TakesEarly}
 use Rattle.machine_code.specs.Machine.{Code, Activation, Frame, Move, GoesOn, Requests, Ends, Stuck, look, wants_for, wants, start_frame, starts, starts_at, resumed}
 use Rattle.machine_code.specs.Valid.{GoesForward}
 use Rattle.machine_code.proofs.Steps.{goes_wants, requests_wants}
-use Rattle.compiled_code.proofs.Lockstep.{deposited_more, with_more, mapped, shift_next, shifted, StepWaits, Answers, PlainAnswer, SyncAnswer, FollowerWaits, InOwn, TargetWaits, IsFree, look_waits, look_shift, values_at_sync}
+use Rattle.compiled_code.proofs.Lockstep.{deposited_more, with_more, mapped, shifted, StepWaits, PlainAnswer, SyncAnswer, FollowerWaits, InOwn, TargetWaits, look_waits, look_shift, values_at_sync}
 use Rattle.compiled_code.specs.Safe.{Set}
 use Rattle.compiled_code.proofs.Marks.{IsWithin, Targets, Marks, AreMarks, MayWait}
 
@@ -109,7 +107,11 @@ module _ (code : Code) (forward : GoesForward code.instrs) (marks : Marks) (are 
   silently : (f g : Frame) (event : Event) (events : List Event) (kept more : List Deposit) (run : Run) → Reached g events more run → answers_in (event ∷ events) ≡ answers_in events →
       ((answers : List Answer) → wants_for code (held more events answers) g ≡ wants_for code (held kept (event ∷ events) answers) f) → Reached f (event ∷ events) kept run
   silently f g event events kept more run r n same = record {
-    bare = r.bare; later = r.later; is = r.is; waiting = r.waiting; targets = r.targets;
+    bare = r.bare;
+    later = r.later;
+    is = r.is;
+    waiting = r.waiting;
+    targets = r.targets;
     wants_are = λ answers. r.wants_are answers ∙ ap (λ l. drop (answers_in events) l) (same answers) ∙ ap (λ m. drop m (wants_for code (held kept (event ∷ events) answers) f)) (sym n);
   }
 
@@ -117,7 +119,11 @@ module _ (code : Code) (forward : GoesForward code.instrs) (marks : Marks) (are 
   answering : (f g : Frame) (request : Request) (k : Answer → Option Frame) (answer answer' : Answer) (events : List Event) (kept more : List Deposit) (run : Run) → look code f ≡ Requests request k → k answer' ≡ Some g →
       Reached g events more run → ((answers : List Answer) → held kept (Answered answer ∷ events) answers ≡ answer' ∷ held more events answers) → Reached f (Answered answer ∷ events) kept run
   answering f g request k answer answer' events kept more run e goes r same = record {
-    bare = r.bare; later = r.later; is = r.is; waiting = r.waiting; targets = r.targets;
+    bare = r.bare;
+    later = r.later;
+    is = r.is;
+    waiting = r.waiting;
+    targets = r.targets;
     wants_are = λ answers. r.wants_are answers
         ∙ ap (λ o. drop (suc (answers_in events)) (Asks request ∷ resumed o (wants_for code (held more events answers)))) (sym goes)
         ∙ ap (λ l. drop (suc (answers_in events)) l) (sym (requests_wants code f request k e (answer' ∷ held more events answers)))
@@ -152,6 +158,7 @@ module _ (code : Code) (forward : GoesForward code.instrs) (marks : Marks) (are 
       alone : (g : Frame) (cs : List Activation) → cs ≡ [] → MayWait marks (waited []) cs g.running.pc
       alone g [] own = λ t h'. absurd cc
       alone g (c ∷ cs) own = absurd cc
+
       go : (o : Option Frame) → k (Children (kept ++ ds)) ≡ o → InOwn code marks (waited block) o → goes_on_with (resumed_with o []) (after_events code events) ≡ Some run → Reached f (Answered (Children ds) ∷ events) kept run
       go None is own h = nothing_is h
       go (Some g) is own h =
@@ -201,7 +208,9 @@ module _ (code : Code) (forward : GoesForward code.instrs) (marks : Marks) (are 
   reaches [] f kept block run w targets h =
       let same : record { frame = with_values kept f; block = block } ≡ run = cc in
       record {
-        bare = f; later = kept; is = ap (λ (r : Run). r.frame) (sym same);
+        bare = f;
+        later = kept;
+        is = ap (λ (r : Run). r.frame) (sym same);
         waiting = subst (λ (r : Run). Waiting r.block f) same w;
         targets = subst (λ (r : Run). Targets (waited r.block) kept) same targets;
         wants_are = λ answers. refl;
@@ -220,8 +229,8 @@ module _ (code : Code) (forward : GoesForward code.instrs) (marks : Marks) (are 
       receives again true is h =
           silently f f (Receives t v) events kept (kept ++ (Some t, v) ∷ []) run
           (again f (kept ++ (Some t, v) ∷ []) block run w
-            (targets_append (waited block) kept ((Some t, v) ∷ []) targets ((λ k e. subst (λ n. awaits n block ≡ true) (let same : t ≡ k = cc in same) is), tt))
-            (ap (λ g. after_events code events (record { frame = g; block = block })) (sym (more_values kept ((Some t, v) ∷ []) f)) ∙ h))
+          (targets_append (waited block) kept ((Some t, v) ∷ []) targets ((λ k e. subst (λ n. awaits n block ≡ true) (let same : t ≡ k = cc in same) is), tt))
+          (ap (λ g. after_events code events (record { frame = g; block = block })) (sym (more_values kept ((Some t, v) ∷ []) f)) ∙ h))
           refl (λ answers. refl)
 
   -- what the frame wants that events made, and whom a spawn of it may not wait for

@@ -1,6 +1,6 @@
 -- Each instruction of the code does no harm.
-use Rattle.std.proofs.Common.{◌≡◌, ℕ, zero, suc, ◌+◌, ◌-◌, ◌<◌, ◌≤◌, max, List, [], ◌∷◌, ◌++◌, length, Option, Some, None, refl, sym, ap, ◌∙◌, subst, arith, length-append}
-use Rattle.std.specs.Prelude.{pos, Bool, true, false, slice_get}
+use Rattle.std.proofs.Common.{◌≡◌, ℕ, suc, ◌+◌, ◌-◌, ◌<◌, ◌≤◌, max, List, [], ◌∷◌, ◌++◌, length, Option, Some, None, refl, sym, ap, ◌∙◌, subst, arith, length-append}
+use Rattle.std.specs.Prelude.{pos, Bool, true, false}
 use Rattle.cilk_tree.specs.declared.tree.BinaryOp.{BinaryOp}
 use Rattle.cilk_tree.specs.declared.tree.BinaryOp.TheVariants as op
 use Rattle.cilk_tree.specs.declared.tree.UnaryOp.{UnaryOp}
@@ -10,10 +10,10 @@ use Rattle.cilk_meaning.specs.Resolved.{Expr, Stmt, Function, Program}
 use Rattle.machine_code.specs.declared.code.Proc.{Proc}
 use Rattle.machine_code.specs.declared.instr.Instr.{Instr}
 use Rattle.machine_code.specs.declared.instr.Instr.TheVariants as instr
-use Rattle.machine_code.specs.Valid.{Shape, Leads, IsFine, IsInRange, IsProc, IsLocal, takes, puts, params_of, jumps_to, goes_behind}
-use Rattle.compiled_code.specs.Emitted.{unary_instr, then_operate, and_code, or_code, expr_code, exprs_code, target_code, sync_code, stmt_code, function_code, expr_operands, exprs_operands, stmt_operands}
+use Rattle.machine_code.specs.Valid.{Shape, Leads, IsFine, IsInRange, IsProc, IsLocal, takes, puts, jumps_to}
+use Rattle.compiled_code.specs.Emitted.{unary_instr, then_operate, and_code, or_code, expr_code, exprs_code, target_code, sync_code, stmt_code, expr_operands, exprs_operands, stmt_operands}
 use Rattle.compiled_code.specs.WellFormed.{IsExprInRange, AreExprsInRange, IsTargetInRange, Suits, IsStmtInRange}
-use Rattle.compiled_code.proofs.Heights.{step, sweep, sweep_append, Agrees, agrees_here, agrees_front, agrees_back, agrees_end, expr_sweeps, exprs_sweep, sync_sweeps, target_sweeps, AreThose, takes_arguments, stmt_sweeps}
+use Rattle.compiled_code.proofs.Heights.{step, sweep, Agrees, agrees_here, agrees_front, agrees_back, agrees_end, expr_sweeps, exprs_sweep, sync_sweeps, target_sweeps, AreThose, takes_arguments, stmt_sweeps}
 use Rattle.compiled_code.proofs.Whole.{AllAt, all_append}
 
 -- every expression has an operand
@@ -58,45 +58,57 @@ module _ (procs : List Proc) (instrs : List Instr) (program : Program) (those : 
   -- an instruction behind which control goes on
   falls : (i : Instr) (at h next below : ℕ) → Shaped at h → Shaped (suc at) next → h ≡ takes procs i + below → next ≡ puts i + below → jumps_to i ≡ None →
       suc at < length instrs → puts i + below ≤ proc.operands → IsInRange procs arrays proc i → Fine at i
-  falls i at h next below here there taken left none inside room range = (ap (λ (s : Shape). s.procedure) here, record {
-    in_range = range;
-    below = below;
-    taken = ap (λ (s : Shape). s.operands) here ∙ taken;
-    behind = λ goes. leads at (suc at) h (puts i + below) here (shaped (suc at) next _ left there) inside room;
-    jumps = λ to e. none_to i to none e;
-  })
+  falls i at h next below here there taken left none inside room range = (
+    ap (λ (s : Shape). s.procedure) here,
+    record {
+      in_range = range;
+      below = below;
+      taken = ap (λ (s : Shape). s.operands) here ∙ taken;
+      behind = λ goes. leads at (suc at) h (puts i + below) here (shaped (suc at) next _ left there) inside room;
+      jumps = λ to e. none_to i to none e;
+    },
+  )
 
   -- a test with a jump
   tests : (at to h next below : ℕ) → Shaped at h → Shaped (suc at) next → Shaped to below → h ≡ 1 + below → next ≡ below → suc at < length instrs → to < length instrs → below ≤ proc.operands →
       Fine at (instr.JumpIfZero to)
-  tests at to h next below here there away taken left inside inside' room = (ap (λ (s : Shape). s.procedure) here, record {
-    in_range = tt;
-    below = below;
-    taken = ap (λ (s : Shape). s.operands) here ∙ taken;
-    behind = λ goes. leads at (suc at) h (0 + below) here (shaped (suc at) next _ (left ∙ omega arith) there) inside (omega (arith, room));
-    jumps = λ to' e. subst (λ t. Leads instrs shapes (shapes at).procedure proc (0 + below) t) (let same : Some to ≡ Some to' = e in cc)
-        (leads at to h (0 + below) here (shaped to _ _ (omega arith) away) inside' (omega (arith, room)));
-  })
+  tests at to h next below here there away taken left inside inside' room = (
+    ap (λ (s : Shape). s.procedure) here,
+    record {
+      in_range = tt;
+      below = below;
+      taken = ap (λ (s : Shape). s.operands) here ∙ taken;
+      behind = λ goes. leads at (suc at) h (0 + below) here (shaped (suc at) next _ (left ∙ omega arith) there) inside (omega (arith, room));
+      jumps = λ to' e. subst (λ t. Leads instrs shapes (shapes at).procedure proc (0 + below) t) (let same : Some to ≡ Some to' = e in cc)
+          (leads at to h (0 + below) here (shaped to _ _ (omega arith) away) inside' (omega (arith, room)));
+    },
+  )
 
   -- a jump
   goes_to : (at to h : ℕ) → Shaped at h → Shaped to h → to < length instrs → h ≤ proc.operands → Fine at (instr.Jump to)
-  goes_to at to h here there inside room = (ap (λ (s : Shape). s.procedure) here, record {
-    in_range = tt;
-    below = h;
-    taken = ap (λ (s : Shape). s.operands) here ∙ omega arith;
-    behind = λ e. absurd (let no_more : false ≡ true = e in cc);
-    jumps = λ to' e. subst (λ t. Leads instrs shapes (shapes at).procedure proc (0 + h) t) (let same : Some to ≡ Some to' = e in cc)
-        (leads at to h (0 + h) here (shaped to _ _ (omega arith) there) inside (omega (arith, room)));
-  })
+  goes_to at to h here there inside room = (
+    ap (λ (s : Shape). s.procedure) here,
+    record {
+      in_range = tt;
+      below = h;
+      taken = ap (λ (s : Shape). s.operands) here ∙ omega arith;
+      behind = λ e. absurd (let no_more : false ≡ true = e in cc);
+      jumps = λ to' e. subst (λ t. Leads instrs shapes (shapes at).procedure proc (0 + h) t) (let same : Some to ≡ Some to' = e in cc)
+          (leads at to h (0 + h) here (shaped to _ _ (omega arith) there) inside (omega (arith, room)));
+    },
+  )
 
   returns : (at h : ℕ) → Shaped at h → h ≡ 1 → Fine at instr.Return
-  returns at h here e = (ap (λ (s : Shape). s.procedure) here, record {
-    in_range = tt;
-    below = 0;
-    taken = ap (λ (s : Shape). s.operands) here ∙ e;
-    behind = λ goes. absurd (let no_more : false ≡ true = goes in cc);
-    jumps = λ to e'. none_to instr.Return to refl e';
-  })
+  returns at h here e = (
+    ap (λ (s : Shape). s.procedure) here,
+    record {
+      in_range = tt;
+      below = 0;
+      taken = ap (λ (s : Shape). s.operands) here ∙ e;
+      behind = λ goes. absurd (let no_more : false ≡ true = goes in cc);
+      jumps = λ to e'. none_to instr.Return to refl e';
+    },
+  )
 
   -- what is left of an agreement behind a part of the code
   behind : (h h' at : ℕ) (front back : List Instr) → sweep procs h front ≡ h' → Agree h at (front ++ back) → Agree h' (at + length front) back
@@ -146,13 +158,19 @@ module _ (procs : List Proc) (instrs : List Instr) (program : Program) (those : 
       let at_tail = behind h (suc h) py cy tail (expr_sweeps procs y h py) ay in
       let zeros_shaped : Shaped zeros h = shaped zeros _ h (omega arith) (at_tail.1.1.1.0) in
       let end_shaped : Shaped (suc zeros) (suc h) = shaped (suc zeros) _ (suc h) (omega arith) (at_tail.1.1.1.1) in
-      all_append Fine at cx _ (fx h at (before h at cx _ a) (omega (arith, inside, end)) (omega (arith, room)) range.0)
-      (tests (at + length cx) zeros _ _ h ax.0 (agrees_here procs shapes p _ py (cy ++ tail) ax.1) zeros_shaped (omega arith) (omega arith) (omega (arith, inside, end)) (omega (arith, inside, end)) (omega (arith, room)),
-       all_append Fine py cy tail (fy h py (before h py cy tail ay) (omega (arith, inside, end)) (omega (arith, room)) range.1)
-       (falls instr.Not (py + length cy) _ _ h at_tail.0 at_tail.1.0 (omega arith) (omega arith) refl (omega (arith, inside, end)) (omega (arith, room)) tt,
-       (falls instr.Not (suc (py + length cy)) _ _ h at_tail.1.0 at_tail.1.1.0 (omega arith) (omega arith) refl (omega (arith, inside, end)) (omega (arith, room)) tt,
-       (goes_to (suc (suc (py + length cy))) (suc zeros) (suc h) (shaped (suc (suc (py + length cy))) _ (suc h) (omega arith) (at_tail.1.1.0)) end_shaped (omega (arith, inside, end)) (omega (arith, room)),
-       (falls (instr.Const (pos 0)) zeros h (suc h) h zeros_shaped end_shaped (omega arith) (omega arith) refl (omega (arith, inside, end)) (omega (arith, room)) tt, tt)))))
+      all_append Fine at cx _ (fx h at (before h at cx _ a) (omega (arith, inside, end)) (omega (arith, room)) range.0) (
+        tests (at + length cx) zeros _ _ h ax.0 (agrees_here procs shapes p _ py (cy ++ tail) ax.1) zeros_shaped (omega arith) (omega arith) (omega (arith, inside, end)) (omega (arith, inside, end)) (omega (arith, room)),
+        all_append Fine py cy tail (fy h py (before h py cy tail ay) (omega (arith, inside, end)) (omega (arith, room)) range.1) (
+          falls instr.Not (py + length cy) _ _ h at_tail.0 at_tail.1.0 (omega arith) (omega arith) refl (omega (arith, inside, end)) (omega (arith, room)) tt,
+          (
+            falls instr.Not (suc (py + length cy)) _ _ h at_tail.1.0 at_tail.1.1.0 (omega arith) (omega arith) refl (omega (arith, inside, end)) (omega (arith, room)) tt,
+            (
+              goes_to (suc (suc (py + length cy))) (suc zeros) (suc h) (shaped (suc (suc (py + length cy))) _ (suc h) (omega arith) (at_tail.1.1.0)) end_shaped (omega (arith, inside, end)) (omega (arith, room)),
+              (falls (instr.Const (pos 0)) zeros h (suc h) h zeros_shaped end_shaped (omega arith) (omega arith) refl (omega (arith, inside, end)) (omega (arith, room)) tt, tt),
+            ),
+          ),
+        ),
+      )
 
   or_fine : (x y : Expr) → ExprFine x → ExprFine y → ExprFine (tree.Binary op.Or x y)
   or_fine x y fx fy h at a inside room range =
@@ -168,13 +186,19 @@ module _ (procs : List Proc) (instrs : List Instr) (program : Program) (those : 
       let ay : Agree h other (cy ++ tail) = subst (λ n. Agree n other (cy ++ tail)) (omega arith) ax.1.1.1 in
       let at_tail = behind h (suc h) other cy tail (expr_sweeps procs y h other) ay in
       let last_shaped : Shaped last (suc h) = shaped last _ (suc h) (omega arith) (at_tail.1.1) in
-      all_append Fine at cx _ (fx h at (before h at cx _ a) (omega (arith, inside, end)) (omega (arith, room)) range.0)
-      (tests (at + length cx) other _ _ h ax.0 ax.1.0 (agrees_here procs shapes p h other (cy ++ tail) ay) (omega arith) (omega arith) (omega (arith, inside, end)) (omega (arith, inside, end)) (omega (arith, room)),
-      (falls (instr.Const (pos 1)) (suc (at + length cx)) _ _ h ax.1.0 ax.1.1.0 (omega arith) (omega arith) refl (omega (arith, inside, end)) (omega (arith, room)) tt,
-      (goes_to (suc (suc (at + length cx))) last (suc h) (shaped (suc (suc (at + length cx))) _ (suc h) (omega arith) (ax.1.1.0)) last_shaped (omega (arith, inside, end)) (omega (arith, room)),
-       all_append Fine other cy tail (fy h other (before h other cy tail ay) (omega (arith, inside, end)) (omega (arith, room)) range.1)
-       (falls instr.Not (other + length cy) _ _ h at_tail.0 at_tail.1.0 (omega arith) (omega arith) refl (omega (arith, inside, end)) (omega (arith, room)) tt,
-       (falls instr.Not (suc (other + length cy)) _ _ h at_tail.1.0 at_tail.1.1 (omega arith) (omega arith) refl (omega (arith, inside, end)) (omega (arith, room)) tt, tt)))))
+      all_append Fine at cx _ (fx h at (before h at cx _ a) (omega (arith, inside, end)) (omega (arith, room)) range.0) (
+        tests (at + length cx) other _ _ h ax.0 ax.1.0 (agrees_here procs shapes p h other (cy ++ tail) ay) (omega arith) (omega arith) (omega (arith, inside, end)) (omega (arith, inside, end)) (omega (arith, room)),
+        (
+          falls (instr.Const (pos 1)) (suc (at + length cx)) _ _ h ax.1.0 ax.1.1.0 (omega arith) (omega arith) refl (omega (arith, inside, end)) (omega (arith, room)) tt,
+          (
+            goes_to (suc (suc (at + length cx))) last (suc h) (shaped (suc (suc (at + length cx))) _ (suc h) (omega arith) (ax.1.1.0)) last_shaped (omega (arith, inside, end)) (omega (arith, room)),
+            all_append Fine other cy tail (fy h other (before h other cy tail ay) (omega (arith, inside, end)) (omega (arith, room)) range.1) (
+              falls instr.Not (other + length cy) _ _ h at_tail.0 at_tail.1.0 (omega arith) (omega arith) refl (omega (arith, inside, end)) (omega (arith, room)) tt,
+              (falls instr.Not (suc (other + length cy)) _ _ h at_tail.1.0 at_tail.1.1 (omega arith) (omega arith) refl (omega (arith, inside, end)) (omega (arith, room)) tt, tt),
+            ),
+          ),
+        ),
+      )
 
   binary_fine : (operator : BinaryOp) (x y : Expr) → ExprFine x → ExprFine y → ExprFine (tree.Binary operator x y)
   binary_fine op.And x y fx fy h at a inside room range = and_fine x y fx fy h at a inside room range
@@ -273,12 +297,14 @@ module _ (procs : List Proc) (instrs : List Instr) (program : Program) (those : 
       let at_test = behind 0 1 at ct _ (expr_sweeps procs t 0 at) a in
       let at_jump = behind 0 0 px cx _ (stmt_sweeps procs program those x proc.«cilk» proc.locals px range.1) at_test.1 in
       let end_shaped = shaped end _ 0 (stmt_sweeps procs program those y proc.«cilk» proc.locals py range.2) (agrees_end procs shapes p 0 py cy at_jump.1) in
-      all_append Fine at ct _ (expr_fine t 0 at (before 0 at ct _ a) (omega (arith, inside, n1, n2)) (omega (arith, room)) range.0)
-      (tests (at + length ct) py _ _ 0 at_test.0 (agrees_here procs shapes p 0 px _ at_test.1) (agrees_here procs shapes p 0 py cy at_jump.1)
-        (omega arith) refl (omega (arith, inside, n1, n2)) (omega (arith, inside, n1, n2)) (omega arith),
-       all_append Fine px cx _ (stmt_fine x px (before 0 px cx _ at_test.1) (omega (arith, inside, n1, n2)) (omega (arith, room)) range.1)
-       (goes_to (px + length cx) end 0 at_jump.0 end_shaped (omega (arith, inside, n1, n2)) (omega arith),
-        stmt_fine y py at_jump.1 (omega (arith, inside, n1, n2)) (omega (arith, room)) range.2))
+      all_append Fine at ct _ (expr_fine t 0 at (before 0 at ct _ a) (omega (arith, inside, n1, n2)) (omega (arith, room)) range.0) (
+        tests (at + length ct) py _ _ 0 at_test.0 (agrees_here procs shapes p 0 px _ at_test.1) (agrees_here procs shapes p 0 py cy at_jump.1)
+            (omega arith) refl (omega (arith, inside, n1, n2)) (omega (arith, inside, n1, n2)) (omega arith),
+        all_append Fine px cx _ (stmt_fine x px (before 0 px cx _ at_test.1) (omega (arith, inside, n1, n2)) (omega (arith, room)) range.1) (
+          goes_to (px + length cx) end 0 at_jump.0 end_shaped (omega (arith, inside, n1, n2)) (omega arith),
+          stmt_fine y py at_jump.1 (omega (arith, inside, n1, n2)) (omega (arith, room)) range.2,
+        ),
+      )
   stmt_fine (tree.While t s) at a inside room range =
       let ct = expr_code (suc at) t in
       let jump = suc at + length ct in
@@ -288,21 +314,24 @@ module _ (procs : List Proc) (instrs : List Instr) (program : Program) (those : 
       let n1 = length-append ct (instr.JumpIfZero (suc end) ∷ (cs ++ instr.Jump at ∷ [])) in
       let n2 = length-append cs (instr.Jump at ∷ []) in
       let at_test = behind 0 1 (suc at) ct _ (expr_sweeps procs t 0 (suc at)) a.1 in
-      let at_jump = behind 0 0 ps cs _ (stmt_sweeps procs program those s proc.«cilk» proc.locals ps range.1) at_test.1 in
-      (falls instr.Turn at _ _ 0 a.0 (agrees_here procs shapes p 0 (suc at) _ a.1) (omega arith) (omega arith) refl (omega (arith, inside, n1, n2)) (omega arith) tt,
-       all_append Fine (suc at) ct _ (expr_fine t 0 (suc at) (before 0 (suc at) ct _ a.1) (omega (arith, inside, n1, n2)) (omega (arith, room)) range.0)
-       (tests jump (suc end) _ _ 0 at_test.0 (agrees_here procs shapes p 0 ps _ at_test.1) at_jump.1 (omega arith) refl (omega (arith, inside, n1, n2)) (omega (arith, inside, n1, n2)) (omega arith),
-        all_append Fine ps cs _ (stmt_fine s ps (before 0 ps cs _ at_test.1) (omega (arith, inside, n1, n2)) (omega (arith, room)) range.1)
-        (goes_to end at 0 at_jump.0 a.0 (omega (arith, inside, n1, n2)) (omega arith), tt)))
+      let at_jump = behind 0 0 ps cs _ (stmt_sweeps procs program those s proc.«cilk» proc.locals ps range.1) at_test.1 in (
+        falls instr.Turn at _ _ 0 a.0 (agrees_here procs shapes p 0 (suc at) _ a.1) (omega arith) (omega arith) refl (omega (arith, inside, n1, n2)) (omega arith) tt,
+        all_append Fine (suc at) ct _ (expr_fine t 0 (suc at) (before 0 (suc at) ct _ a.1) (omega (arith, inside, n1, n2)) (omega (arith, room)) range.0) (
+          tests jump (suc end) _ _ 0 at_test.0 (agrees_here procs shapes p 0 ps _ at_test.1) at_jump.1 (omega arith) refl (omega (arith, inside, n1, n2)) (omega (arith, inside, n1, n2)) (omega arith),
+          all_append Fine ps cs _ (stmt_fine s ps (before 0 ps cs _ at_test.1) (omega (arith, inside, n1, n2)) (omega (arith, room)) range.1)
+              (goes_to end at 0 at_jump.0 a.0 (omega (arith, inside, n1, n2)) (omega arith), tt),
+        ),
+      )
   stmt_fine (tree.Call target f es) at a inside room range =
       let ces = exprs_code at es in
       let n = length-append ces (instr.Call f ∷ target_code target ∷ []) in
       let args = takes_arguments procs program those f false es range.0 in
       let swept : sweep procs 0 ces ≡ length es = exprs_sweep procs es 0 at ∙ omega arith in
       let a' = behind 0 (length es) at ces _ swept a in
-      all_append Fine at ces _ (exprs_fine es 0 at (before 0 at ces _ a) (omega (arith, inside, n)) (omega (arith, room)) range.2)
-      (falls (instr.Call f) (at + length ces) _ _ 0 a'.0 a'.1.0 (omega (arith, args)) (omega (arith, args)) refl (omega (arith, inside, n)) (omega (arith, room)) (is_proc f false es range.0),
-      (target_fine target (suc (at + length ces)) _ _ a'.1.0 a'.1.1 (omega (arith, args)) (emptied (target_sweeps procs target) (omega (arith, args))) (omega (arith, inside, n)) range.1, tt))
+      all_append Fine at ces _ (exprs_fine es 0 at (before 0 at ces _ a) (omega (arith, inside, n)) (omega (arith, room)) range.2) (
+        falls (instr.Call f) (at + length ces) _ _ 0 a'.0 a'.1.0 (omega (arith, args)) (omega (arith, args)) refl (omega (arith, inside, n)) (omega (arith, room)) (is_proc f false es range.0),
+        (target_fine target (suc (at + length ces)) _ _ a'.1.0 a'.1.1 (omega (arith, args)) (emptied (target_sweeps procs target) (omega (arith, args))) (omega (arith, inside, n)) range.1, tt),
+      )
     where
       emptied : {h : ℕ} → step procs (target_code target) 1 ≡ 0 → h ≡ 1 → step procs (target_code target) h ≡ 0
       emptied {h} e is = ap (λ n. step procs (target_code target) n) is ∙ e
@@ -312,9 +341,11 @@ module _ (procs : List Proc) (instrs : List Instr) (program : Program) (those : 
       let args = takes_arguments procs program those f true es range.0 in
       let swept : sweep procs 0 ces ≡ length es = exprs_sweep procs es 0 at ∙ omega arith in
       let a' = behind 0 (length es) at ces _ swept a in
-      all_append Fine at ces _ (exprs_fine es 0 at (before 0 at ces _ a) (omega (arith, inside, n)) room range.2)
-      (falls (instr.Spawn f target) (at + length ces) _ _ 0 a'.0 a'.1 (omega (arith, args)) (omega (arith, args)) refl (omega (arith, inside, n)) (omega arith)
-        (range.3, is_proc f true es range.0, is_local target range.1), tt)
+      all_append Fine at ces _ (exprs_fine es 0 at (before 0 at ces _ a) (omega (arith, inside, n)) room range.2) (
+        falls (instr.Spawn f target) (at + length ces) _ _ 0 a'.0 a'.1 (omega (arith, args)) (omega (arith, args)) refl (omega (arith, inside, n)) (omega arith)
+            (range.3, is_proc f true es range.0, is_local target range.1),
+        tt,
+      )
   stmt_fine (tree.Add target b i e) at a inside room range =
       let ci = expr_code at i in
       let ce = expr_code (at + length ci) e in
@@ -323,9 +354,10 @@ module _ (procs : List Proc) (instrs : List Instr) (program : Program) (those : 
       let a' = behind 0 1 at ci _ (expr_sweeps procs i 0 at) a in
       let a'' = behind 1 2 (at + length ci) ce _ (expr_sweeps procs e 1 (at + length ci)) a' in
       all_append Fine at ci _ (expr_fine i 0 at (before 0 at ci _ a) (omega (arith, inside, n1, n2)) (omega (arith, room)) range.2)
-      (all_append Fine (at + length ci) ce _ (expr_fine e 1 (at + length ci) (before 1 (at + length ci) ce _ a') (omega (arith, inside, n1, n2)) (omega (arith, room)) range.3)
-      (falls (instr.AddShared b) (at + length ci + length ce) _ _ 0 a''.0 a''.1.0 (omega arith) (omega arith) refl (omega (arith, inside, n1, n2)) (omega (arith, room)) range.0,
-      (target_fine target (suc (at + length ci + length ce)) _ _ a''.1.0 a''.1.1 refl (target_sweeps procs target) (omega (arith, inside, n1, n2)) range.1, tt)))
+      (all_append Fine (at + length ci) ce _ (expr_fine e 1 (at + length ci) (before 1 (at + length ci) ce _ a') (omega (arith, inside, n1, n2)) (omega (arith, room)) range.3) (
+        falls (instr.AddShared b) (at + length ci + length ce) _ _ 0 a''.0 a''.1.0 (omega arith) (omega arith) refl (omega (arith, inside, n1, n2)) (omega (arith, room)) range.0,
+        (target_fine target (suc (at + length ci + length ce)) _ _ a''.1.0 a''.1.1 refl (target_sweeps procs target) (omega (arith, inside, n1, n2)) range.1, tt),
+      ))
   stmt_fine tree.Sync at a inside room range = (falls instr.SyncAll at _ _ 0 a.0 a.1 (omega arith) (omega arith) refl (omega (arith, inside)) (omega arith) range, tt)
   stmt_fine (tree.Return e) at a inside room range =
       let sc = sync_code proc.«cilk» in
@@ -353,6 +385,7 @@ module _ (procs : List Proc) (instrs : List Instr) (program : Program) (those : 
       let a' = behind 0 0 at cb _ (stmt_sweeps procs program those body proc.«cilk» proc.locals at range) a in
       let a'' = behind 0 0 ps sc _ (sync_sweeps procs proc.«cilk») a' in
       all_append Fine at cb _ (stmt_fine body at (before 0 at cb _ a) (omega (arith, inside, n1, n2)) (omega (arith, room)) range)
-      (all_append Fine ps sc _ (sync_fine proc.«cilk» ps refl (before 0 ps sc _ a') (omega (arith, inside, n1, n2)))
-      (falls (instr.Const (pos 0)) end _ _ 0 a''.0 a''.1 (omega arith) (omega arith) refl (omega (arith, inside, n1, n2)) (omega (arith, room)) tt,
-      (returns (suc end) 1 a''.1 refl, tt)))
+      (all_append Fine ps sc _ (sync_fine proc.«cilk» ps refl (before 0 ps sc _ a') (omega (arith, inside, n1, n2))) (
+        falls (instr.Const (pos 0)) end _ _ 0 a''.0 a''.1 (omega arith) (omega arith) refl (omega (arith, inside, n1, n2)) (omega (arith, room)) tt,
+        (returns (suc end) 1 a''.1 refl, tt),
+      ))

@@ -1,5 +1,5 @@
 -- How many operands there are before each instruction of the code.
-use Rattle.std.proofs.Common.{◌≡◌, ℕ, zero, suc, ◌+◌, ◌-◌, ◌<◌, ◌≤◌, List, [], ◌∷◌, ◌++◌, length, Option, Some, None, refl, sym, ap, ◌∙◌, subst, arith, length-append}
+use Rattle.std.proofs.Common.{◌≡◌, ℕ, suc, ◌+◌, ◌-◌, ◌≤◌, List, [], ◌∷◌, ◌++◌, length, Option, Some, None, refl, sym, ap, ◌∙◌, subst, arith}
 use Rattle.std.specs.Prelude.{pos, Bool, true, false, take, slice_get}
 use Rattle.cilk_tree.specs.declared.tree.BinaryOp.{BinaryOp}
 use Rattle.cilk_tree.specs.declared.tree.BinaryOp.TheVariants as op
@@ -11,7 +11,7 @@ use Rattle.machine_code.specs.declared.code.Proc.{Proc}
 use Rattle.machine_code.specs.declared.instr.Instr.{Instr}
 use Rattle.machine_code.specs.declared.instr.Instr.TheVariants as instr
 use Rattle.machine_code.specs.Valid.{Shape, takes, puts, params_of}
-use Rattle.compiled_code.specs.Emitted.{unary_instr, then_operate, expr_code, exprs_code, target_code, sync_code, stmt_code, function_code}
+use Rattle.compiled_code.specs.Emitted.{unary_instr, then_operate, expr_code, exprs_code, target_code, sync_code, stmt_code}
 use Rattle.compiled_code.specs.WellFormed.{Suits, IsStmtInRange}
 
 -- How many operands are there at the next place. Behind a jump there is one less: what the code between made is joined where it leads.
@@ -56,10 +56,11 @@ module _ (procs : List Proc) where
     -- where the shape at each place is that of the instructions before it
     pub agrees_by : (h at : ℕ) (is : List Instr) → ((k : ℕ) → k ≤ length is → shapes (at + k) ≡ record { procedure = procedure; operands = sweep procs h (take k is) }) → Agrees h at is
     agrees_by h at [] all = subst (λ n. shapes n ≡ record { procedure = procedure; operands = h }) (omega arith) (all 0 (omega arith))
-    agrees_by h at (i ∷ is) all =
-        (subst (λ n. shapes n ≡ record { procedure = procedure; operands = h }) (omega arith) (all 0 (omega arith)),
-         agrees_by (step procs i h) (suc at) is (λ k le.
-           subst (λ n. shapes n ≡ record { procedure = procedure; operands = sweep procs (step procs i h) (take k is) }) (omega arith) (all (suc k) (omega (arith, le)))))
+    agrees_by h at (i ∷ is) all = (
+      subst (λ n. shapes n ≡ record { procedure = procedure; operands = h }) (omega arith) (all 0 (omega arith)),
+      agrees_by (step procs i h) (suc at) is (λ k le.
+          subst (λ n. shapes n ≡ record { procedure = procedure; operands = sweep procs (step procs i h) (take k is) }) (omega arith) (all (suc k) (omega (arith, le)))),
+    )
 
   -- an expression leaves its value
   then_sweeps : (i : Instr) (h at : ℕ) (left : List Instr) (right : ℕ → List Instr) → sweep procs h left ≡ suc h → ((place : ℕ) → sweep procs (suc h) (right place) ≡ suc (suc h)) →

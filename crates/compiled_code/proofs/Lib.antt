@@ -6,6 +6,7 @@ pub mod Marked
 pub mod Marks
 pub mod Meaning
 pub mod Places
+pub mod Stands
 pub mod Validity
 pub mod Waiting
 pub mod Wants

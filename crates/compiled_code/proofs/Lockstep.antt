@@ -1,7 +1,7 @@
 -- A frame with early values and one without go in step.
 use Rattle.std.proofs.Common.{◌≡◌, ◌≢◌, ℕ, zero, suc, ◌+◌, ◌-◌, ◌*◌, List, [], ◌∷◌, ◌++◌, length, Option, Some, None, refl, sym, ap, ◌∙◌, subst}
 use Rattle.std.proofs.lemmas.List.{get_or-set_other}
-use Rattle.std.specs.Prelude.{ℤ, pos, ◌+ℤ◌, ◌==◌, Bool, true, false, not, if◌then◌else◌, Result, Ok, Err, slice_get, slice_set, drop}
+use Rattle.std.specs.Prelude.{ℤ, pos, ◌==◌, Bool, true, false, if◌then◌else◌, Result, Ok, Err, slice_get, slice_set, drop}
 use Rattle.cilk_tree.specs.declared.tree.BinaryOp.{BinaryOp}
 use Rattle.cilk_tree.specs.declared.tree.BinaryOp.TheVariants as op
 use Rattle.cilk_tree.specs.declared.tree.UnaryOp.{UnaryOp}
@@ -17,7 +17,7 @@ use Rattle.machine_code.specs.declared.code.Proc.{Proc}
 use Rattle.machine_code.specs.declared.instr.Instr.{Instr}
 use Rattle.machine_code.specs.declared.instr.Instr.TheVariants as instr
 use Rattle.machine_code.specs.Early.{own, own_callers, with_values, at_sync}
-use Rattle.machine_code.specs.Machine.{Code, Activation, Frame, Move, GoesOn, Requests, Ends, Stuck, moved, next_with, stored, popping, given, limited, on_value, on_children, on_done, with_proc, binary, unary, called, returned, added, arguments_on, act, look, go_on, settle, remaining, settled, last_want, want_and, resumed, wants_for}
+use Rattle.machine_code.specs.Machine.{Code, Activation, Frame, Move, GoesOn, Requests, Ends, Stuck, next_with, stored, popping, given, limited, on_value, on_children, on_done, with_proc, binary, unary, called, returned, added, arguments_on, act, look, go_on, settle, remaining, settled, last_want, want_and, resumed, wants_for}
 use Rattle.compiled_code.specs.Safe.{Set}
 use Rattle.compiled_code.proofs.Marks.{IsWithin, Targets, Marks, Flows, Waits, IsMarked, AreMarks, MayWait}
 
@@ -182,7 +182,7 @@ module _ (code : Code) (marks : Marks) (set : Set) (ds : List Deposit) (targets 
       ∙ if_shift ds (length f.callers == limits.calls) TooDeep _ _ (ap (λ k. Requests want.Call k) (λ j answer. done_shift ds (called f proc) answer j)))
   act_shift f (Some (instr.Spawn q target)) p m = proc_shift ds (slice_get code.procs q) _ _ (λ proc.
       if_shift ds (f.depth == limits.depth) TooDeep _ _ (ap (λ k. Requests (want.Spawn target q (arguments_on proc.params f.running.operands)) k)
-        (λ j answer. done_shift ds (next_with f (drop proc.params f.running.operands)) answer j)))
+      (λ j answer. done_shift ds (next_with f (drop proc.params f.running.operands)) answer j)))
   act_shift f (Some instr.SyncAll) p m = ap (λ k. Requests want.Sync k) (λ j answer. sync_shift f.running f.callers f.depth f.overflowed p (m instr.SyncAll refl) answer j)
   act_shift f (Some instr.Return) p m = pop_shift ds f.running.operands _ _ (λ v rest. returned_shift f v f.callers)
 
@@ -336,10 +336,11 @@ module _ (code : Code) (marks : Marks) (set : Set) where
       spawns : (o : Option Proc) → StepWaits (with_proc o (λ proc. limited limits.depth f.depth
           (Requests (want.Spawn target q (arguments_on proc.params f.running.operands)) (on_done (next_with f (drop proc.params f.running.operands))))))
       spawns None = tt
-      spawns (Some proc) = if_waits (f.depth == limits.depth) TooDeep _
-          (done_waits (next_with f (drop proc.params f.running.operands)) (flow f.callers f.running.pc _ (m (instr.Spawn q target) refl).0 p),
-           target_free target f.callers f.running.pc p (m (instr.Spawn q target) refl).2 (m (instr.Spawn q target) refl).1,
-           target_waits target (next_with f (drop proc.params f.running.operands)) f.running.pc refl (own_runs f.callers f.running.pc p (m (instr.Spawn q target) refl).2) (m (instr.Spawn q target) refl).1)
+      spawns (Some proc) = if_waits (f.depth == limits.depth) TooDeep _ (
+        done_waits (next_with f (drop proc.params f.running.operands)) (flow f.callers f.running.pc _ (m (instr.Spawn q target) refl).0 p),
+        target_free target f.callers f.running.pc p (m (instr.Spawn q target) refl).2 (m (instr.Spawn q target) refl).1,
+        target_waits target (next_with f (drop proc.params f.running.operands)) f.running.pc refl (own_runs f.callers f.running.pc p (m (instr.Spawn q target) refl).2) (m (instr.Spawn q target) refl).1,
+      )
   act_waits f (Some instr.SyncAll) p m = children_waits _ (λ ds. own_runs f.callers f.running.pc p (m instr.SyncAll refl))
   act_waits f (Some instr.Return) p m = pop_waits f.running.operands _ (λ v rest. returned_waits f v f.callers f.running.pc p)
 

@@ -1,7 +1,7 @@
 -- The code of a statement that keeps the rule keeps its marks.
-use Rattle.std.proofs.Common.{◌≡◌, ℕ, zero, suc, ◌+◌, ◌<◌, ◌≤◌, List, [], ◌∷◌, ◌++◌, length, Option, Some, None, refl, sym, ap, ◌∙◌, subst, arith, length-append}
+use Rattle.std.proofs.Common.{◌≡◌, ℕ, suc, ◌+◌, ◌<◌, ◌≤◌, List, [], ◌∷◌, ◌++◌, length, Option, Some, None, refl, sym, ap, ◌∙◌, subst, arith, length-append}
 use Rattle.std.proofs.lemmas.Bool.{eq-eqb}
-use Rattle.std.specs.Prelude.{ℤ, pos, ◌==◌, Bool, true, false, not, ◌||◌, ◌&&◌, slice_get}
+use Rattle.std.specs.Prelude.{pos, ◌==◌, Bool, true, false, not, ◌||◌, ◌&&◌, slice_get}
 use Rattle.cilk_tree.specs.declared.tree.BinaryOp.{BinaryOp}
 use Rattle.cilk_tree.specs.declared.tree.BinaryOp.TheVariants as op
 use Rattle.cilk_tree.specs.declared.tree.UnaryOp.{UnaryOp}
@@ -12,9 +12,9 @@ use Rattle.machine_code.specs.declared.code.Proc.{Proc}
 use Rattle.machine_code.specs.declared.instr.Instr.{Instr}
 use Rattle.machine_code.specs.declared.instr.Instr.TheVariants as instr
 use Rattle.machine_code.specs.Machine.{Code}
-use Rattle.compiled_code.specs.Emitted.{unary_instr, then_operate, and_code, or_code, expr_code, exprs_code, target_code, sync_code, stmt_code, function_code}
+use Rattle.compiled_code.specs.Emitted.{unary_instr, then_operate, expr_code, exprs_code, target_code, sync_code, stmt_code}
 use Rattle.compiled_code.specs.Safe.{Set, none, both, with_target, behind_sync, leaves, IsFree, AreFree, IsTargetFree, IsSafe}
-use Rattle.compiled_code.specs.WellFormed.{Suits, IsStmtInRange}
+use Rattle.compiled_code.specs.WellFormed.{IsStmtInRange}
 use Rattle.compiled_code.proofs.Marks.{IsWithin, Marks, Flows, Waits, IsMarked}
 use Rattle.compiled_code.proofs.Waiting.{Range, StmtMarks}
 use Rattle.compiled_code.proofs.Whole.{AllAt, all_append}
@@ -144,12 +144,16 @@ module _ (code : Code) (m : Marks) where
       let over : Into set plain (suc zeros) = subst (λ q. Into set plain q) (omega (arith, n1, n2)) into in
       let here : (q : ℕ) → at ≤ q → q ≤ zeros → Into set plain q = λ q a b. range_in set plain at _ q r a (omega (arith, n1, n2, b)) in
       let go : (q next : ℕ) → at ≤ q → q ≤ zeros → Into set plain next → Flows m q next = λ q next a b i. flows set plain at _ q next r a (omega (arith, n1, n2, b)) i in
-      all_append Fine at cx _ (fx set plain at (sub set plain at _ at (at + length cx) (omega arith) (omega (arith, n1, n2)) r) (here (at + length cx) (omega arith) (omega arith)) f.0)
-      ((go (at + length cx) zeros (omega arith) (omega arith) (here zeros (omega arith) (omega arith)), go (at + length cx) py (omega arith) (omega arith) (here py (omega arith) (omega arith))),
-       all_append Fine py cy _ (fy set plain py (sub set plain at _ py end (omega arith) (omega (arith, n1, n2)) r) (here end (omega arith) (omega arith)) f.1)
-       (go end (suc end) (omega arith) (omega arith) (here (suc end) (omega arith) (omega arith)),
-       (go (suc end) (suc (suc end)) (omega arith) (omega arith) (here (suc (suc end)) (omega arith) (omega arith)),
-       (go (suc (suc end)) (suc zeros) (omega arith) (omega arith) over, (go zeros (suc zeros) (omega arith) (omega arith) over, tt)))))
+      all_append Fine at cx _ (fx set plain at (sub set plain at _ at (at + length cx) (omega arith) (omega (arith, n1, n2)) r) (here (at + length cx) (omega arith) (omega arith)) f.0) (
+        (go (at + length cx) zeros (omega arith) (omega arith) (here zeros (omega arith) (omega arith)), go (at + length cx) py (omega arith) (omega arith) (here py (omega arith) (omega arith))),
+        all_append Fine py cy _ (fy set plain py (sub set plain at _ py end (omega arith) (omega (arith, n1, n2)) r) (here end (omega arith) (omega arith)) f.1) (
+          go end (suc end) (omega arith) (omega arith) (here (suc end) (omega arith) (omega arith)),
+          (
+            go (suc end) (suc (suc end)) (omega arith) (omega arith) (here (suc (suc end)) (omega arith) (omega arith)),
+            (go (suc (suc end)) (suc zeros) (omega arith) (omega arith) over, (go zeros (suc zeros) (omega arith) (omega arith) over, tt)),
+          ),
+        ),
+      )
 
   or_fine : (x y : Expr) → ExprFine x → ExprFine y → ExprFine (tree.Binary op.Or x y)
   or_fine x y fx fy set plain at r into f =
@@ -164,12 +168,17 @@ module _ (code : Code) (m : Marks) where
       let over : Into set plain (suc (suc end)) = subst (λ q. Into set plain q) (omega (arith, n1, n2)) into in
       let here : (q : ℕ) → at ≤ q → q ≤ suc end → Into set plain q = λ q a b. range_in set plain at _ q r a (omega (arith, n1, n2, b)) in
       let go : (q next : ℕ) → at ≤ q → q ≤ suc end → Into set plain next → Flows m q next = λ q next a b i. flows set plain at _ q next r a (omega (arith, n1, n2, b)) i in
-      all_append Fine at cx _ (fx set plain at (sub set plain at _ at test (omega arith) (omega (arith, n1, n2)) r) (here test (omega arith) (omega arith)) f.0)
-      ((go test other (omega arith) (omega arith) (here other (omega arith) (omega arith)), go test (suc test) (omega arith) (omega arith) (here (suc test) (omega arith) (omega arith))),
-      (go (suc test) (suc (suc test)) (omega arith) (omega arith) (here (suc (suc test)) (omega arith) (omega arith)),
-      (go (suc (suc test)) (suc (suc end)) (omega arith) (omega arith) over,
-       all_append Fine other cy _ (fy set plain other (sub set plain at _ other end (omega arith) (omega (arith, n1, n2)) r) (here end (omega arith) (omega arith)) f.1)
-       (go end (suc end) (omega arith) (omega arith) (here (suc end) (omega arith) (omega arith)), (go (suc end) (suc (suc end)) (omega arith) (omega arith) over, tt)))))
+      all_append Fine at cx _ (fx set plain at (sub set plain at _ at test (omega arith) (omega (arith, n1, n2)) r) (here test (omega arith) (omega arith)) f.0) (
+        (go test other (omega arith) (omega arith) (here other (omega arith) (omega arith)), go test (suc test) (omega arith) (omega arith) (here (suc test) (omega arith) (omega arith))),
+        (
+          go (suc test) (suc (suc test)) (omega arith) (omega arith) (here (suc (suc test)) (omega arith) (omega arith)),
+          (
+            go (suc (suc test)) (suc (suc end)) (omega arith) (omega arith) over,
+            all_append Fine other cy _ (fy set plain other (sub set plain at _ other end (omega arith) (omega (arith, n1, n2)) r) (here end (omega arith) (omega arith)) f.1)
+                (go end (suc end) (omega arith) (omega arith) (here (suc end) (omega arith) (omega arith)), (go (suc end) (suc (suc end)) (omega arith) (omega arith) over, tt)),
+          ),
+        ),
+      )
 
   binary_fine : (operator : BinaryOp) (x y : Expr) → ExprFine x → ExprFine y → ExprFine (tree.Binary operator x y)
   binary_fine op.And x y fx fy set plain at r into f = and_fine x y fx fy set plain at r into f
@@ -278,28 +287,31 @@ module _ (code : Code) (m : Marks) where
     stmt_fine (tree.Assign k e) at set r into f range =
         let ce = expr_code at e in
         let n = length-append ce (instr.Store k ∷ []) in
-        let end = at + length ce in
-        (all_append Fine at ce _ (expr_fine e set plain at (sub set plain at _ at end (omega arith) (omega (arith, n)) r) (range_in set plain at _ end r (omega arith) (omega (arith, n))) f.1)
-          ((not_in set plain at _ end k r (omega arith) (omega (arith, n)) f.0, flows set plain at _ end (suc end) r (omega arith) (omega (arith, n)) (subst (λ q. Into set plain q) (omega (arith, n)) into)), tt),
-         range_in set plain at _ at r (omega arith) (omega (arith, n)))
+        let end = at + length ce in (
+          all_append Fine at ce _ (expr_fine e set plain at (sub set plain at _ at end (omega arith) (omega (arith, n)) r) (range_in set plain at _ end r (omega arith) (omega (arith, n))) f.1)
+              ((not_in set plain at _ end k r (omega arith) (omega (arith, n)) f.0, flows set plain at _ end (suc end) r (omega arith) (omega (arith, n)) (subst (λ q. Into set plain q) (omega (arith, n)) into)), tt),
+          range_in set plain at _ at r (omega arith) (omega (arith, n)),
+        )
     stmt_fine (tree.Put a i e) at set r into f range =
         let ci = expr_code at i in
         let mid = at + length ci in
         let ce = expr_code mid e in
         let end = mid + length ce in
         let n1 = length-append ci (ce ++ instr.WriteShared a ∷ []) in
-        let n2 = length-append ce (instr.WriteShared a ∷ []) in
-        (all_append Fine at ci _ (expr_fine i set plain at (sub set plain at _ at mid (omega arith) (omega (arith, n1, n2)) r) (range_in set plain at _ mid r (omega arith) (omega (arith, n1, n2))) f.0)
-          (all_append Fine mid ce _ (expr_fine e set plain mid (sub set plain at _ mid end (omega arith) (omega (arith, n1, n2)) r) (range_in set plain at _ end r (omega arith) (omega (arith, n1, n2))) f.1)
-            (flows set plain at _ end (suc end) r (omega arith) (omega (arith, n1, n2)) (subst (λ q. Into set plain q) (omega (arith, n1, n2)) into), tt)),
-         range_in set plain at _ at r (omega arith) (omega (arith, n1, n2)))
+        let n2 = length-append ce (instr.WriteShared a ∷ []) in (
+          all_append Fine at ci _ (expr_fine i set plain at (sub set plain at _ at mid (omega arith) (omega (arith, n1, n2)) r) (range_in set plain at _ mid r (omega arith) (omega (arith, n1, n2))) f.0)
+              (all_append Fine mid ce _ (expr_fine e set plain mid (sub set plain at _ mid end (omega arith) (omega (arith, n1, n2)) r) (range_in set plain at _ end r (omega arith) (omega (arith, n1, n2))) f.1)
+              (flows set plain at _ end (suc end) r (omega arith) (omega (arith, n1, n2)) (subst (λ q. Into set plain q) (omega (arith, n1, n2)) into), tt)),
+          range_in set plain at _ at r (omega arith) (omega (arith, n1, n2)),
+        )
     stmt_fine (tree.Print e) at set r into f range =
         let ce = expr_code at e in
         let n = length-append ce (instr.PrintTop ∷ []) in
-        let end = at + length ce in
-        (all_append Fine at ce _ (expr_fine e set plain at (sub set plain at _ at end (omega arith) (omega (arith, n)) r) (range_in set plain at _ end r (omega arith) (omega (arith, n))) f)
-          (flows set plain at _ end (suc end) r (omega arith) (omega (arith, n)) (subst (λ q. Into set plain q) (omega (arith, n)) into), tt),
-         range_in set plain at _ at r (omega arith) (omega (arith, n)))
+        let end = at + length ce in (
+          all_append Fine at ce _ (expr_fine e set plain at (sub set plain at _ at end (omega arith) (omega (arith, n)) r) (range_in set plain at _ end r (omega arith) (omega (arith, n))) f)
+              (flows set plain at _ end (suc end) r (omega arith) (omega (arith, n)) (subst (λ q. Into set plain q) (omega (arith, n)) into), tt),
+          range_in set plain at _ at r (omega arith) (omega (arith, n)),
+        )
     stmt_fine (tree.If t a b) at set r into f range =
         let ct = expr_code at t in
         let jump = at + length ct in
@@ -313,11 +325,13 @@ module _ (code : Code) (m : Marks) where
         let last : Into (both (leaves a set) (leaves b set)) plain (pb + length cb) = subst (λ q. Into (both (leaves a set) (leaves b set)) plain q) (omega (arith, n1, n2)) into in
         let other = stmt_fine b pb set r.3 (within (leaves b set) _ plain _ (right_of (leaves a set) (leaves b set)) last) f.2 range.2 in
         let jumped : Fine over (instr.Jump (pb + length cb)) = flows (leaves a set) plain over pb over (pb + length cb) r.2 (omega arith) (omega arith) (within (leaves a set) _ plain _ (left_of (leaves a set) (leaves b set)) last) in
-        let met = stmt_fine a pa set r.1 (range_in (leaves a set) plain over pb over r.2 (omega arith) (omega arith)) f.1 range.1 in
-        (all_append Fine at ct _ (expr_fine t set plain at (sub set plain at pa at jump (omega arith) (omega arith) r.0) (range_in set plain at pa jump r.0 (omega arith) (omega arith)) f.0)
-          ((flows set plain at pa jump pb r.0 (omega arith) (omega arith) other.1, flows set plain at pa jump pa r.0 (omega arith) (omega arith) met.1),
-           all_append Fine pa ca _ met.0 (jumped, other.0)),
-         range_in set plain at pa at r.0 (omega arith) (omega arith))
+        let met = stmt_fine a pa set r.1 (range_in (leaves a set) plain over pb over r.2 (omega arith) (omega arith)) f.1 range.1 in (
+          all_append Fine at ct _ (expr_fine t set plain at (sub set plain at pa at jump (omega arith) (omega arith) r.0) (range_in set plain at pa jump r.0 (omega arith) (omega arith)) f.0) (
+            (flows set plain at pa jump pb r.0 (omega arith) (omega arith) other.1, flows set plain at pa jump pa r.0 (omega arith) (omega arith) met.1),
+            all_append Fine pa ca _ met.0 (jumped, other.0),
+          ),
+          range_in set plain at pa at r.0 (omega arith) (omega arith),
+        )
     stmt_fine (tree.While t s) at set r into f range =
         let all = both set (leaves s set) in
         let ct = expr_code (suc at) t in
@@ -329,42 +343,56 @@ module _ (code : Code) (m : Marks) where
         let out : Into all plain (suc end) = subst (λ q. Into all plain q) (omega (arith, n1, n2)) into in
         let head : Into all plain at = range_in all plain at (suc jump) at r.0 (omega arith) (omega arith) in
         let body = stmt_fine s (suc jump) all r.1 (range_in (leaves s all) plain end (suc end) end r.2 (omega arith) (omega arith)) f.1 range.1 in
-        let back : Fine end (instr.Jump at) = flows (leaves s all) plain end (suc end) end at r.2 (omega arith) (omega arith) (within (leaves s all) all plain at (once s set) head) in
-        ((flows all plain at (suc jump) at (suc at) r.0 (omega arith) (omega arith) (range_in all plain at (suc jump) (suc at) r.0 (omega arith) (omega arith)),
-          all_append Fine (suc at) ct _ (expr_fine t all plain (suc at) (sub all plain at (suc jump) (suc at) jump (omega arith) (omega arith) r.0) (range_in all plain at (suc jump) jump r.0 (omega arith) (omega arith)) f.0)
-            ((flows all plain at (suc jump) jump (suc end) r.0 (omega arith) (omega arith) out, flows all plain at (suc jump) jump (suc jump) r.0 (omega arith) (omega arith) body.1),
-             all_append Fine (suc jump) cs _ body.0 (back, tt))),
-         within set all plain at (left_of set (leaves s set)) head)
+        let back : Fine end (instr.Jump at) = flows (leaves s all) plain end (suc end) end at r.2 (omega arith) (omega arith) (within (leaves s all) all plain at (once s set) head) in (
+          (
+            flows all plain at (suc jump) at (suc at) r.0 (omega arith) (omega arith) (range_in all plain at (suc jump) (suc at) r.0 (omega arith) (omega arith)),
+            all_append Fine (suc at) ct _ (expr_fine t all plain (suc at) (sub all plain at (suc jump) (suc at) jump (omega arith) (omega arith) r.0) (range_in all plain at (suc jump) jump r.0 (omega arith) (omega arith)) f.0) (
+              (flows all plain at (suc jump) jump (suc end) r.0 (omega arith) (omega arith) out, flows all plain at (suc jump) jump (suc jump) r.0 (omega arith) (omega arith) body.1),
+              all_append Fine (suc jump) cs _ body.0 (back, tt),
+            ),
+          ),
+          within set all plain at (left_of set (leaves s set)) head,
+        )
     stmt_fine (tree.Call target f es) at set r into h range =
         let ces = exprs_code at es in
         let end = at + length ces in
         let n = length-append ces (instr.Call f ∷ target_code target ∷ []) in
-        let plain_start : (proc : Proc) → slice_get code.procs f ≡ Some proc → m.plain proc.start ≡ true = λ proc e. called f range.0.function range.0.is proc e ∙ ap not range.0.kind_is in
-        (all_append Fine at ces _ (exprs_fine es set plain at _ r (omega (arith, n)) h.1)
-          ((flows set plain at _ end (suc end) r (omega arith) (omega (arith, n)) (range_in set plain at _ (suc end) r (omega arith) (omega (arith, n))), plain_start),
-           (target_fine target set plain (suc end) at _ r (omega arith) (omega (arith, n)) (subst (λ q. Into set plain q) (omega (arith, n)) into) h.0, tt)),
-         range_in set plain at _ at r (omega arith) (omega (arith, n)))
+        let plain_start : (proc : Proc) → slice_get code.procs f ≡ Some proc → m.plain proc.start ≡ true = λ proc e. called f range.0.function range.0.is proc e ∙ ap not range.0.kind_is in (
+          all_append Fine at ces _ (exprs_fine es set plain at _ r (omega (arith, n)) h.1) (
+            (flows set plain at _ end (suc end) r (omega arith) (omega (arith, n)) (range_in set plain at _ (suc end) r (omega arith) (omega (arith, n))), plain_start),
+            (target_fine target set plain (suc end) at _ r (omega arith) (omega (arith, n)) (subst (λ q. Into set plain q) (omega (arith, n)) into) h.0, tt),
+          ),
+          range_in set plain at _ at r (omega arith) (omega (arith, n)),
+        )
     stmt_fine (tree.Spawn target f es) at set r into h range =
         let ces = exprs_code at es in
         let end = at + length ces in
         let n = length-append ces (instr.Spawn f target ∷ []) in
-        let out : Into (with_target target set) plain (suc end) = subst (λ q. Into (with_target target set) plain q) (omega (arith, n)) into in
-        (all_append Fine at ces _ (exprs_fine es set plain at _ r (omega (arith, n)) h.1)
-          ((flows set plain at _ end (suc end) r (omega arith) (omega (arith, n)) (spawn_into target set plain (suc end) out),
-            spawn_waits target set plain end at _ r (omega arith) (omega (arith, n)) out h.0, is_own range.3 end set at _ r (omega arith) (omega (arith, n))), tt),
-         range_in set plain at _ at r (omega arith) (omega (arith, n)))
+        let out : Into (with_target target set) plain (suc end) = subst (λ q. Into (with_target target set) plain q) (omega (arith, n)) into in (
+          all_append Fine at ces _ (exprs_fine es set plain at _ r (omega (arith, n)) h.1) (
+            (
+              flows set plain at _ end (suc end) r (omega arith) (omega (arith, n)) (spawn_into target set plain (suc end) out),
+              spawn_waits target set plain end at _ r (omega arith) (omega (arith, n)) out h.0,
+              is_own range.3 end set at _ r (omega arith) (omega (arith, n)),
+            ),
+            tt,
+          ),
+          range_in set plain at _ at r (omega arith) (omega (arith, n)),
+        )
     stmt_fine (tree.Add target a i e) at set r into f range =
         let ci = expr_code at i in
         let mid = at + length ci in
         let ce = expr_code mid e in
         let end = mid + length ce in
         let n1 = length-append ci (ce ++ instr.AddShared a ∷ target_code target ∷ []) in
-        let n2 = length-append ce (instr.AddShared a ∷ target_code target ∷ []) in
-        (all_append Fine at ci _ (expr_fine i set plain at (sub set plain at _ at mid (omega arith) (omega (arith, n1, n2)) r) (range_in set plain at _ mid r (omega arith) (omega (arith, n1, n2))) f.1)
-          (all_append Fine mid ce _ (expr_fine e set plain mid (sub set plain at _ mid end (omega arith) (omega (arith, n1, n2)) r) (range_in set plain at _ end r (omega arith) (omega (arith, n1, n2))) f.2)
-            (flows set plain at _ end (suc end) r (omega arith) (omega (arith, n1, n2)) (range_in set plain at _ (suc end) r (omega arith) (omega (arith, n1, n2))),
-             (target_fine target set plain (suc end) at _ r (omega arith) (omega (arith, n1, n2)) (subst (λ q. Into set plain q) (omega (arith, n1, n2)) into) f.0, tt))),
-         range_in set plain at _ at r (omega arith) (omega (arith, n1, n2)))
+        let n2 = length-append ce (instr.AddShared a ∷ target_code target ∷ []) in (
+          all_append Fine at ci _ (expr_fine i set plain at (sub set plain at _ at mid (omega arith) (omega (arith, n1, n2)) r) (range_in set plain at _ mid r (omega arith) (omega (arith, n1, n2))) f.1)
+              (all_append Fine mid ce _ (expr_fine e set plain mid (sub set plain at _ mid end (omega arith) (omega (arith, n1, n2)) r) (range_in set plain at _ end r (omega arith) (omega (arith, n1, n2))) f.2) (
+                flows set plain at _ end (suc end) r (omega arith) (omega (arith, n1, n2)) (range_in set plain at _ (suc end) r (omega arith) (omega (arith, n1, n2))),
+                (target_fine target set plain (suc end) at _ r (omega arith) (omega (arith, n1, n2)) (subst (λ q. Into set plain q) (omega (arith, n1, n2)) into) f.0, tt),
+              )),
+          range_in set plain at _ at r (omega arith) (omega (arith, n1, n2)),
+        )
     stmt_fine tree.Sync at set r into f range = ((is_own range at set at _ r (omega arith) (omega arith), tt), range_in set plain at _ at r (omega arith) (omega arith))
     stmt_fine (tree.Return e) at set r into f range = return_fine e at set r f
 

@@ -1,14 +1,14 @@
 -- From each place of the code a frame wants what the rest of the tree wants.
 use Rattle.std.proofs.Common.{◌≡◌, ℕ, zero, suc, ◌+◌, ◌-◌, ◌<◌, ◌≤◌, List, [], ◌∷◌, ◌++◌, length, Option, Some, None, refl, sym, ap, ◌∙◌, subst, arith, length-append, append_assoc}
-use Rattle.std.proofs.lemmas.List.{take_at, drop_at, append-nil, reverse-append, reverse-reverse, length-reverse}
-use Rattle.std.specs.Prelude.{ℤ, pos, ◌+ℤ◌, ◌==◌, Bool, true, false, not, ◌&&◌, ◌||◌, if◌then◌else◌, Result, Ok, Err, slice_get, slice_set, reverse, take, drop, replicate}
+use Rattle.std.proofs.lemmas.List.{take_at, drop_at, reverse-append, reverse-reverse, length-reverse}
+use Rattle.std.specs.Prelude.{ℤ, pos, ◌+ℤ◌, ◌==◌, Bool, true, false, not, ◌&&◌, ◌||◌, if◌then◌else◌, Result, Ok, Err, slice_get, slice_set, reverse, drop, replicate}
 use Rattle.cilk_tree.specs.declared.tree.BinaryOp.{BinaryOp}
 use Rattle.cilk_tree.specs.declared.tree.BinaryOp.TheVariants as op
 use Rattle.cilk_tree.specs.declared.tree.UnaryOp.{UnaryOp}
 use Rattle.cilk_tree.specs.declared.tree.UnaryOp.TheVariants as unary_op
 use Rattle.cilk_meaning.specs.declared.ends.TrapKind.{TrapKind}
 use Rattle.cilk_meaning.specs.declared.ends.TrapKind.TheVariants.{Overflow, TooDeep}
-use Rattle.cilk_meaning.specs.Instance.{Meaning, Calling, Around, limits, ends, silent, ask, on_value, on_children, on_done, given, decides, limited, value, values, adding, turns, syncing, synced, does, whole, entered, calls, instance}
+use Rattle.cilk_meaning.specs.Instance.{Meaning, Calling, Around, limits, ends, ask, on_value, on_children, on_done, given, decides, limited, value, values, adding, turns, syncing, synced, does, whole, entered, calls}
 use Rattle.cilk_meaning.specs.Locals.{Locals, local_at, assigned, deposited, first_locals, extent_of}
 use Rattle.cilk_meaning.specs.Resolved as tree
 use Rattle.cilk_meaning.specs.Resolved.{Expr, Stmt, Function, Program}
@@ -21,7 +21,7 @@ use Rattle.machine_code.specs.Machine.{Code, Activation, Frame, Move, GoesOn, Re
 use Rattle.machine_code.specs.Machine as machine
 use Rattle.machine_code.specs.Valid.{GoesForward}
 use Rattle.machine_code.proofs.Steps.{goes_wants, requests_wants, ends_wants}
-use Rattle.compiled_code.specs.Carries.{HasAt, SuitsCalls, IsProcOf, Carries}
+use Rattle.compiled_code.specs.Carries.{HasAt, SuitsCalls, Carries}
 use Rattle.compiled_code.specs.Emitted.{unary_instr, then_operate, and_code, or_code, expr_code, exprs_code, target_code, sync_code, stmt_code, function_code}
 use Rattle.compiled_code.proofs.Places.{has_front, has_back}
 
@@ -198,7 +198,7 @@ module _ (code : Code) (forward : GoesForward code.instrs) (depth : ℕ) where
         let hasy = has_back code.instrs py cy tail hasx.1 in
         let len : pc + length (and_code zeros cx cy) ≡ suc zeros = omega (arith, length-append cx (instr.JumpIfZero zeros ∷ (cy ++ tail)), length-append cy tail) in
         let skipped : Same n (next (pos 0)) (from zeros l ops) =
-            on n zeros l ops (at (suc zeros) l (pos 0 ∷ ops)) (instr.Const (pos 0)) _ hasy.1.1.1.0 refl (moved_to n _ _ l (pos 0 ∷ ops) _ len (h (pos 0))) in
+        on n zeros l ops (at (suc zeros) l (pos 0 ∷ ops)) (instr.Const (pos 0)) _ hasy.1.1.1.0 refl (moved_to n _ _ l (pos 0 ∷ ops) _ len (h (pos 0))) in
         mx n pc l ops _ (has_front code.instrs pc cx _ has) (λ v.
         and_decides n (pc + length cx) l v ops next _ zeros hasx.0 skipped (λ is.
         my n py l ops _ (has_front code.instrs py cy tail hasx.1) (λ w.
@@ -219,8 +219,8 @@ module _ (code : Code) (forward : GoesForward code.instrs) (depth : ℕ) where
         let hasy = has_back code.instrs other cy tail hasx.1.1.1 in
         let len : pc + length (or_code other cx cy) ≡ end = omega (arith, length-append cx (instr.JumpIfZero other ∷ instr.Const (pos 1) ∷ instr.Jump end ∷ (cy ++ tail)), length-append cy tail) in
         let skipped : Same n (next (pos 1)) (from (suc (pc + length cx)) l ops) =
-            on n (suc (pc + length cx)) l ops (at (suc (suc (pc + length cx))) l (pos 1 ∷ ops)) (instr.Const (pos 1)) _ hasx.1.0 refl
-            (on n (suc (suc (pc + length cx))) l (pos 1 ∷ ops) (at end l (pos 1 ∷ ops)) (instr.Jump end) _ hasx.1.1.0 refl (moved_to n _ _ l (pos 1 ∷ ops) _ len (h (pos 1)))) in
+        on n (suc (pc + length cx)) l ops (at (suc (suc (pc + length cx))) l (pos 1 ∷ ops)) (instr.Const (pos 1)) _ hasx.1.0 refl
+        (on n (suc (suc (pc + length cx))) l (pos 1 ∷ ops) (at end l (pos 1 ∷ ops)) (instr.Jump end) _ hasx.1.1.0 refl (moved_to n _ _ l (pos 1 ∷ ops) _ len (h (pos 1)))) in
         mx n pc l ops _ (has_front code.instrs pc cx _ has) (λ v.
         or_decides n (pc + length cx) l v ops next _ other hasx.0 skipped (λ is.
         my n other l ops _ (has_front code.instrs other cy tail hasx.1.1.1) (λ w.
@@ -314,9 +314,9 @@ module _ (code : Code) (forward : GoesForward code.instrs) (depth : ℕ) where
     turns_mean few pc end jump over test body et ej ee ht hb (suc m) (suc k) le lf next h l =
         let h' : (l : Locals) → Same k (next l) (from over l []) = λ l. fewer k (suc k) _ _ (omega arith) (h l) in
         let again : (after : Locals) → Same k (turns m test body after next) (from end after []) =
-            λ after. on k end after [] (at pc after []) (instr.Jump pc) _ ee refl (turns_mean few pc end jump over test body et ej ee ht hb m k (omega (arith, le)) (omega (arith, lf)) next h' after) in
+        λ after. on k end after [] (at pc after []) (instr.Jump pc) _ ee refl (turns_mean few pc end jump over test body et ej ee ht hb m k (omega (arith, le)) (omega (arith, lf)) next h' after) in
         let once : Same k (test l (λ v. if is_zero v then next l else body l (λ after. turns m test body after next))) (from (suc pc) l []) =
-            ht k (omega (arith, lf)) l _ (λ v. tested k jump over l v [] _ _ ej (h' l) (hb k (omega (arith, lf)) l _ again)) in
+        ht k (omega (arith, lf)) l _ (λ v. tested k jump over l v [] _ _ ej (h' l) (hb k (omega (arith, lf)) l _ again)) in
         asking (suc k) (at pc l []) want.LoopTurn _ (on_done (test l (λ v. if is_zero v then next l else body l (λ after. turns m test body after next)))) (looked pc l [] instr.Turn et) (λ answer rest lt.
         done_next k _ (at (suc pc) l []) once answer rest (omega (arith, lt)))
 
@@ -331,21 +331,21 @@ module _ (code : Code) (forward : GoesForward code.instrs) (depth : ℕ) where
         let here : Frame = at room cs pc l (reverse vs ++ []) in
         let there : Frame = at room cs (suc pc) l [] in
         let seen : look code here ≡ machine.limited limits.depth depth (Requests (want.Spawn target f vs) (machine.on_done there)) =
-            looked room cs pc l (reverse vs ++ []) (instr.Spawn f target) e
-            ∙ ap (λ o. machine.with_proc o (λ proc. machine.limited limits.depth depth
-                (Requests (want.Spawn target f (arguments_on proc.params (reverse vs ++ []))) (machine.on_done (at room cs (suc pc) l (drop proc.params (reverse vs ++ []))))))) p.is
-            ∙ ap (λ a. machine.limited limits.depth depth (Requests (want.Spawn target f a) (machine.on_done (at room cs (suc pc) l (drop p.proc.params (reverse vs ++ [])))))) (on_top vs [] p.proc.params enough)
-            ∙ ap (λ a. machine.limited limits.depth depth (Requests (want.Spawn target f vs) (machine.on_done (at room cs (suc pc) l a)))) (below_top vs [] p.proc.params enough) in
+        looked room cs pc l (reverse vs ++ []) (instr.Spawn f target) e
+        ∙ ap (λ o. machine.with_proc o (λ proc. machine.limited limits.depth depth
+        (Requests (want.Spawn target f (arguments_on proc.params (reverse vs ++ []))) (machine.on_done (at room cs (suc pc) l (drop proc.params (reverse vs ++ []))))))) p.is
+        ∙ ap (λ a. machine.limited limits.depth depth (Requests (want.Spawn target f a) (machine.on_done (at room cs (suc pc) l (drop p.proc.params (reverse vs ++ [])))))) (on_top vs [] p.proc.params enough)
+        ∙ ap (λ a. machine.limited limits.depth depth (Requests (want.Spawn target f vs) (machine.on_done (at room cs (suc pc) l a)))) (below_top vs [] p.proc.params enough) in
         limiting k here (depth == limits.depth) (Requests (want.Spawn target f vs) (machine.on_done there)) _ seen (λ seen'.
         asking k here (want.Spawn target f vs) _ (on_done next) seen' (λ answer rest lt.
         done_next k next there h answer rest (omega (arith, lt))))
 
     -- What the statements of a function mean, for a bound on answers: what follows a return and plain calls are as the machine makes them.
     module _ (room : ℕ) (cs : List Activation) (n : ℕ) («cilk» : Bool) (call : Calling) (most : ℕ) (leave : ℤ → Meaning) (enough : n ≤ most)
-             (leaves : (pc : ℕ) (l : Locals) (v : ℤ) → slice_get code.instrs pc ≡ Some instr.Return → Same n (leave v) (from room cs pc l (v ∷ [])))
-             (calls_mean : (k : ℕ) → k ≤ n → (f : ℕ) (fn : Function) (vs : List ℤ) (pc : ℕ) (l : Locals) (next : ℤ → Meaning) → slice_get code.instrs pc ≡ Some (instr.Call f) →
-                 slice_get program.functions f ≡ Some fn → length vs ≡ fn.params → ((v : ℤ) → Same k (next v) (from room cs (suc pc) l (v ∷ []))) →
-                 Same k (call f vs next) (from room cs pc l (reverse vs ++ []))) where
+        (leaves : (pc : ℕ) (l : Locals) (v : ℤ) → slice_get code.instrs pc ≡ Some instr.Return → Same n (leave v) (from room cs pc l (v ∷ [])))
+        (calls_mean : (k : ℕ) → k ≤ n → (f : ℕ) (fn : Function) (vs : List ℤ) (pc : ℕ) (l : Locals) (next : ℤ → Meaning) → slice_get code.instrs pc ≡ Some (instr.Call f) →
+        slice_get program.functions f ≡ Some fn → length vs ≡ fn.params → ((v : ℤ) → Same k (next v) (from room cs (suc pc) l (v ∷ []))) →
+        Same k (call f vs next) (from room cs pc l (reverse vs ++ []))) where
       abbrev around : Around
       around = record { shared = code.shared; «cilk» = «cilk»; deepest = limits.depth; depth = depth; call = call; turns = most; leave = leave }
 
@@ -374,11 +374,11 @@ module _ (code : Code) (forward : GoesForward code.instrs) (depth : ℕ) where
           let end = pc + length ci + length ce in
           let hase = has_back code.instrs pc ci _ has in
           let len : pc + length (ci ++ (ce ++ instr.WriteShared a ∷ [])) ≡ suc end =
-              omega (arith, length-append ci (ce ++ instr.WriteShared a ∷ []), length-append ce (instr.WriteShared a ∷ [])) in
+          omega (arith, length-append ci (ce ++ instr.WriteShared a ∷ []), length-append ce (instr.WriteShared a ∷ [])) in
           expr_means room cs i k pc l [] _ (has_front code.instrs pc ci _ has) (λ x.
           expr_means room cs e k (pc + length ci) l (x ∷ []) _ (has_front code.instrs (pc + length ci) ce _ hase) (λ v.
           giving k (at room cs end l (v ∷ x ∷ [])) (word_of (extent_of code.shared a) x) _ _
-            (looked room cs end l (v ∷ x ∷ []) (instr.WriteShared a) (has_back code.instrs (pc + length ci) ce _ hase).0) (λ word seen.
+          (looked room cs end l (v ∷ x ∷ []) (instr.WriteShared a) (has_back code.instrs (pc + length ci) ce _ hase).0) (λ word seen.
           asking k (at room cs end l (v ∷ x ∷ [])) (want.Write word v) _ (on_done (next l)) seen (λ answer rest lt.
           done_next k (next l) (at room cs (suc end) l []) (to_place k _ _ l [] (next l) len (h l)) answer rest (omega (arith, lt))))))
       does_means (tree.Print e) k le pc l next suits has h =
@@ -397,7 +397,7 @@ module _ (code : Code) (forward : GoesForward code.instrs) (depth : ℕ) where
           let hast = has_back code.instrs pc ct _ has in
           let hasa = has_back code.instrs pa ca _ hast.1 in
           let len : pc + length (ct ++ (instr.JumpIfZero pb ∷ (ca ++ (instr.Jump (pb + length cb) ∷ cb)))) ≡ pb + length cb =
-              omega (arith, length-append ct (instr.JumpIfZero pb ∷ (ca ++ (instr.Jump (pb + length cb) ∷ cb))), length-append ca (instr.Jump (pb + length cb) ∷ cb)) in
+          omega (arith, length-append ct (instr.JumpIfZero pb ∷ (ca ++ (instr.Jump (pb + length cb) ∷ cb))), length-append ca (instr.Jump (pb + length cb) ∷ cb)) in
           let behind : (l : Locals) → Same k (next l) (from room cs (pb + length cb) l []) = λ l. to_place k _ _ l [] (next l) len (h l) in
           expr_means room cs t k pc l [] _ (has_front code.instrs pc ct _ has) (λ v.
           tested room cs k (pc + length ct) pb l v [] _ _ hast.0
@@ -412,7 +412,7 @@ module _ (code : Code) (forward : GoesForward code.instrs) (depth : ℕ) where
           let hast = has_back code.instrs (suc pc) ct _ has.1 in
           let hase = has_back code.instrs (suc jump) bs _ hast.1 in
           let len : pc + length (instr.Turn ∷ (ct ++ (instr.JumpIfZero (suc end) ∷ (bs ++ instr.Jump pc ∷ [])))) ≡ suc end =
-              omega (arith, length-append ct (instr.JumpIfZero (suc end) ∷ (bs ++ instr.Jump pc ∷ [])), length-append bs (instr.Jump pc ∷ [])) in
+          omega (arith, length-append ct (instr.JumpIfZero (suc end) ∷ (bs ++ instr.Jump pc ∷ [])), length-append bs (instr.Jump pc ∷ [])) in
           turns_mean room cs n pc end jump (suc end) (value code.shared t) (does around s) has.0 hast.0 hase.0
           (λ k' le' l' next' h'. expr_means room cs t k' (suc pc) l' [] next' (has_front code.instrs (suc pc) ct _ has.1) h')
           (λ k' le' l' next' h'. does_means s k' le' (suc jump) l' next' suits (has_front code.instrs (suc jump) bs _ hast.1) h')
@@ -483,26 +483,30 @@ module _ (code : Code) (forward : GoesForward code.instrs) (depth : ℕ) where
         let waiting : List Activation = record { pc = suc pc; locals = l; operands = []; room = room } ∷ cs in
         let begun = first_locals fn vs in
         let there : Frame = at p.proc.operands waiting p.proc.start begun [] in
-        let opens : List ℤ → List ℤ → Locals → Frame = λ arguments rest locals. record { running = record { pc = p.proc.start; locals = locals; operands = []; room = p.proc.operands };
-            callers = record { pc = suc pc; locals = l; operands = rest; room = room } ∷ cs; depth = depth; overflowed = false } in
+        let opens : List ℤ → List ℤ → Locals → Frame = λ arguments rest locals. record {
+          running = record { pc = p.proc.start; locals = locals; operands = []; room = p.proc.operands };
+          callers = record { pc = suc pc; locals = l; operands = rest; room = room } ∷ cs;
+          depth = depth;
+          overflowed = false;
+        } in
         let same : called here p.proc ≡ there =
-            ap (λ a. opens [] (drop p.proc.params (reverse vs ++ [])) (a ++ replicate (p.proc.locals - p.proc.params) (pos 0))) (on_top vs [] p.proc.params enough)
-            ∙ ap (λ a. opens [] a (vs ++ replicate (p.proc.locals - p.proc.params) (pos 0))) (below_top vs [] p.proc.params enough)
-            ∙ ap (λ a. opens [] [] (vs ++ replicate (a - p.proc.params) (pos 0))) p.locals
-            ∙ ap (λ a. opens [] [] (vs ++ replicate (fn.locals - a) (pos 0))) p.params in
+        ap (λ a. opens [] (drop p.proc.params (reverse vs ++ [])) (a ++ replicate (p.proc.locals - p.proc.params) (pos 0))) (on_top vs [] p.proc.params enough)
+        ∙ ap (λ a. opens [] a (vs ++ replicate (p.proc.locals - p.proc.params) (pos 0))) (below_top vs [] p.proc.params enough)
+        ∙ ap (λ a. opens [] [] (vs ++ replicate (a - p.proc.params) (pos 0))) p.locals
+        ∙ ap (λ a. opens [] [] (vs ++ replicate (fn.locals - a) (pos 0))) p.params in
         let seen : look code here ≡ machine.limited limits.calls (length cs) (Requests want.Call (machine.on_done there)) =
-            looked room cs pc l (reverse vs ++ []) (instr.Call f) e
-            ∙ ap (λ o. machine.with_proc o (λ proc. machine.limited limits.calls (length cs) (Requests want.Call (machine.on_done (called here proc))))) p.is
-            ∙ ap (λ g. machine.limited limits.calls (length cs) (Requests want.Call (machine.on_done g))) same in
+        looked room cs pc l (reverse vs ++ []) (instr.Call f) e
+        ∙ ap (λ o. machine.with_proc o (λ proc. machine.limited limits.calls (length cs) (Requests want.Call (machine.on_done (called here proc))))) p.is
+        ∙ ap (λ g. machine.limited limits.calls (length cs) (Requests want.Call (machine.on_done g))) same in
         let inside : Meaning = entered limits program depth m (calls limits program depth m (suc (length cs))) (slice_get program.functions f) vs next in
         limiting k here (length cs == limits.calls) (Requests want.Call (machine.on_done there)) _ seen (λ seen'.
         asking k here want.Call _ (on_done inside) seen' (λ answer rest lt.
         done_next (k - 1) inside there
         (λ answers lt'.
-            ap (λ o. entered limits program depth m (calls limits program depth m (suc (length cs))) o vs next answers) is_fn
-            ∙ ap (λ sh. whole (record { shared = sh; «cilk» = fn.«cilk»; deepest = limits.depth; depth = depth; call = calls limits program depth m (suc (length cs)); turns = m; leave = next }) fn.body begun answers) (sym carries.shared)
-            ∙ again waiting (k - 1) (omega (arith, le)) fn p.proc.operands p.proc.start begun next (carries.suits f fn is_fn) p.stands
-              (λ pc' l' v is_return. on p.proc.operands waiting (k - 1) pc' l' (v ∷ []) (at room cs (suc pc) l (v ∷ [])) instr.Return _ is_return refl (fewer (k - 1) k _ _ (omega arith) (h v))) answers lt')
+        ap (λ o. entered limits program depth m (calls limits program depth m (suc (length cs))) o vs next answers) is_fn
+        ∙ ap (λ sh. whole (record { shared = sh; «cilk» = fn.«cilk»; deepest = limits.depth; depth = depth; call = calls limits program depth m (suc (length cs)); turns = m; leave = next }) fn.body begun answers) (sym carries.shared)
+        ∙ again waiting (k - 1) (omega (arith, le)) fn p.proc.operands p.proc.start begun next (carries.suits f fn is_fn) p.stands
+        (λ pc' l' v is_return. on p.proc.operands waiting (k - 1) pc' l' (v ∷ []) (at room cs (suc pc) l (v ∷ [])) instr.Return _ is_return refl (fewer (k - 1) k _ _ (omega arith) (h v))) answers lt')
         answer rest (omega (arith, lt))))
 
     pub body_means : (m : ℕ) → BodyMeans m

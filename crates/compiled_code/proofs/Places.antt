@@ -1,5 +1,5 @@
 -- Instructions that stand among others.
-use Rattle.std.proofs.Common.{◌≡◌, ℕ, suc, ◌+◌, List, [], ◌∷◌, ◌++◌, length, subst, arith}
+use Rattle.std.proofs.Common.{ℕ, suc, ◌+◌, List, [], ◌∷◌, ◌++◌, length, subst, arith}
 use Rattle.compiled_code.specs.Carries.{HasAt}
 use Rattle.machine_code.specs.declared.instr.Instr.{Instr}
 

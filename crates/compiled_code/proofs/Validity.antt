@@ -1,14 +1,13 @@
 -- The code of a well formed program is well formed.
-use Rattle.std.proofs.Common.{◌≡◌, ℕ, zero, suc, ◌+◌, ◌<◌, ◌≤◌, ◌^◌, max, List, [], ◌∷◌, ◌++◌, length, Option, Some, None, refl, sym, ap, ◌∙◌, subst, arith, append_assoc, length-append}
+use Rattle.std.proofs.Common.{◌≡◌, ℕ, zero, suc, ◌+◌, ◌<◌, ◌≤◌, List, [], ◌∷◌, ◌++◌, length, Some, refl, sym, ap, ◌∙◌, subst, arith, append_assoc, length-append}
 use Rattle.std.proofs.lemmas.List.{take-append-le}
 use Rattle.std.specs.Prelude.{pos, take, slice_get}
 use Rattle.cilk_meaning.specs.Resolved.{Function, Program}
 use Rattle.machine_code.specs.declared.code.Proc.{Proc}
 use Rattle.machine_code.specs.declared.instr.Instr.{Instr}
 use Rattle.machine_code.specs.declared.instr.Instr.TheVariants as instr
-use Rattle.machine_code.specs.Machine.{Code}
-use Rattle.machine_code.specs.Valid.{Shape, IsFine, IsSound, IsValid, words_in}
-use Rattle.compiled_code.specs.Emitted.{sync_code, stmt_code, function_code, functions_code, proc_at, procs_at, compiled}
+use Rattle.machine_code.specs.Valid.{Shape, IsFine, IsSound}
+use Rattle.compiled_code.specs.Emitted.{sync_code, stmt_code, function_code, functions_code, proc_at, procs_at}
 use Rattle.compiled_code.specs.Laws.{CompiledIsValid}
 use Rattle.compiled_code.specs.WellFormed.{IsInRange, IsWellFormed}
 use Rattle.compiled_code.proofs.Fine.{Fine, body_fine}
@@ -114,7 +113,7 @@ module _ (program : Program) (well : IsWellFormed program) (shapes : ℕ → Sha
       let inside = tail.inside in
       all_append Harmless at (function_code at fn) _
       (all_map (Fine procs instrs program (those_of program) shapes f (proc_at at fn)) Harmless at (function_code at fn) (weaker f (proc_at at fn) (first_proc f at fn fns tail))
-        (body_fine procs instrs program (those_of program) shapes f (proc_at at fn) fn.body at (agrees f at fn fns tail) (omega (arith, n1, n2, inside)) (omega arith) (first_range f at fn fns tail).body))
+      (body_fine procs instrs program (those_of program) shapes f (proc_at at fn) fn.body at (agrees f at fn fns tail) (omega (arith, n1, n2, inside)) (omega arith) (first_range f at fn fns tail).body))
       (all_harmless (suc f) (at + length (function_code at fn)) fns (next_tail f at fn fns tail))
 
   all_sound : (f at : ℕ) (fns : List Function) → Tail f at fns → (j : ℕ) (proc : Proc) → slice_get (procs_at at fns) j ≡ Some proc → IsSound instrs shapes (f + j) proc

@@ -1,11 +1,10 @@
 -- Which locals may wait before each instruction of a statement's code.
-use Rattle.std.proofs.Common.{◌≡◌, ℕ, zero, suc, ◌+◌, ◌-◌, ◌<◌, ◌≤◌, List, [], ◌∷◌, ◌++◌, length, refl, sym, ap, ◌∙◌, subst, arith, length-append}
-use Rattle.std.specs.Prelude.{Bool, true, false, not}
+use Rattle.std.proofs.Common.{◌≡◌, ℕ, suc, ◌+◌, ◌-◌, ◌<◌, ◌≤◌, [], ◌∷◌, ◌++◌, length, sym, ap, ◌∙◌, subst, arith, length-append}
+use Rattle.std.specs.Prelude.{Bool, not}
 use Rattle.cilk_meaning.specs.Resolved as tree
 use Rattle.cilk_meaning.specs.Resolved.{Expr, Stmt}
-use Rattle.machine_code.specs.declared.instr.Instr.{Instr}
 use Rattle.machine_code.specs.declared.instr.Instr.TheVariants as instr
-use Rattle.compiled_code.specs.Emitted.{expr_code, exprs_code, sync_code, stmt_code}
+use Rattle.compiled_code.specs.Emitted.{expr_code, sync_code, stmt_code}
 use Rattle.compiled_code.specs.Safe.{Set, both, behind_sync, leaves}
 use Rattle.compiled_code.proofs.Marks.{Marks}
 use Rattle.compiled_code.proofs.Validity.{pick, pick_here, pick_behind}
@@ -90,9 +89,10 @@ module _ (m : Marks) («cilk» : Bool) where
   stmt_marks (tree.Then a b) at set h =
       let ca = stmt_code «cilk» at a in
       let cb = stmt_code «cilk» (at + length ca) b in
-      let n = length-append ca cb in
-      (stmt_marks a at set (first at (length ca) _ 0 (waiting_in «cilk» at a set) _ (omega (arith, n)) h),
-       stmt_marks b (at + length ca) (leaves a set) (rest at (length ca) _ (length cb) (waiting_in «cilk» at a set) _ (omega (arith, n)) h))
+      let n = length-append ca cb in (
+        stmt_marks a at set (first at (length ca) _ 0 (waiting_in «cilk» at a set) _ (omega (arith, n)) h),
+        stmt_marks b (at + length ca) (leaves a set) (rest at (length ca) _ (length cb) (waiting_in «cilk» at a set) _ (omega (arith, n)) h),
+      )
   stmt_marks (tree.If t a b) at set h =
       let ct = expr_code at t in
       let pa = suc (at + length ct) in
@@ -104,11 +104,12 @@ module _ (m : Marks) («cilk» : Bool) where
       let n2 = length-append ca (instr.Jump end ∷ cb) in
       let h1 = elsewhere (at + suc (length ct)) pa _ _ (omega arith) (rest at (suc (length ct)) _ (length ca + suc (length cb)) (λ k. set) _ (omega (arith, n1, n2)) h) in
       let h2 = rest pa (length ca) _ (suc (length cb)) (waiting_in «cilk» pa a set) _ (omega arith) h1 in
-      let h3 = elsewhere (pa + length ca + 1) pb _ _ (omega arith) (rest (pa + length ca) 1 _ (length cb) (λ k. leaves a set) _ (omega arith) h2) in
-      (subst (λ q. Range m set (not «cilk») at q) (omega arith) (range at (suc (length ct)) set (first at (suc (length ct)) _ 0 (λ k. set) _ (omega (arith, n1)) h)),
-       stmt_marks a pa set (first pa (length ca) _ 0 (waiting_in «cilk» pa a set) _ (omega arith) h1),
-       subst (λ q. Range m (leaves a set) (not «cilk») (pa + length ca) q) (omega arith) (range (pa + length ca) 1 (leaves a set) (first (pa + length ca) 1 _ 0 (λ k. leaves a set) _ (omega arith) h2)),
-       stmt_marks b pb set h3)
+      let h3 = elsewhere (pa + length ca + 1) pb _ _ (omega arith) (rest (pa + length ca) 1 _ (length cb) (λ k. leaves a set) _ (omega arith) h2) in (
+        subst (λ q. Range m set (not «cilk») at q) (omega arith) (range at (suc (length ct)) set (first at (suc (length ct)) _ 0 (λ k. set) _ (omega (arith, n1)) h)),
+        stmt_marks a pa set (first pa (length ca) _ 0 (waiting_in «cilk» pa a set) _ (omega arith) h1),
+        subst (λ q. Range m (leaves a set) (not «cilk») (pa + length ca) q) (omega arith) (range (pa + length ca) 1 (leaves a set) (first (pa + length ca) 1 _ 0 (λ k. leaves a set) _ (omega arith) h2)),
+        stmt_marks b pb set h3,
+      )
   stmt_marks (tree.While t s) at set h =
       let ct = expr_code (suc at) t in
       let ps = suc (suc at + length ct) in
@@ -118,18 +119,20 @@ module _ (m : Marks) («cilk» : Bool) where
       let n1 = length-append ct (instr.JumpIfZero (suc end) ∷ (cs ++ instr.Jump at ∷ [])) in
       let n2 = length-append cs (instr.Jump at ∷ []) in
       let h1 = elsewhere (at + suc (suc (length ct))) ps _ _ (omega arith) (rest at (suc (suc (length ct))) _ (length cs + 1) (λ k. all) _ (omega (arith, n1, n2)) h) in
-      let h2 = rest ps (length cs) _ 1 (waiting_in «cilk» ps s all) _ (omega arith) h1 in
-      (subst (λ q. Range m all (not «cilk») at q) (omega arith) (range at (suc (suc (length ct))) all (first at (suc (suc (length ct))) _ 0 (λ k. all) _ (omega (arith, n1)) h)),
-       stmt_marks s ps all (first ps (length cs) _ 0 (waiting_in «cilk» ps s all) _ (omega arith) h1),
-       subst (λ q. Range m (leaves s all) (not «cilk») end q) (omega arith) (range end 1 (leaves s all) h2))
+      let h2 = rest ps (length cs) _ 1 (waiting_in «cilk» ps s all) _ (omega arith) h1 in (
+        subst (λ q. Range m all (not «cilk») at q) (omega arith) (range at (suc (suc (length ct))) all (first at (suc (suc (length ct))) _ 0 (λ k. all) _ (omega (arith, n1)) h)),
+        stmt_marks s ps all (first ps (length cs) _ 0 (waiting_in «cilk» ps s all) _ (omega arith) h1),
+        subst (λ q. Range m (leaves s all) (not «cilk») end q) (omega arith) (range end 1 (leaves s all) h2),
+      )
   stmt_marks (tree.Return e) at set h =
       let sc = sync_code «cilk» in
       let ps = at + length sc in
       let ce = expr_code ps e in
       let n1 = length-append sc (ce ++ instr.Return ∷ []) in
-      let n2 = length-append ce (instr.Return ∷ []) in
-      (range at (length sc) set (first at (length sc) _ 0 (λ k. set) _ (omega (arith, n1)) h),
-       subst (λ q. Range m (behind_sync «cilk» set) (not «cilk») ps q) (omega arith) (range ps (suc (length ce)) (behind_sync «cilk» set) (rest at (length sc) _ (suc (length ce)) (λ k. set) _ (omega (arith, n1, n2)) h)))
+      let n2 = length-append ce (instr.Return ∷ []) in (
+        range at (length sc) set (first at (length sc) _ 0 (λ k. set) _ (omega (arith, n1)) h),
+        subst (λ q. Range m (behind_sync «cilk» set) (not «cilk») ps q) (omega arith) (range ps (suc (length ce)) (behind_sync «cilk» set) (rest at (length sc) _ (suc (length ce)) (λ k. set) _ (omega (arith, n1, n2)) h)),
+      )
   stmt_marks tree.Skip at set h = tt
   stmt_marks (tree.Assign x e) at set h = range at _ set h
   stmt_marks (tree.Put a i e) at set h = range at _ set h

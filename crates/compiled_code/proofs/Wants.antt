@@ -28,7 +28,7 @@ carried_wants code program carries depth procedure arguments answers = go (slice
         ∙ ap (λ a. machine.wants code (at code carries.forward depth p.proc.operands [] p.proc.start (arguments ++ replicate (a - p.proc.params) (pos 0)) []) answers) p.locals
         ∙ ap (λ a. machine.wants code (at code carries.forward depth p.proc.operands [] p.proc.start (arguments ++ replicate (fn.locals - a) (pos 0)) []) answers) p.params
         ∙ sym (body_means code carries.forward depth program carries m [] m (omega arith) fn p.proc.operands p.proc.start begun leave (carries.suits procedure fn e) p.stands
-            (λ pc l v is_return. ending code carries.forward depth m (at code carries.forward depth p.proc.operands [] pc l (v ∷ [])) (Returns v)
-                (looked code carries.forward depth p.proc.operands [] pc l (v ∷ []) instr.Return is_return)) answers (omega arith))
+        (λ pc l v is_return. ending code carries.forward depth m (at code carries.forward depth p.proc.operands [] pc l (v ∷ [])) (Returns v)
+        (looked code carries.forward depth p.proc.operands [] pc l (v ∷ []) instr.Return is_return)) answers (omega arith))
         ∙ ap (λ sh. whole (record { shared = sh; «cilk» = fn.«cilk»; deepest = limits.depth; depth = depth; call = calls limits program depth m 0; turns = m; leave = leave }) fn.body begun answers) carries.shared
         ∙ ap (λ o. entered limits program depth m (calls limits program depth m 0) o arguments leave answers) (sym e)

@@ -1,5 +1,5 @@
 -- The code of a program carries the program.
-use Rattle.std.proofs.Common.{◌≡◌, ◌⊎◌, ℕ, zero, suc, ◌+◌, ◌<◌, List, [], ◌∷◌, ◌++◌, length, Option, Some, None, refl, sym, ap, ◌∙◌, subst, inl, inr, arith, append_assoc, length-append}
+use Rattle.std.proofs.Common.{◌≡◌, ℕ, zero, suc, ◌+◌, List, [], ◌∷◌, ◌++◌, length, Option, Some, None, refl, sym, ap, ◌∙◌, subst, inl, inr, arith, append_assoc, length-append}
 use Rattle.std.specs.Prelude.{pos, Bool, true, false, slice_get}
 use Rattle.cilk_tree.specs.declared.tree.BinaryOp.{BinaryOp}
 use Rattle.cilk_tree.specs.declared.tree.BinaryOp.TheVariants as op
@@ -8,14 +8,12 @@ use Rattle.cilk_tree.specs.declared.tree.UnaryOp.TheVariants as unary_op
 use Rattle.cilk_meaning.specs.Instance.{wants}
 use Rattle.cilk_meaning.specs.Resolved as tree
 use Rattle.cilk_meaning.specs.Resolved.{Expr, Stmt, Function, Program}
-use Rattle.machine_code.specs.declared.code.Proc.{Proc}
 use Rattle.machine_code.specs.declared.instr.Instr.{Instr}
 use Rattle.machine_code.specs.declared.instr.Instr.TheVariants as instr
 use Rattle.machine_code.specs.Machine.{starts}
 use Rattle.machine_code.specs.Valid.{IsForward, GoesForward, jumps_to}
-use Rattle.compiled_code.specs.Carries.{HasAt, AllSuit, IsProcOf, Carries}
+use Rattle.compiled_code.specs.Carries.{HasAt, AllSuit, Carries}
 use Rattle.compiled_code.specs.Emitted.{unary_instr, then_operate, expr_code, exprs_code, target_code, sync_code, stmt_code, function_code, functions_code, proc_at, procs_at, compiled}
-use Rattle.compiled_code.specs.Laws.{CompiledWants}
 use Rattle.compiled_code.proofs.Places.{has_front, has_back}
 use Rattle.compiled_code.proofs.Wants.{carried_wants}
 
@@ -60,19 +58,26 @@ module _ (all : List Instr) where
       let py = suc (at + length cx) in
       let cy = expr_code py y in
       let zeros = suc (suc (suc (py + length cy))) in
-      all_append Jumps at cx _ hx
-      (onward (at + length cx) zeros (instr.JumpIfZero zeros) refl (inl (omega arith)),
-       all_append Jumps py cy _ (hy py)
-       (stays _ instr.Not refl, (stays _ instr.Not refl, (onward _ (suc zeros) (instr.Jump (suc zeros)) refl (inl (omega arith)), (stays _ (instr.Const (pos 0)) refl, tt)))))
+      all_append Jumps at cx _ hx (
+        onward (at + length cx) zeros (instr.JumpIfZero zeros) refl (inl (omega arith)),
+        all_append Jumps py cy _ (hy py)
+            (stays _ instr.Not refl, (stays _ instr.Not refl, (onward _ (suc zeros) (instr.Jump (suc zeros)) refl (inl (omega arith)), (stays _ (instr.Const (pos 0)) refl, tt)))),
+      )
   binary_jumps op.Or x y at hx hy =
       let cx = expr_code at x in
       let other = suc (suc (suc (at + length cx))) in
       let cy = expr_code other y in
       let end = suc (suc (other + length cy)) in
-      all_append Jumps at cx _ hx
-      (onward (at + length cx) other (instr.JumpIfZero other) refl (inl (omega arith)), (stays _ (instr.Const (pos 1)) refl,
-       (onward (suc (suc (at + length cx))) end (instr.Jump end) refl (inl (omega arith)),
-       all_append Jumps other cy _ (hy other) (stays _ instr.Not refl, (stays _ instr.Not refl, tt)))))
+      all_append Jumps at cx _ hx (
+        onward (at + length cx) other (instr.JumpIfZero other) refl (inl (omega arith)),
+        (
+          stays _ (instr.Const (pos 1)) refl,
+          (
+            onward (suc (suc (at + length cx))) end (instr.Jump end) refl (inl (omega arith)),
+            all_append Jumps other cy _ (hy other) (stays _ instr.Not refl, (stays _ instr.Not refl, tt)),
+          ),
+        ),
+      )
   binary_jumps op.Eq x y at hx hy = then_jumps instr.Eq at (expr_code at x) (λ place. expr_code place y) refl hx hy
   binary_jumps op.Ne x y at hx hy = then_jumps instr.Ne at (expr_code at x) (λ place. expr_code place y) refl hx hy
   binary_jumps op.Lt x y at hx hy = then_jumps instr.Lt at (expr_code at x) (λ place. expr_code place y) refl hx hy
@@ -122,25 +127,29 @@ module _ (all : List Instr) where
       let cb = stmt_code «cilk» pb b in
       let hast = has_back all at ct _ has in
       let hasa = has_back all pa ca _ hast.1 in
-      all_append Jumps at ct _ (expr_jumps t at)
-      (onward (at + length ct) pb (instr.JumpIfZero pb) refl (inl (omega arith)),
-       all_append Jumps pa ca _ (stmt_jumps a «cilk» pa (has_front all pa ca _ hast.1))
-       (onward (pa + length ca) (pb + length cb) (instr.Jump (pb + length cb)) refl (inl (omega arith)), stmt_jumps b «cilk» pb hasa.1))
+      all_append Jumps at ct _ (expr_jumps t at) (
+        onward (at + length ct) pb (instr.JumpIfZero pb) refl (inl (omega arith)),
+        all_append Jumps pa ca _ (stmt_jumps a «cilk» pa (has_front all pa ca _ hast.1))
+            (onward (pa + length ca) (pb + length cb) (instr.Jump (pb + length cb)) refl (inl (omega arith)), stmt_jumps b «cilk» pb hasa.1),
+      )
   stmt_jumps (tree.While t s) «cilk» at has =
       let ct = expr_code (suc at) t in
       let jump = suc at + length ct in
       let cs = stmt_code «cilk» (suc jump) s in
       let end = suc jump + length cs in
-      let hast = has_back all (suc at) ct _ has.1 in
-      (stays at instr.Turn refl, all_append Jumps (suc at) ct _ (expr_jumps t (suc at))
-        (onward jump (suc end) (instr.JumpIfZero (suc end)) refl (inl (omega arith)),
-         all_append Jumps (suc jump) cs _ (stmt_jumps s «cilk» (suc jump) (has_front all (suc jump) cs _ hast.1)) (onward end at (instr.Jump at) refl (inr has.0), tt)))
+      let hast = has_back all (suc at) ct _ has.1 in (
+        stays at instr.Turn refl,
+        all_append Jumps (suc at) ct _ (expr_jumps t (suc at)) (
+          onward jump (suc end) (instr.JumpIfZero (suc end)) refl (inl (omega arith)),
+          all_append Jumps (suc jump) cs _ (stmt_jumps s «cilk» (suc jump) (has_front all (suc jump) cs _ hast.1)) (onward end at (instr.Jump at) refl (inr has.0), tt),
+        ),
+      )
   stmt_jumps (tree.Call target f es) «cilk» at has = all_append Jumps at (exprs_code at es) _ (exprs_jumps es at) (stays _ (instr.Call f) refl, (target_jumps target _, tt))
   stmt_jumps (tree.Spawn target f es) «cilk» at has = all_append Jumps at (exprs_code at es) _ (exprs_jumps es at) (stays _ (instr.Spawn f target) refl, tt)
   stmt_jumps (tree.Add target a i e) «cilk» at has =
       let ci = expr_code at i in
       all_append Jumps at ci _ (expr_jumps i at) (all_append Jumps (at + length ci) (expr_code (at + length ci) e) _ (expr_jumps e (at + length ci))
-        (stays _ (instr.AddShared a) refl, (target_jumps target _, tt)))
+      (stays _ (instr.AddShared a) refl, (target_jumps target _, tt)))
   stmt_jumps tree.Sync «cilk» at has = (stays at instr.SyncAll refl, tt)
   stmt_jumps (tree.Return e) «cilk» at has =
       let sc = sync_code «cilk» in
@@ -206,9 +215,9 @@ compiled_carries program suits =
       forward = compiled_forward program;
       none = none_too 0 program.functions;
       procs = λ f fn e. let h = held all 0 program.functions (has_itself all) f fn e in
-        record { proc = proc_at h.start fn; is = h.is; params = refl; locals = refl; stands = h.stands };
+          record { proc = proc_at h.start fn; is = h.is; params = refl; locals = refl; stands = h.stands };
       suits = suits;
     }
 
-pub compiled_wants : CompiledWants
+pub compiled_wants : (program : Program) → AllSuit program → starts (compiled program) ≡ wants program
 compiled_wants program suits = λ i depth procedure arguments answers. carried_wants (compiled program) program (compiled_carries program suits) depth procedure arguments answers i

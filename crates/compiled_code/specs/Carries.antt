@@ -1,5 +1,5 @@
 -- When a code holds the code of a program's functions.
-use Rattle.std.specs.Prelude.{◌≡◌, ℕ, suc, Option, Some, None, List, [], ◌∷◌, length, slice_get}
+use Rattle.std.specs.Prelude.{◌≡◌, ℕ, suc, Some, None, List, [], ◌∷◌, length, slice_get}
 use Rattle.cilk_meaning.specs.Resolved.{Expr, Stmt, Skip, Then, Assign, Put, Print, If, While, Call, Spawn, Add, Sync, Return, Function, Program}
 use Rattle.compiled_code.specs.Emitted.{function_code}
 use Rattle.machine_code.specs.Machine.{Code}

@@ -1,5 +1,5 @@
 -- The code of a program. Jumps name places, so each part is made for the place at which it begins.
-use Rattle.std.specs.Prelude.{ℕ, zero, suc, ◌+◌, max, ℤ, pos, Bool, true, false, Option, Some, None, List, [], ◌∷◌, ◌++◌, length}
+use Rattle.std.specs.Prelude.{ℕ, suc, ◌+◌, max, pos, Bool, true, false, Option, Some, None, List, [], ◌∷◌, ◌++◌, length}
 use Rattle.cilk_tree.specs.declared.tree.BinaryOp.{BinaryOp}
 use Rattle.cilk_tree.specs.declared.tree.BinaryOp.TheVariants as op
 use Rattle.cilk_tree.specs.declared.tree.UnaryOp.{UnaryOp}

@@ -1,8 +1,8 @@
 -- Programs without names whose numbers are in range, as those of lawful sources are.
-use Rattle.std.specs.Prelude.{◌≡◌, ℕ, ◌+◌, ◌<◌, ◌≤◌, ◌^◌, Bool, true, false, Option, Some, None, List, [], ◌∷◌, length, slice_get}
+use Rattle.std.specs.Prelude.{◌≡◌, ℕ, ◌<◌, ◌≤◌, Bool, true, false, Option, Some, None, List, [], ◌∷◌, length, slice_get}
 use Rattle.cilk_meaning.specs.Resolved as tree
 use Rattle.cilk_meaning.specs.Resolved.{Expr, Stmt, Function, Program}
-use Rattle.machine_code.specs.Valid.{AreInOrder, words_in}
+use Rattle.machine_code.specs.Valid.{AreInOrder}
 
 -- where there are so many arrays and locals
 abbrev pub IsExprInRange : ℕ → ℕ → Expr → Type 0

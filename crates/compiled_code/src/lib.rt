@@ -3,4 +3,4 @@
 
 mod laws;
 
-pub use laws::{compiled_is_valid, compiled_wants};
+pub use laws::{compiled_is_valid, compiled_stands};
