@@ -1,0 +1,4 @@
+use Rattle.lawful_program.proofs.laws.lawful_code.Goals as goal
+
+pub returns : goal.returns
+returns c = ?
