@@ -1,3 +1,4 @@
 pub mod Clean
 pub mod Growing
+pub mod Ranged
 pub mod Uses
