@@ -1,5 +1,5 @@
 -- What the rules leave of the statements of a lawful source.
-use Rattle.std.proofs.Common.{◌≡◌, ℕ, List, [], ◌++◌, Some, refl, sym, ap, ◌∙◌}
+use Rattle.std.proofs.Common.{◌≡◌, ℕ, [], ◌++◌, Some, sym, ap, ◌∙◌}
 use Rattle.std.specs.Option.{option_map_or}
 use Rattle.std.specs.Prelude.{false, slice_get}
 use Rattle.cilk_tree.specs.declared.place.CheckPlace.TheVariants as place

@@ -1,10 +1,10 @@
 -- Locals are numbered upwards: every local in scope at a point has a number below that of the next one.
-use Rattle.std.proofs.Common.{◌≡◌, ℕ, suc, ◌+◌, ◌<◌, ◌≤◌, List, [], ◌∷◌, map, refl, sym, ap, ◌∙◌, subst, arith}
+use Rattle.std.proofs.Common.{◌+◌, ◌≤◌, List, [], ◌∷◌, map, sym, subst, arith}
 use Rattle.cilk_tree.specs.declared.tree.Stmt.{Stmt, roll-Stmt, map-Stmt, fold-roll-Stmt, ind-Stmt}
 use Rattle.cilk_tree.specs.declared.tree.Stmt.TheOpen as head
 use Rattle.cilk_tree.specs.declared.tree.Stmt.TheOpen.{Stmt-F}
-use Rattle.cilk_tree.specs.Lawful.Flow.{Part, inside, with_scope, after_all, after_list, after_here, part_here, part_of}
-use Rattle.cilk_tree.specs.Lawful.Scope.{Local, Point, declared}
+use Rattle.cilk_tree.specs.Lawful.Flow.{Part, inside, after_all, after_list, part_here, part_of}
+use Rattle.cilk_tree.specs.Lawful.Scope.{Point}
 use Rattle.lawful_program.proofs.Uses.{AreBelow, below_more}
 
 abbrev pub IsNumbered : Point → Type 0

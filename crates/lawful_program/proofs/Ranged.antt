@@ -1,5 +1,5 @@
 -- The statements of a lawful source are in range without their names.
-use Rattle.std.proofs.Common.{◌≡◌, ℕ, zero, suc, ◌+◌, ◌<◌, ◌≤◌, List, [], ◌∷◌, ◌++◌, length, map, Option, Some, None, refl, sym, ap, ◌∙◌, subst, arith}
+use Rattle.std.proofs.Common.{◌≡◌, ℕ, suc, ◌+◌, ◌<◌, ◌≤◌, List, [], ◌∷◌, ◌++◌, length, map, Option, Some, None, refl, sym, ap, ◌∙◌, subst, arith}
 use Rattle.std.proofs.lemmas.Bool.{eqb-true}
 use Rattle.std.proofs.lemmas.List.{length-map}
 use Rattle.std.proofs.lemmas.List.Folds.{find_at}
@@ -17,14 +17,13 @@ use Rattle.cilk_tree.specs.declared.tree.Stmt.TheOpen as head
 use Rattle.cilk_tree.specs.declared.tree.Stmt.TheOpen.{Stmt-F}
 use Rattle.cilk_tree.specs.Lawful.Flow as flow
 use Rattle.cilk_tree.specs.Lawful.Flow.{Part, sites, flow_of, inside, after_all, after_list, part_here, part_of}
-use Rattle.cilk_tree.specs.Lawful.Rules.{Use, NeedsVariable, NeedsFunction, uses, target_uses, array_use, variable_use, function_use, takes_other, is_function, is_cilk, is_plain}
-use Rattle.cilk_tree.specs.Lawful.Scope.{Local, Point, Procedure, meaning, entry}
-use Rattle.cilk_meaning.specs.Resolved.{Function}
-use Rattle.cilk_meaning.specs.Resolving.{Resolving, part_in, in_order, resolving_here, resolving, resolved_function, resolved, resolved_expr, function_number, array_number, local_number, target_number, arguments_of, returned, extents_from}
+use Rattle.cilk_tree.specs.Lawful.Rules.{Use, NeedsFunction, uses, target_uses, array_use, function_use, takes_other, is_function, is_cilk, is_plain}
+use Rattle.cilk_tree.specs.Lawful.Scope.{Local, Point, meaning, entry}
+use Rattle.cilk_meaning.specs.Resolving.{Resolving, in_order, resolving_here, resolving, resolved_function, resolved, resolved_expr, function_number, array_number, target_number, arguments_of, extents_from}
 use Rattle.cilk_meaning.proofs.Parting.{Each, each_parts, in_scope, parts_in_scope}
 use Rattle.compiled_code.specs.WellFormed.{IsExprInRange, AreExprsInRange, IsTargetInRange, Suits, IsStmtInRange}
 use Rattle.lawful_program.proofs.Clean.{IsClean}
-use Rattle.lawful_program.proofs.Growing.{IsNumbered, Grown, grows, after_all_grows, after_list_grows}
+use Rattle.lawful_program.proofs.Growing.{IsNumbered, grows, after_all_grows, after_list_grows}
 use Rattle.lawful_program.proofs.Uses.{AreBelow, below_more, IsRight, AreRight, right_front, right_back, array_below, local_below, expr_in_range, exprs_in_range}
 
 not_false : (b : Bool) → not b ≡ false → b ≡ true
@@ -92,10 +91,11 @@ module _ (source : source_program.Program) (caller : source_function.Function) (
       let parts = each_parts (IsClean source caller) (sites ((part_of s).flow point)) (sites (flow.in_order (map part_of list) ((part_of s).after point))) c in
       let first = grows s point n in
       let rest = after_all_grows list ((part_of s).after point) first.numbered in
-      let more = rest.more in
-      (h.0 point n parts.0 (omega (arith, more, le)),
-       subst (λ (p : Part). IsStmtInRange (resolved source) caller.«cilk» locals (in_order (map (resolving source) list) (p.after point))) (sym (in_scope source s))
-         (list_fits list h.1 ((part_of s).after point) first.numbered parts.1 le))
+      let more = rest.more in (
+        h.0 point n parts.0 (omega (arith, more, le)),
+        subst (λ (p : Part). IsStmtInRange (resolved source) caller.«cilk» locals (in_order (map (resolving source) list) (p.after point))) (sym (in_scope source s))
+            (list_fits list h.1 ((part_of s).after point) first.numbered parts.1 le),
+      )
 
   here_below : (point : Point) → IsNumbered point → point.local ≤ locals → AreBelow locals point.scope
   here_below point n le = below_more point.local locals point.scope le n
@@ -106,10 +106,11 @@ module _ (source : source_program.Program) (caller : source_function.Function) (
   layer_fits (head.Assign name value) = λ point n c le. (let below = here_below point n le in (local_below source locals point.scope name below c.0.right.0, expr_ok value point.scope below c.0.right.1))
   layer_fits (head.Put name index value) = λ point n c le.
       (let below = here_below point n le in
-      let r = c.0.right.1 in
-      (subst (λ k. array_number source name < k) arrays_are (array_below source name c.0.right.0),
-       expr_ok index point.scope below (right_front source point.scope (uses index) (uses value) r),
-       expr_ok value point.scope below (right_back source point.scope (uses index) (uses value) r)))
+      let r = c.0.right.1 in (
+        subst (λ k. array_number source name < k) arrays_are (array_below source name c.0.right.0),
+        expr_ok index point.scope below (right_front source point.scope (uses index) (uses value) r),
+        expr_ok value point.scope below (right_back source point.scope (uses index) (uses value) r),
+      ))
   layer_fits (head.Print value) = λ point n c le. expr_ok value point.scope (here_below point n le) c.0.right
   layer_fits (head.If condition met unmet) = λ point n c le.
       (let mets = map (λ (s : Fitting). s.0) met in
@@ -119,11 +120,12 @@ module _ (source : source_program.Program) (caller : source_function.Function) (
       let first = after_list_grows mets (inside point) n in
       let second = after_list_grows unmets between first.numbered in
       let a = first.more in
-      let b = second.more in
-      (expr_ok condition point.scope (here_below point n (omega (arith, a, b, le))) c.0.right,
-       list_fits mets (all_fit met) (inside point) n parts.0 (omega (arith, b, le)),
-       subst (λ ps. IsStmtInRange (resolved source) caller.«cilk» locals (in_order (map (resolving source) unmets) (after_list ps (inside point)))) (sym (parts_in_scope source mets))
-         (list_fits unmets (all_fit unmet) between first.numbered parts.1 le)))
+      let b = second.more in (
+        expr_ok condition point.scope (here_below point n (omega (arith, a, b, le))) c.0.right,
+        list_fits mets (all_fit met) (inside point) n parts.0 (omega (arith, b, le)),
+        subst (λ ps. IsStmtInRange (resolved source) caller.«cilk» locals (in_order (map (resolving source) unmets) (after_list ps (inside point)))) (sym (parts_in_scope source mets))
+            (list_fits unmets (all_fit unmet) between first.numbered parts.1 le),
+      ))
   layer_fits (head.While condition body) = λ point n c le.
       (let bodies = map (λ (s : Fitting). s.0) body in
       let g = after_list_grows bodies (inside point) n in
@@ -144,9 +146,12 @@ module _ (source : source_program.Program) (caller : source_function.Function) (
       (let below = here_below point n le in
       let front = right_front source point.scope (target_uses target ++ (array_use name ∷ uses index)) (uses addend) c.0.right in
       let back = right_back source point.scope (target_uses target ++ (array_use name ∷ uses index)) (uses addend) c.0.right in
-      let r = right_back source point.scope (target_uses target) (array_use name ∷ uses index) front in
-      (subst (λ k. array_number source name < k) arrays_are (array_below source name r.0), target_ok target point.scope (array_use name ∷ uses index) below front,
-       expr_ok index point.scope below r.1, expr_ok addend point.scope below back))
+      let r = right_back source point.scope (target_uses target) (array_use name ∷ uses index) front in (
+        subst (λ k. array_number source name < k) arrays_are (array_below source name r.0),
+        target_ok target point.scope (array_use name ∷ uses index) below front,
+        expr_ok index point.scope below r.1,
+        expr_ok addend point.scope below back,
+      ))
   layer_fits head.Sync = λ point n c le. not_false _ c.0.inside
   layer_fits (head.Return None) = λ point n c le. tt
   layer_fits (head.Return (Some value)) = λ point n c le. expr_ok value point.scope (here_below point n le) c.0.right

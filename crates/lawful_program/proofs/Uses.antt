@@ -1,6 +1,5 @@
 -- The names that a clean statement uses stand for what is needed.
-use Rattle.std.proofs.Common.{◌≡◌, ℕ, zero, suc, ◌+◌, ◌<◌, ◌≤◌, List, [], ◌∷◌, ◌++◌, length, map, Option, Some, None, refl, sym, ap, ◌∙◌, subst, arith}
-use Rattle.std.proofs.lemmas.List.{length-map}
+use Rattle.std.proofs.Common.{◌≡◌, ℕ, suc, ◌+◌, ◌<◌, ◌≤◌, List, [], ◌∷◌, ◌++◌, length, Option, Some, None, refl, sym, ap, ◌∙◌, subst, arith}
 use Rattle.std.specs.List.{find, flat_map, list_any, filter_map, cons_option, position_or_len}
 use Rattle.std.specs.Option.{option_map}
 use Rattle.std.specs.Prelude.{Bool, true, false, not, ◌||◌, unwrap_or, if◌then◌else◌}
@@ -11,8 +10,8 @@ use Rattle.cilk_tree.specs.declared.tree.Expr.TheOpen.{Expr-F}
 use Rattle.cilk_tree.specs.declared.tree.Function.{Function}
 use Rattle.cilk_tree.specs.declared.tree.Program.{Program}
 use Rattle.cilk_tree.specs.Lawful.Pending.{needed_local}
-use Rattle.cilk_tree.specs.Lawful.Rules.{Need, NeedsVariable, NeedsArray, NeedsFunction, Use, variable_use, array_use, uses_here, uses, is_wrong}
-use Rattle.cilk_tree.specs.Lawful.Scope.{Local, Meaning, Unknown, Variable, Array, Procedure, first_meaning, meaning, is_known, local_named, is_array, function_named}
+use Rattle.cilk_tree.specs.Lawful.Rules.{Need, NeedsVariable, NeedsArray, NeedsFunction, Use, uses_here, uses, is_wrong}
+use Rattle.cilk_tree.specs.Lawful.Scope.{Local, Procedure, first_meaning, meaning, is_known, local_named, is_array, function_named}
 use Rattle.cilk_meaning.specs.Resolved as tree
 use Rattle.cilk_meaning.specs.Resolving.{local_number, array_number, expr_here, resolved_expr, arguments_of}
 use Rattle.cilk_meaning.proofs.Parting.{or_left, or_right}
@@ -65,9 +64,12 @@ module _ (source : Program) where
   right_use NeedsArray scope name None false None eo eb ep known right = absurd cc
   right_use NeedsFunction scope name (Some number) b p eo eb ep known right = absurd cc
   right_use NeedsFunction scope name None true p eo eb ep known right = absurd cc
-  right_use NeedsFunction scope name None false (Some f) eo eb ep known right =
-      (f, sym ep, ap (λ x. first_meaning x (is_array source name) (function_named source name)) (sym eo)
-        ∙ ap (λ x. first_meaning None x (function_named source name)) (sym eb) ∙ ap (λ x. first_meaning None false x) (sym ep))
+  right_use NeedsFunction scope name None false (Some f) eo eb ep known right = (
+    f,
+    sym ep,
+    ap (λ x. first_meaning x (is_array source name) (function_named source name)) (sym eo)
+        ∙ ap (λ x. first_meaning None x (function_named source name)) (sym eb) ∙ ap (λ x. first_meaning None false x) (sym ep),
+  )
   right_use NeedsFunction scope name None false None eo eb ep known right = absurd cc
 
   -- every use is right
@@ -77,9 +79,10 @@ module _ (source : Program) where
 
   pub all_right : (scope : List Local) (used : List Use) → list_any (λ u. not (is_known (meaning source scope u.name))) used ≡ false → list_any (λ u. is_wrong u.need (meaning source scope u.name)) used ≡ false → AreRight scope used
   all_right scope [] known right = tt
-  all_right scope (u ∷ used) known right =
-      (right_use u.need scope u.name (local_named scope u.name) (is_array source u.name) (function_named source u.name) refl refl refl (or_left _ _ known) (or_left _ _ right),
-       all_right scope used (or_right _ _ known) (or_right _ _ right))
+  all_right scope (u ∷ used) known right = (
+    right_use u.need scope u.name (local_named scope u.name) (is_array source u.name) (function_named source u.name) refl refl refl (or_left _ _ known) (or_left _ _ right),
+    all_right scope used (or_right _ _ known) (or_right _ _ right),
+  )
 
   pub right_front : (scope : List Local) (front back : List Use) → AreRight scope (front ++ back) → AreRight scope front
   right_front scope [] back h = tt
@@ -170,9 +173,10 @@ module _ (source : Program) where
     layer_free (layer.Local name) scope r f = local_free scope name r.0 f.0
     layer_free (layer.Get name index) scope r f = index.1 scope r.1 f.1
     layer_free (layer.Unary operator operand) scope r f = operand.1 scope r f
-    layer_free (layer.Binary operator left right) scope r f =
-        (left.1 scope (right_front scope (uses left.0) (uses right.0) r) (free_front scope (uses left.0) (uses right.0) f),
-         right.1 scope (right_back scope (uses left.0) (uses right.0) r) (free_back scope (uses left.0) (uses right.0) f))
+    layer_free (layer.Binary operator left right) scope r f = (
+      left.1 scope (right_front scope (uses left.0) (uses right.0) r) (free_front scope (uses left.0) (uses right.0) f),
+      right.1 scope (right_back scope (uses left.0) (uses right.0) r) (free_back scope (uses left.0) (uses right.0) f),
+    )
 
     pub expr_free : (e : Expr) → Free e
     expr_free = ind-Expr Free (λ x y is. subst (λ z. Free (roll-Expr z)) is (λ scope r f.
@@ -181,6 +185,7 @@ module _ (source : Program) where
 
     pub exprs_free : (es : List Expr) (scope : List Local) → AreRight scope (flat_map uses es) → AreFreeUses scope (flat_map uses es) → AreFree set (arguments_of source es scope)
     exprs_free [] scope r f = tt
-    exprs_free (e ∷ es) scope r f =
-        (expr_free e scope (right_front scope (uses e) (flat_map uses es) r) (free_front scope (uses e) (flat_map uses es) f),
-         exprs_free es scope (right_back scope (uses e) (flat_map uses es) r) (free_back scope (uses e) (flat_map uses es) f))
+    exprs_free (e ∷ es) scope r f = (
+      expr_free e scope (right_front scope (uses e) (flat_map uses es) r) (free_front scope (uses e) (flat_map uses es) f),
+      exprs_free es scope (right_back scope (uses e) (flat_map uses es) r) (free_back scope (uses e) (flat_map uses es) f),
+    )
