@@ -1,4 +1,5 @@
-pub mod Machine
+pub mod Cases
 pub mod Early
+pub mod Machine
 pub mod StandsFor
 pub mod Valid
