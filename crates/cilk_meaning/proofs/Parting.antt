@@ -27,37 +27,37 @@ use Rattle.cilk_meaning.specs.Resolving.{Resolving, part_in, in_order, resolving
 
 -- ---- lists of sites
 
-abbrev Each : (Site → Type 0) → List Site → Type 0
+abbrev pub Each : (Site → Type 0) → List Site → Type 0
 Each P [] = Unit {0}
 Each P (site ∷ rest) = P site × Each P rest
 
-each_parts : (P : Site → Type 0) (xs ys : List Site) → Each P (xs ++ ys) → Each P xs × Each P ys
+pub each_parts : (P : Site → Type 0) (xs ys : List Site) → Each P (xs ++ ys) → Each P xs × Each P ys
 each_parts P [] ys h = (tt, h)
 each_parts P (x ∷ xs) ys h = let rest = each_parts P xs ys h.1 in ((h.0, rest.0), rest.1)
 
-each_of : (P : Site → Type 0) (xs : List Site) → ((k : ℕ) (site : Site) → slice_get xs k ≡ Some site → P site) → Each P xs
+pub each_of : (P : Site → Type 0) (xs : List Site) → ((k : ℕ) (site : Site) → slice_get xs k ≡ Some site → P site) → Each P xs
 each_of P [] h = tt
 each_of P (x ∷ xs) h = (h 0 x refl, each_of P xs (λ k site is. h (suc k) site is))
 
 -- ---- what the rules leave of a site
 
-nil_left : (xs ys : List ℕ) → xs ++ ys ≡ [] → xs ≡ []
+pub nil_left : (xs ys : List ℕ) → xs ++ ys ≡ [] → xs ≡ []
 nil_left [] ys e = refl
 nil_left (x ∷ xs) ys e = absurd cc
 
-nil_right : (xs ys : List ℕ) → xs ++ ys ≡ [] → ys ≡ []
+pub nil_right : (xs ys : List ℕ) → xs ++ ys ≡ [] → ys ≡ []
 nil_right [] ys e = e
 nil_right (x ∷ xs) ys e = absurd cc
 
-not_broken : (b : Bool) (kind : Rule) → kind_if b kind ≡ [] → b ≡ false
+pub not_broken : (b : Bool) (kind : Rule) → kind_if b kind ≡ [] → b ≡ false
 not_broken true kind e = absurd cc
 not_broken false kind e = refl
 
-or_left : (a b : Bool) → a || b ≡ false → a ≡ false
+pub or_left : (a b : Bool) → a || b ≡ false → a ≡ false
 or_left true b e = absurd cc
 or_left false b e = refl
 
-or_right : (a b : Bool) → a || b ≡ false → b ≡ false
+pub or_right : (a b : Bool) → a || b ≡ false → b ≡ false
 or_right true b e = absurd cc
 or_right false b e = e
 
@@ -105,14 +105,14 @@ unknown_or (Variable number) known right calls = absurd cc
 unknown_or Array known right calls = absurd cc
 unknown_or (Procedure f) known right calls = (f, refl, calls)
 
-procedure_is : (o : Option ℕ) (b : Bool) (p : Option source_function.Function) (f : source_function.Function) → first_meaning o b p ≡ Procedure f → p ≡ Some f
+pub procedure_is : (o : Option ℕ) (b : Bool) (p : Option source_function.Function) (f : source_function.Function) → first_meaning o b p ≡ Procedure f → p ≡ Some f
 procedure_is (Some number) b p f e = absurd cc
 procedure_is None true p f e = absurd cc
 procedure_is None false (Some g) f e = cc
 procedure_is None false None f e = absurd cc
 
 -- the test fails for the function that a call uses, where it fails for all that the call uses
-any_callee : (test : Use → Bool) (target : Option (List ℕ)) (name : List ℕ) (others : List Use) → list_any test (target_uses target ++ function_use name ∷ others) ≡ false → test (function_use name) ≡ false
+pub any_callee : (test : Use → Bool) (target : Option (List ℕ)) (name : List ℕ) (others : List Use) → list_any test (target_uses target ++ function_use name ∷ others) ≡ false → test (function_use name) ≡ false
 any_callee test None name others e = or_left (test (function_use name)) (list_any test others) e
 any_callee test (Some x) name others e = or_left (test (function_use name)) (list_any test others) (or_right (test (variable_use x)) (list_any test (function_use name ∷ others)) e)
 
@@ -168,7 +168,7 @@ module _ (source : source_program.Program) where
       ∙ layer_scoped y
       ∙ sym (fold-roll-Stmt Part part_here (map-Stmt Scoped Stmt (λ s. s.0) y))))
 
-  parts_in_scope : (list : List Stmt) → map part_in (map (resolving source) list) ≡ map part_of list
+  pub parts_in_scope : (list : List Stmt) → map part_in (map (resolving source) list) ≡ map part_of list
   parts_in_scope [] = refl
   parts_in_scope (s ∷ list) = ap (λ p. p ∷ map part_in (map (resolving source) list)) (in_scope s) ∙ ap (λ ps. part_of s ∷ ps) (parts_in_scope list)
 
@@ -239,10 +239,10 @@ module _ (source : source_program.Program) where
     body_plain : Each (IsClean source caller) (sites (flow_of caller)) → IsPlain (resolved source) (resolved_function source caller).body
     body_plain c = list_plain caller.body (lists_fit caller.body) (entry caller) c
 
-none_clash : {function : Function} → None ≡ Some function → ⊥
+pub none_clash : {function : Function} → None ≡ Some function → ⊥
 none_clash e = cc
 
-some_same : {one other : Function} → Some one ≡ Some other → one ≡ other
+pub some_same : {one other : Function} → Some one ≡ Some other → one ≡ other
 some_same e = cc
 
 pub lawful_is_parted : LawfulIsParted

@@ -1,0 +1,13 @@
+pub mod Early
+pub mod Fine
+pub mod Heights
+pub mod Lockstep
+pub mod Marked
+pub mod Marks
+pub mod Meaning
+pub mod Places
+pub mod Stands
+pub mod Validity
+pub mod Waiting
+pub mod Wants
+pub mod Whole

@@ -1,0 +1,5 @@
+pub mod Carries
+pub mod Emitted
+pub mod Laws
+pub mod Safe
+pub mod WellFormed

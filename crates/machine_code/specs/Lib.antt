@@ -1,0 +1,5 @@
+pub mod Cases
+pub mod Early
+pub mod Machine
+pub mod StandsFor
+pub mod Valid
