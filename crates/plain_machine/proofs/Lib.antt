@@ -1,2 +1,6 @@
 mod Finding
+mod Going
+mod Ready
+mod Resuming
 mod Stacks
+mod Words

@@ -112,12 +112,20 @@ impl State {
         ensures ok { OnOk result (led_to (look code.now self.old) answer ≡ Some self.new) }
         ensures err { OnErr result ((self.new ≡ self.old) × (asked (look code.now self.old) ≡ Some Want.Call)) }
     {
-        let instr = self.instr(code);
-        match (instr, answer) {
-            (Instr::Call(procedure), _) => self.call(code.proc(procedure)),
-            (Instr::AddShared(_), Answer::Value(old)) => Ok(self.add_was(old)),
-            (_, Answer::Value(value)) => Ok(self.replace(operand_count(code, instr), value)),
-            (_, Answer::Done) => Ok(self.pass(operand_count(code, instr))),
+        match (answer, self.instr(code)) {
+            (Answer::Value(old), Instr::AddShared(_)) => {
+                self.add_was(old);
+                Ok(())
+            }
+            (Answer::Value(value), _) => {
+                self.replace(1, value);
+                Ok(())
+            }
+            (Answer::Done, Instr::Call(procedure)) => self.call(code.proc(procedure)),
+            (Answer::Done, instr) => {
+                self.pass(operand_count(code, instr));
+                Ok(())
+            }
         }
     }
 
