@@ -19,6 +19,7 @@ use Rattle.machine_code.specs.declared.instr.Instr.{Instr}
 use Rattle.machine_code.specs.declared.instr.Instr.TheVariants as instr
 use Rattle.machine_code.specs.Machine.{Code, Activation, Frame, Move, GoesOn, Requests, Ends, Stuck, moved, next_with, stored, popping, given, with_proc, binary, unary, activation, arguments_on, called, returned, on_value, on_children, on_done, added, act, look}
 use Rattle.machine_code.specs.Valid.{Shape, Leads, IsFine, IsProc, IsLocal, takes, puts, goes_behind, jumps_to, params_of}
+use Rattle.plain_machine.proofs.Depositing.{deposited_length}
 use Rattle.plain_machine.specs.Standing.{StandsIn, IsAt, AreWaiting, IsCallable, own_locals_of}
 use Rattle.plain_machine.specs.Starting.{CanStart, IsTarget}
 
@@ -32,11 +33,6 @@ Finds code f (GoesOn g) = StandsIn code g
 Finds code f (Requests request follows) = Leading code f request follows
 Finds code f (Ends want) = Unit {0}
 Finds code f Stuck = ⊥
-
-deposited_length : (deposits : List Deposit) (locals : Locals) → length (deposited deposits locals) ≡ length locals
-deposited_length [] locals = refl
-deposited_length ((None, v) ∷ deposits) locals = deposited_length deposits locals
-deposited_length ((Some k, v) ∷ deposits) locals = deposited_length deposits (slice_set locals k v) ∙ length-set locals k v
 
 arguments_length : (params : ℕ) (operands : List ℤ) → params ≤ length operands → length (arguments_on params operands) ≡ params
 arguments_length params operands enough =

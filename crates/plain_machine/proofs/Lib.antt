@@ -1,3 +1,4 @@
+mod Depositing
 mod Finding
 mod Going
 mod Ready

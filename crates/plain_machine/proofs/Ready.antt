@@ -8,7 +8,7 @@ use Rattle.machine_code.specs.declared.code.Proc.{Proc}
 use Rattle.machine_code.specs.declared.instr.Instr.{Instr}
 use Rattle.machine_code.specs.declared.instr.Instr.TheVariants as instr
 use Rattle.machine_code.specs.Machine.{Code, Activation, Frame, Move, Ends, act, look}
-use Rattle.machine_code.specs.Valid.{takes, puts, goes_behind}
+use Rattle.machine_code.specs.Valid.{takes, puts, goes_behind, params_of}
 use Rattle.plain_machine.specs.Standing.{StandsIn, AreWaiting}
 use Rattle.plain_machine.specs.Stepping.{CanReceive, IsReady, Makes, NamesProc, asked}
 use Rattle.plain_machine.specs.declared.want.Want.{Want}
@@ -107,3 +107,15 @@ names_proc code f s instr.PrintTop e = tt
 names_proc code f s instr.Turn e = tt
 names_proc code f s instr.SyncAll e = tt
 names_proc code f s instr.Return e = tt
+
+-- its operands can be taken off
+pub drops_ready : (code : Code) (f : Frame) (s : StandsIn code f) (i : Instr) → slice_get code.instrs f.running.pc ≡ Some i → IsReady (takes code.procs i) 0 f.running
+drops_ready code f s i e =
+    let h = enough code f s i e in
+    let r = s.running.leads.room in
+    let same = s.running.room in
+    let next = small code f s in
+    record { operands = h; room = omega (arith, h, r, same); next = next }
+
+pub call_ready : (code : Code) (f : Frame) (s : StandsIn code f) (p : ℕ) (proc : Proc) → slice_get code.instrs f.running.pc ≡ Some (instr.Call p) → slice_get code.procs p ≡ Some proc → IsReady proc.params 1 f.running
+call_ready code f s p proc e is = subst (λ n. IsReady n 1 f.running) (ap params_of is) (ready code f s (instr.Call p) e refl)

@@ -2,6 +2,7 @@
 #![tactic(auto)]
 
 mod arithmetic;
+mod frame;
 mod operand_count;
 mod operands;
 mod running;
@@ -9,5 +10,5 @@ mod state;
 mod want;
 mod word;
 
-pub use state::State;
+pub use frame::Frame;
 pub use want::{Answer, Want};

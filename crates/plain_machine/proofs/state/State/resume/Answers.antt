@@ -1,33 +1,28 @@
-use Rattle.std.proofs.Common.{rules, ◌≡◌, drop, ℕ, ℤ, suc, ◌<◌, ◌≤◌, ◌^◌, List, [], ◌∷◌, length, slice_get, slice_set, IfOk, OnOk, OnErr, Some, ◌+◌, ◌-◌, ◌*◌, ◌/◌, ◌%◌, Bool, true, false, nat_eq, nat_lt, ◌++◌, slice_index_or, bit_and, bit_or, Fits, w8, w32, w64, Bor, MutBor, pos, ◌+ℤ◌, ◌-ℤ◌, ◌*ℤ◌, ◌≤ℤ◌, ◌<ℤ◌, FitsSigned, to_z, of_z}
-use Rattle.cilk_meaning.specs.Locals.{local_at, extent_of}
-use Rattle.cilk_meaning.specs.Serve.{now}
-use Rattle.cilk_meaning.specs.Values.{is_zero, word_of}
-use Rattle.cilk_meaning.specs.Wants.{Deposit}
-use Rattle.machine_code.specs.Early.{with_values}
-use Rattle.machine_code.specs.Machine.{Code, GoesOn, act, added, arguments_on, binary, called, look, moved, next_with, popping, returned, start_frame, stored, unary, wants}
-use Rattle.machine_code.specs.Valid.{takes}
-use Rattle.machine_code.specs.declared.code.Proc.{Proc}
-use Rattle.machine_code.specs.declared.instr.Instr.TheVariants as instr
-use Rattle.plain_machine.specs.Standing.{StandsIn, own_locals}
-use Rattle.plain_machine.specs.Stepping.{CanReceive, HasStepped, IsReady, Makes, Resumes, asked, led_to}
+use Rattle.std.proofs.Common.{◌≡◌, sym, ap, ◌∙◌, subst, Some, w64, FitsSigned, rules}
+use Rattle.std.proofs.lemmas.Int.{to_z-of_z}
+use Rattle.machine_code.specs.Machine.{added, look}
+use Rattle.plain_machine.specs.Stepping.{Resumes, IsReady, led_to}
+use Rattle.plain_machine.proofs.Ready.{call_ready, drops_ready, names_proc}
+use Rattle.plain_machine.proofs.Resuming.{add_leads}
 use Rattle.plain_machine.proofs.state.State.resume.Goals as goal
 
--- src/state.rt:124:55
 pub call-requires-clause-ready : goal.call-requires-clause-ready
-call-requires-clause-ready c = ?
+call-requires-clause-ready c = call_ready c.args.code.now c.args.self.now c.requires.stands c.in-Done-Call.procedure c.proc.result c.in-Done-Call.ensures c.proc.ensures.proc
 
--- src/state.rt:124:55
 pub call-requires-clause-params : goal.call-requires-clause-params
-call-requires-clause-params c = ?
+call-requires-clause-params c = (c.proc.ensures.valid.procs c.in-Done-Call.procedure c.proc.result c.proc.ensures.proc).params
 
--- src/state.rt:126:27
 pub operand_count-requires : goal.operand_count-requires
-operand_count-requires c = ?
+operand_count-requires c = names_proc c.args.code.now c.args.self.now c.requires.stands c.instr.result c.instr.ensures
 
--- src/state.rt:126:17
 pub pass-requires : goal.pass-requires
-pass-requires c = ?
+pass-requires c = subst (λ n. IsReady n 0 c.args.self.now.running) (sym c.operand_count.ensures) (drops_ready c.args.code.now c.args.self.now c.requires.stands c.instr.result c.instr.ensures)
 
--- src/state.rt:109:5
 pub returns-in-Value-AddShared-clause-ok : goal.returns-in-Value-AddShared-clause-ok
-returns-in-Value-AddShared-clause-ok c = ?
+returns-in-Value-AddShared-clause-ok c =
+    let fits : FitsSigned w64 c.in-Value-AddShared.old = search rules in
+    let move = look c.args.code.now c.args.self.now in
+    ap (λ answer. led_to move answer) c.in-Value-AddShared.is-0
+    ∙ add_leads c.args.code.now c.args.self.now c.add_was.new.self c.in-Value-AddShared.old c.in-Value-AddShared.field-0-1
+      (subst (Resumes move) c.in-Value-AddShared.is-0 c.requires.resumes) c.in-Value-AddShared.ensures
+      (λ addend index rest e. c.add_was.ensures addend index rest e ∙ ap (λ old. added c.args.self.now addend rest old) (to_z-of_z w64 c.in-Value-AddShared.old fits))
