@@ -1,5 +1,5 @@
 -- A child's value in the locals of the frame's own function, the first of the open ones.
-use Rattle.std.proofs.Common.{◌≡◌, ℕ, suc, ◌<◌, List, [], ◌∷◌, ◌++◌, length, get_or, reverse, Option, Some, None, refl, sym, ap, ◌∙◌, subst, arith}
+use Rattle.std.proofs.Common.{◌≡◌, ℕ, suc, ◌<◌, List, [], ◌∷◌, ◌++◌, length, get_or, reverse, Some, None, refl, sym, ap, ◌∙◌, subst, arith}
 use Rattle.std.proofs.lemmas.List.{reverse-append, length-set}
 use Rattle.std.specs.Prelude.{ℤ, slice_set}
 use Rattle.cilk_meaning.specs.Locals.{Locals, deposited}
@@ -62,7 +62,7 @@ deposited_length [] locals = refl
 deposited_length ((None, v) ∷ deposits) locals = deposited_length deposits locals
 deposited_length ((Some k, v) ∷ deposits) locals = deposited_length deposits (slice_set locals k v) ∙ length-set locals k v
 
-own_length : (deposits : List Deposit) (callers : List Activation) (locals : Locals) → length (own deposits callers locals) ≡ length locals
+pub own_length : (deposits : List Deposit) (callers : List Activation) (locals : Locals) → length (own deposits callers locals) ≡ length locals
 own_length deposits [] locals = deposited_length deposits locals
 own_length deposits (caller ∷ callers) locals = refl
 
@@ -80,7 +80,8 @@ at_so code shapes operands deposits activation callers h =
       leads = h.leads;
       locals = own_length deposits callers activation.locals ∙ h.locals;
       room = h.room;
-      callable = callable_so deposits h.proc callers h.callable }
+      callable = callable_so deposits h.proc callers h.callable;
+    }
 
 waiting_so : (code : Code) (shapes : ℕ → Shape) (deposits : List Deposit) (callers : List Activation) → AreWaiting code shapes callers → AreWaiting code shapes (own_callers deposits callers)
 waiting_so code shapes deposits [] h = tt
@@ -92,4 +93,5 @@ values_stand code deposits f s =
       valid = s.valid;
       running = at_so code s.valid.shapes (length f.running.operands) deposits f.running f.callers s.running;
       waiting = waiting_so code s.valid.shapes deposits f.callers s.waiting;
-      depth = s.depth }
+      depth = s.depth;
+    }

@@ -1,5 +1,5 @@
 -- What the next step of a frame that stands in its code finds.
-use Rattle.std.proofs.Common.{◌≡◌, ℕ, zero, suc, ◌+◌, ◌-◌, ◌<◌, ◌≤◌, List, [], ◌∷◌, ◌++◌, length, take, drop, reverse, replicate, Option, Some, None, refl, sym, ap, ◌∙◌, subst, arith}
+use Rattle.std.proofs.Common.{◌≡◌, ℕ, zero, suc, ◌+◌, ◌-◌, ◌<◌, ◌≤◌, List, [], ◌∷◌, length, take, drop, replicate, Option, Some, None, refl, sym, ap, ◌∙◌, subst, arith}
 use Rattle.std.proofs.lemmas.Bool.Decides.{nat_tests}
 use Rattle.std.proofs.lemmas.List.{length-append, length-replicate, length-reverse, length-take, length-drop, length-set}
 use Rattle.std.specs.Prelude.{ℤ, pos, ◌==◌, Bool, true, false, if◌then◌else◌, Result, Ok, Err, slice_get, slice_set}
@@ -10,28 +10,49 @@ use Rattle.cilk_tree.specs.declared.tree.UnaryOp.TheVariants as unary_op
 use Rattle.cilk_meaning.specs.declared.ends.TrapKind.{TrapKind}
 use Rattle.cilk_meaning.specs.declared.ends.TrapKind.TheVariants.{Overflow, TooDeep}
 use Rattle.cilk_meaning.specs.Instance.{limits}
-use Rattle.cilk_meaning.specs.Locals.{Locals, local_at, assigned, deposited, extent_of}
+use Rattle.cilk_meaning.specs.Locals.{local_at, deposited, extent_of}
 use Rattle.cilk_meaning.specs.Values.{is_zero, negated, operated, word_of}
 use Rattle.cilk_meaning.specs.Wants as want
-use Rattle.cilk_meaning.specs.Wants.{Request, Want, Traps, Deposit, Answer, Value, Children, Done}
+use Rattle.cilk_meaning.specs.Wants.{Request, Want, Asks, Returns, Traps, Deposit, Answer, Value, Children, Done}
 use Rattle.machine_code.specs.declared.code.Proc.{Proc}
 use Rattle.machine_code.specs.declared.instr.Instr.{Instr}
 use Rattle.machine_code.specs.declared.instr.Instr.TheVariants as instr
-use Rattle.machine_code.specs.Machine.{Code, Activation, Frame, Move, GoesOn, Requests, Ends, Stuck, moved, next_with, stored, popping, given, with_proc, binary, unary, activation, arguments_on, called, returned, on_value, on_children, on_done, added, act, look}
-use Rattle.machine_code.specs.Valid.{Shape, Leads, IsFine, IsProc, IsLocal, takes, puts, goes_behind, jumps_to, params_of}
+use Rattle.machine_code.specs.Machine.{Code, Activation, Frame, Move, GoesOn, Requests, Ends, Stuck, moved, next_with, stored, popping, given, with_proc, binary, unary, activation, arguments_on, called, returned, on_value, on_children, on_done, act, look}
+use Rattle.machine_code.specs.Valid.{Shape, Leads, IsFine, IsLocal, takes, puts, goes_behind, jumps_to, params_of}
 use Rattle.plain_machine.proofs.Depositing.{deposited_length}
-use Rattle.plain_machine.specs.Standing.{StandsIn, IsAt, AreWaiting, IsCallable, own_locals_of}
+use Rattle.plain_machine.specs.Standing.{StandsIn, IsAt, AreWaiting, IsCallable, own_locals, own_locals_of}
 use Rattle.plain_machine.specs.Starting.{CanStart, IsTarget}
 
--- what a move of a frame that stands leads to
+-- The child can be started, and its arguments are the top operands.
+pub record IsChild (code : Code) (f : Frame) (target : Option ℕ) (procedure : ℕ) (given : List ℤ) : Type 0 where
+  pub starts : CanStart code f target procedure given
+  pub arguments : given ≡ arguments_on starts.proc.params f.running.operands
+  pub enough : starts.proc.params ≤ length f.running.operands
+
+abbrev pub ChildOf : Code → Frame → Request → Type 0
+ChildOf code f (want.Spawn target procedure arguments) = IsChild code f target procedure arguments
+ChildOf code f _ = Unit {0}
+
+-- A move that goes on: the frame stands still, is as deep, and its own function has as many locals.
+pub record Keeps (code : Code) (f g : Frame) : Type 0 where
+  pub stands : StandsIn code g
+  pub depth : g.depth ≡ f.depth
+  pub own : length (own_locals g) ≡ length (own_locals f)
+
+-- where the answers to a request of a frame that stands lead, and what it starts
 pub record Leading (code : Code) (f : Frame) (request : Request) (follows : Answer → Option Frame) : Type 0 where
-  pub stands : (answer : Answer) (g : Frame) → follows answer ≡ Some g → StandsIn code g
-  pub starts : CanStart code f request
+  pub keeps : (answer : Answer) (g : Frame) → follows answer ≡ Some g → Keeps code f g
+  pub child : ChildOf code f request
+
+abbrev pub IsEnd : Want → Type 0
+IsEnd (Asks request) = ⊥
+IsEnd (Returns value) = Unit {0}
+IsEnd (Traps kind) = Unit {0}
 
 abbrev pub Finds : Code → Frame → Move → Type 0
-Finds code f (GoesOn g) = StandsIn code g
+Finds code f (GoesOn g) = Keeps code f g
 Finds code f (Requests request follows) = Leading code f request follows
-Finds code f (Ends want) = Unit {0}
+Finds code f (Ends want) = IsEnd want
 Finds code f Stuck = ⊥
 
 arguments_length : (params : ℕ) (operands : List ℤ) → params ≤ length operands → length (arguments_on params operands) ≡ params
@@ -40,7 +61,7 @@ arguments_length params operands enough =
     let b = length-take params operands in
     omega (arith, a, b, enough)
 
-first_length : (proc : Proc) (arguments : List ℤ) → length arguments ≡ proc.params → proc.params ≤ proc.locals → length (activation proc arguments).locals ≡ proc.locals
+pub first_length : (proc : Proc) (arguments : List ℤ) → length arguments ≡ proc.params → proc.params ≤ proc.locals → length (activation proc arguments).locals ≡ proc.locals
 first_length proc arguments e enough =
     let a = length-append arguments (replicate (proc.locals - proc.params) (pos 0)) in
     let b = length-replicate (proc.locals - proc.params) (pos 0) in
@@ -59,7 +80,8 @@ begins code shapes procs procedure proc is arguments e callers callable =
       leads = sound.0;
       locals = first_length proc arguments e sound.1;
       room = refl;
-      callable = callable }
+      callable = callable;
+    }
 
 nothing_inside : {A : Type 0} (items : List A) (at : ℕ) → slice_get items at ≡ None → at < length items → ⊥
 nothing_inside {A} [] at e less = absurd (omega (arith, less))
@@ -70,8 +92,15 @@ below_limit : (depth limit : ℕ) → depth ≤ limit → (depth == limit) ≡ f
 below_limit depth limit le e = grind (arith, nat_tests)
 
 -- an add leaves a frame that stands, whatever its sum
-overflowing : {code : Code} {b : Bool} (f : Frame) → StandsIn code f → StandsIn code (record f { overflowed = b })
-overflowing {code} {b} f s = record { valid = s.valid; running = s.running; waiting = s.waiting; depth = s.depth }
+overflowing : {code : Code} {f : Frame} {b : Bool} (g : Frame) → Keeps code f g → Keeps code f (record g { overflowed = b })
+overflowing {code} {f} {b} g h =
+    let s = h.stands in
+    record { stands = record { valid = s.valid; running = s.running; waiting = s.waiting; depth = s.depth }; depth = h.depth; own = h.own }
+
+-- only the function's own locals count, where it has callers only theirs
+same_own : (a b : Activation) (callers : List Activation) → length a.locals ≡ length b.locals → length (own_locals_of a callers) ≡ length (own_locals_of b callers)
+same_own a b [] e = e
+same_own a b (caller ∷ callers) e = refl
 
 none_waits : (proc : Proc) (callers : List Activation) → IsCallable proc callers → proc.«cilk» ≡ true → callers ≡ []
 none_waits proc [] callable e = refl
@@ -93,37 +122,43 @@ module _ (code : Code) (f : Frame) (s : StandsIn code f) where
   proc_finds : (o : Option Proc) (proc : Proc) (next : Proc → Move) → o ≡ Some proc → Finds code f (next proc) → Finds code f (with_proc o next)
   proc_finds o proc next e h = subst (λ o. Finds code f (with_proc o next)) (sym e) h
 
-  value_leads : (next : ℤ → Frame) → ((v : ℤ) → StandsIn code (next v)) → (answer : Answer) (g : Frame) → on_value next answer ≡ Some g → StandsIn code g
-  value_leads next h (Value v) g e = subst (StandsIn code) (let same : next v ≡ g = cc in same) (h v)
+  value_leads : (next : ℤ → Frame) → ((v : ℤ) → Keeps code f (next v)) → (answer : Answer) (g : Frame) → on_value next answer ≡ Some g → Keeps code f g
+  value_leads next h (Value v) g e = subst (Keeps code f) (let same : next v ≡ g = cc in same) (h v)
   value_leads next h (Children deposits) g e = absurd cc
   value_leads next h Done g e = absurd cc
 
-  children_leads : (next : List Deposit → Frame) → ((deposits : List Deposit) → StandsIn code (next deposits)) → (answer : Answer) (g : Frame) → on_children next answer ≡ Some g → StandsIn code g
+  children_leads : (next : List Deposit → Frame) → ((deposits : List Deposit) → Keeps code f (next deposits)) → (answer : Answer) (g : Frame) → on_children next answer ≡ Some g → Keeps code f g
   children_leads next h (Value v) g e = absurd cc
-  children_leads next h (Children deposits) g e = subst (StandsIn code) (let same : next deposits ≡ g = cc in same) (h deposits)
+  children_leads next h (Children deposits) g e = subst (Keeps code f) (let same : next deposits ≡ g = cc in same) (h deposits)
   children_leads next h Done g e = absurd cc
 
-  done_leads : (next : Frame) → StandsIn code next → (answer : Answer) (g : Frame) → on_done next answer ≡ Some g → StandsIn code g
+  done_leads : (next : Frame) → Keeps code f next → (answer : Answer) (g : Frame) → on_done next answer ≡ Some g → Keeps code f g
   done_leads next h (Value v) g e = absurd cc
   done_leads next h (Children deposits) g e = absurd cc
-  done_leads next h Done g e = subst (StandsIn code) (let same : next ≡ g = cc in same) h
+  done_leads next h Done g e = subst (Keeps code f) (let same : next ≡ g = cc in same) h
 
   -- with the value of the call the last caller goes on
-  back_finds : (v : ℤ) (callers : List Activation) → AreWaiting code s.valid.shapes callers → Finds code f (returned f v callers)
-  back_finds v [] waiting = tt
-  back_finds v (caller ∷ callers) waiting =
+  back_finds : (v : ℤ) (callers : List Activation) → f.callers ≡ callers → AreWaiting code s.valid.shapes callers → Finds code f (returned f v callers)
+  back_finds v [] e waiting = tt
+  back_finds v (caller ∷ callers) e waiting =
       record {
-        valid = s.valid;
-        running = record {
-          procedure = waiting.0.procedure;
-          proc = waiting.0.proc;
-          is = waiting.0.is;
-          leads = waiting.0.leads;
-          locals = waiting.0.locals;
-          room = waiting.0.room;
-          callable = waiting.0.callable };
-        waiting = waiting.1;
-        depth = s.depth }
+        stands = record {
+          valid = s.valid;
+          running = record {
+            procedure = waiting.0.procedure;
+            proc = waiting.0.proc;
+            is = waiting.0.is;
+            leads = waiting.0.leads;
+            locals = waiting.0.locals;
+            room = waiting.0.room;
+            callable = waiting.0.callable;
+          };
+          waiting = waiting.1;
+          depth = s.depth;
+        };
+        depth = refl;
+        own = same_own (record caller { operands = v ∷ caller.operands }) caller callers refl ∙ ap (λ callers. length (own_locals_of f.running callers)) (sym e);
+      }
 
   module _ (i : Instr) (e : slice_get code.instrs f.running.pc ≡ Some i) where
     here : s.valid.shapes f.running.pc ≡ record { procedure = s.running.procedure; operands = length f.running.operands }
@@ -157,23 +192,34 @@ module _ (code : Code) (f : Frame) (s : StandsIn code f) where
           leads = leads;
           locals = same ∙ s.running.locals;
           room = s.running.room;
-          callable = s.running.callable }
+          callable = s.running.callable;
+        }
 
-    behind : goes_behind i ≡ true → (locals operands : List ℤ) → length locals ≡ length f.running.locals → length operands + takes code.procs i ≡ puts i + length f.running.operands → StandsIn code (stored f locals operands)
+    behind : goes_behind i ≡ true → (locals operands : List ℤ) → length locals ≡ length f.running.locals → length operands + takes code.procs i ≡ puts i + length f.running.operands → Keeps code f (stored f locals operands)
     behind goes locals operands same n =
         record {
-          valid = s.valid;
-          running = is_at (length operands) (suc f.running.pc) locals operands (leads_on (length operands) (suc f.running.pc) (fine.behind goes) n) same;
-          waiting = s.waiting;
-          depth = s.depth }
+          stands = record {
+            valid = s.valid;
+            running = is_at (length operands) (suc f.running.pc) locals operands (leads_on (length operands) (suc f.running.pc) (fine.behind goes) n) same;
+            waiting = s.waiting;
+            depth = s.depth;
+          };
+          depth = refl;
+          own = same_own (record f.running { pc = suc f.running.pc; locals = locals; operands = operands }) f.running f.callers same;
+        }
 
-    jumps : (to : ℕ) → jumps_to i ≡ Some to → (operands : List ℤ) → length operands + takes code.procs i ≡ puts i + length f.running.operands → StandsIn code (moved f to operands)
+    jumps : (to : ℕ) → jumps_to i ≡ Some to → (operands : List ℤ) → length operands + takes code.procs i ≡ puts i + length f.running.operands → Keeps code f (moved f to operands)
     jumps to goes operands n =
         record {
-          valid = s.valid;
-          running = is_at (length operands) to f.running.locals operands (leads_on (length operands) to (fine.jumps to goes) n) refl;
-          waiting = s.waiting;
-          depth = s.depth }
+          stands = record {
+            valid = s.valid;
+            running = is_at (length operands) to f.running.locals operands (leads_on (length operands) to (fine.jumps to goes) n) refl;
+            waiting = s.waiting;
+            depth = s.depth;
+          };
+          depth = refl;
+          own = same_own (record f.running { pc = to; operands = operands }) f.running f.callers refl;
+        }
 
     binary_finds : (operator : BinaryOp) → goes_behind i ≡ true → takes code.procs i ≡ 2 → puts i ≡ 1 → Finds code f (binary f operator)
     binary_finds operator goes two one =
@@ -188,23 +234,31 @@ module _ (code : Code) (f : Frame) (s : StandsIn code f) where
         pop_finds f.running.operands _ (omega (arith, h, one)) (λ x rest n.
         given_finds (negated operator x) _ (λ v. behind goes f.running.locals (v ∷ rest) refl (omega (arith, one, other, n))))
 
-    chosen_stands : (to : ℕ) (b : Bool) (rest : List ℤ) → jumps_to i ≡ Some to → goes_behind i ≡ true → length rest + takes code.procs i ≡ puts i + length f.running.operands →
-        StandsIn code (moved f (if b then to else suc f.running.pc) rest)
-    chosen_stands to true rest goes falls n = jumps to goes rest n
-    chosen_stands to false rest goes falls n = behind falls f.running.locals rest refl n
+    chosen_keeps : (to : ℕ) (b : Bool) (rest : List ℤ) → jumps_to i ≡ Some to → goes_behind i ≡ true → length rest + takes code.procs i ≡ puts i + length f.running.operands →
+        Keeps code f (moved f (if b then to else suc f.running.pc) rest)
+    chosen_keeps to true rest goes falls n = jumps to goes rest n
+    chosen_keeps to false rest goes falls n = behind falls f.running.locals rest refl n
 
     -- the function of a call that its arguments are taken off for
-    call_stands : (proc : Proc) (procedure : ℕ) → slice_get code.procs procedure ≡ Some proc → proc.«cilk» ≡ false → goes_behind i ≡ true → takes code.procs i ≡ proc.params → puts i ≡ 1 → StandsIn code (called f proc)
-    call_stands proc procedure is plain goes n one =
+    call_keeps : (proc : Proc) (procedure : ℕ) → slice_get code.procs procedure ≡ Some proc → proc.«cilk» ≡ false → goes_behind i ≡ true → takes code.procs i ≡ proc.params → puts i ≡ 1 → Keeps code f (called f proc)
+    call_keeps proc procedure is plain goes n one =
         let h = enough in
         let dropped = length-drop proc.params f.running.operands in
         record {
-          valid = s.valid;
-          running = begins code s.valid.shapes (λ p q same. ((s.valid.procs p q same).starts, (s.valid.procs p q same).params)) procedure proc is
-            (arguments_on proc.params f.running.operands) (arguments_length proc.params f.running.operands (omega (arith, h, n))) _ plain;
-          waiting = (is_at (suc (length (drop proc.params f.running.operands))) (suc f.running.pc) f.running.locals (drop proc.params f.running.operands)
-            (leads_on (suc (length (drop proc.params f.running.operands))) (suc f.running.pc) (fine.behind goes) (omega (arith, dropped, h, n, one))) refl, s.waiting);
-          depth = s.depth }
+          stands = record {
+            valid = s.valid;
+            running = begins code s.valid.shapes (λ p q same. ((s.valid.procs p q same).starts, (s.valid.procs p q same).params)) procedure proc is
+                (arguments_on proc.params f.running.operands) (arguments_length proc.params f.running.operands (omega (arith, h, n))) _ plain;
+            waiting = (
+              is_at (suc (length (drop proc.params f.running.operands))) (suc f.running.pc) f.running.locals (drop proc.params f.running.operands)
+                  (leads_on (suc (length (drop proc.params f.running.operands))) (suc f.running.pc) (fine.behind goes) (omega (arith, dropped, h, n, one))) refl,
+              s.waiting,
+            );
+            depth = s.depth;
+          };
+          depth = refl;
+          own = same_own (record f.running { pc = suc f.running.pc; operands = drop proc.params f.running.operands }) f.running f.callers refl;
+        }
 
     spawn_leads : (target : Option ℕ) (procedure : ℕ) (proc : Proc) → slice_get code.procs procedure ≡ Some proc → goes_behind i ≡ true → takes code.procs i ≡ proc.params → puts i ≡ 0 →
         s.running.proc.«cilk» ≡ true → IsLocal s.running.proc target → (f.depth == limits.depth) ≡ false →
@@ -214,14 +268,19 @@ module _ (code : Code) (f : Frame) (s : StandsIn code f) where
         let dropped = length-drop proc.params f.running.operands in
         let depth = s.depth in
         record {
-          stands = done_leads _ (behind goes f.running.locals (drop proc.params f.running.operands) refl (omega (arith, dropped, h, n, none)));
-          starts = record {
-            proc = proc;
-            is = is;
+          keeps = done_leads _ (behind goes f.running.locals (drop proc.params f.running.operands) refl (omega (arith, dropped, h, n, none)));
+          child = record {
+            starts = record {
+              proc = proc;
+              is = is;
+              params = arguments_length proc.params f.running.operands (omega (arith, h, n));
+              depth = below_limit f.depth limits.depth depth less;
+              target = own_target target (none_waits s.running.proc f.callers s.running.callable kind) inside;
+            };
             arguments = refl;
             enough = omega (arith, h, n);
-            depth = below_limit f.depth limits.depth depth less;
-            target = own_target target (none_waits s.running.proc f.callers s.running.callable kind) inside } }
+          };
+        }
       where
         own_target : (target : Option ℕ) → f.callers ≡ [] → IsLocal s.running.proc target → IsTarget target f
         own_target None e inside = tt
@@ -254,57 +313,68 @@ module _ (code : Code) (f : Frame) (s : StandsIn code f) where
   finds_at (Some (instr.Jump to)) e = jumps (instr.Jump to) e to refl f.running.operands (omega arith)
   finds_at (Some (instr.JumpIfZero to)) e =
       let h = enough (instr.JumpIfZero to) e in
-      pop_finds f.running.operands _ h (λ v rest n. chosen_stands (instr.JumpIfZero to) e to (is_zero v) rest refl refl (omega (arith, n)))
+      pop_finds f.running.operands _ h (λ v rest n. chosen_keeps (instr.JumpIfZero to) e to (is_zero v) rest refl refl (omega (arith, n)))
   finds_at (Some (instr.ReadShared array)) e =
       let h = enough (instr.ReadShared array) e in
       pop_finds f.running.operands _ h (λ i rest n.
       given_finds (word_of (extent_of code.shared array) i) _ (λ word. record {
-        stands = value_leads _ (λ v. behind (instr.ReadShared array) e refl f.running.locals (v ∷ rest) refl (omega (arith, n)));
-        starts = tt }))
+        keeps = value_leads _ (λ v. behind (instr.ReadShared array) e refl f.running.locals (v ∷ rest) refl (omega (arith, n)));
+        child = tt;
+      }))
   finds_at (Some (instr.WriteShared array)) e =
       let h = enough (instr.WriteShared array) e in
       pop_finds f.running.operands _ (omega (arith, h)) (λ v below n.
       pop_finds below _ (omega (arith, h, n)) (λ i rest m.
       given_finds (word_of (extent_of code.shared array) i) _ (λ word. record {
-        stands = done_leads _ (behind (instr.WriteShared array) e refl f.running.locals rest refl (omega (arith, n, m)));
-        starts = tt })))
+        keeps = done_leads _ (behind (instr.WriteShared array) e refl f.running.locals rest refl (omega (arith, n, m)));
+        child = tt;
+      })))
   finds_at (Some (instr.AddShared array)) e =
       let h = enough (instr.AddShared array) e in
       pop_finds f.running.operands _ (omega (arith, h)) (λ addend below n.
       pop_finds below _ (omega (arith, h, n)) (λ i rest m.
       given_finds (word_of (extent_of code.shared array) i) _ (λ word. record {
-        stands = value_leads _ (λ old. overflowing _ (behind (instr.AddShared array) e refl f.running.locals (old ∷ rest) refl (omega (arith, n, m))));
-        starts = tt })))
+        keeps = value_leads _ (λ old. overflowing _ (behind (instr.AddShared array) e refl f.running.locals (old ∷ rest) refl (omega (arith, n, m))));
+        child = tt;
+      })))
   finds_at (Some instr.PrintTop) e =
       let h = enough instr.PrintTop e in
-      pop_finds f.running.operands _ h (λ v rest n. record { stands = done_leads _ (behind instr.PrintTop e refl f.running.locals rest refl (omega (arith, n))); starts = tt })
-  finds_at (Some instr.Turn) e = record { stands = done_leads _ (behind instr.Turn e refl f.running.locals f.running.operands refl (omega arith)); starts = tt }
+      pop_finds f.running.operands _ h (λ v rest n. record { keeps = done_leads _ (behind instr.PrintTop e refl f.running.locals rest refl (omega (arith, n))); child = tt })
+  finds_at (Some instr.Turn) e = record { keeps = done_leads _ (behind instr.Turn e refl f.running.locals f.running.operands refl (omega arith)); child = tt }
   finds_at (Some (instr.Call procedure)) e =
       let known = (fine (instr.Call procedure) e).in_range in
       proc_finds (slice_get code.procs procedure) known.0 _ known.1
       (trap_finds (length f.callers == limits.calls) TooDeep _ (λ less. record {
-        stands = done_leads _ (call_stands (instr.Call procedure) e known.0 procedure known.1 known.2 refl (ap params_of known.1) refl);
-        starts = tt }))
+        keeps = done_leads _ (call_keeps (instr.Call procedure) e known.0 procedure known.1 known.2 refl (ap params_of known.1) refl);
+        child = tt;
+      }))
   finds_at (Some (instr.Spawn procedure target)) e =
       let range = (fine (instr.Spawn procedure target) e).in_range in
       proc_finds (slice_get code.procs procedure) range.1.0 _ range.1.1
       (trap_finds (f.depth == limits.depth) TooDeep _ (λ less.
       spawn_leads (instr.Spawn procedure target) e target procedure range.1.0 range.1.1 refl (ap params_of range.1.1) refl range.0 range.2 less))
   finds_at (Some instr.SyncAll) e = record {
-    stands = children_leads _ (λ deposits. behind instr.SyncAll e refl (deposited deposits f.running.locals) f.running.operands (deposited_length deposits f.running.locals) (omega arith));
-    starts = tt }
+    keeps = children_leads _ (λ deposits. behind instr.SyncAll e refl (deposited deposits f.running.locals) f.running.operands (deposited_length deposits f.running.locals) (omega arith));
+    child = tt;
+  }
   finds_at (Some instr.Return) e =
       let h = enough instr.Return e in
-      pop_finds f.running.operands _ h (λ v rest n. back_finds v f.callers s.waiting)
+      pop_finds f.running.operands _ h (λ v rest n. back_finds v f.callers refl s.waiting)
 
   pub finds : Finds code f (look code f)
   finds = trap_finds f.overflowed Overflow _ (λ goes. finds_at (slice_get code.instrs f.running.pc) refl)
 
+  pub goes_keeps : (g : Frame) → look code f ≡ GoesOn g → Keeps code f g
+  goes_keeps g e = subst (Finds code f) e finds
+
   pub goes_stands : (g : Frame) → look code f ≡ GoesOn g → StandsIn code g
-  goes_stands g e = subst (Finds code f) e finds
+  goes_stands g e = (goes_keeps g e).stands
 
   pub leading : (request : Request) (follows : Answer → Option Frame) → look code f ≡ Requests request follows → Leading code f request follows
   leading request follows e = subst (Finds code f) e finds
 
   pub not_stuck : look code f ≡ Stuck → ⊥
   not_stuck e = subst (Finds code f) e finds
+
+  pub ends_so : (want : Want) → look code f ≡ Ends want → IsEnd want
+  ends_so want e = subst (Finds code f) e finds

@@ -1,19 +1,18 @@
 -- From a frame to its next want.
-use Rattle.std.proofs.Common.{◌≡◌, ◌⊎◌, ℕ, zero, suc, ◌+◌, ◌<◌, ◌≤◌, List, [], ◌∷◌, ◌++◌, length, replicate, Option, Some, None, refl, sym, ap, ◌∙◌, subst, inl, inr, arith}
-use Rattle.std.specs.Prelude.{ℤ, Bool, true, false, if◌then◌else◌, slice_get}
+use Rattle.std.proofs.Common.{◌≡◌, ℕ, suc, ◌<◌, ◌≤◌, List, [], ◌∷◌, ◌++◌, replicate, Option, Some, None, refl, sym, ap, ◌∙◌, inl, inr, arith}
+use Rattle.std.specs.Prelude.{Bool, true, false, if◌then◌else◌, slice_get}
 use Rattle.cilk_meaning.specs.declared.ends.TrapKind.TheVariants.{Overflow}
-use Rattle.cilk_meaning.specs.Alone.{Block, block_after}
-use Rattle.cilk_meaning.specs.Serve.{now, first_of, rest_of, after}
+use Rattle.cilk_meaning.specs.Alone.{block_after}
+use Rattle.cilk_meaning.specs.Serve.{first_of, rest_of, after}
 use Rattle.cilk_meaning.specs.Wants.{Request, Want, Asks, Traps, Answer}
 use Rattle.machine_code.specs.declared.instr.Instr.{Instr}
 use Rattle.machine_code.specs.declared.instr.Instr.TheVariants as instr
 use Rattle.machine_code.specs.Early.{Event, Steps, Answered, Run, happens, goes_on_with, after_events, stepped, answered, resumed_with}
-use Rattle.machine_code.specs.Machine.{Code, Frame, Move, GoesOn, Requests, Ends, Stuck, act, look, remaining, resumed, wants, wants_for}
-use Rattle.machine_code.proofs.Steps.{Nearer, comes_nearer, goes_same, requests_wants, ends_wants}
+use Rattle.machine_code.specs.Machine.{Code, Frame, GoesOn, Requests, Ends, act, look, remaining, resumed, wants, wants_for}
+use Rattle.machine_code.proofs.Steps.{Nearer, comes_nearer, requests_wants, ends_wants}
 use Rattle.plain_machine.specs.Shown.{WantsNext}
 use Rattle.plain_machine.specs.Standing.{StandsIn}
 use Rattle.plain_machine.specs.Stepping.{HasStepped, HasResumed}
-use Rattle.plain_machine.proofs.Finding.{goes_stands, not_stuck}
 
 pub stays_put : (code : Code) (f : Frame) → HasStepped code f f
 stays_put code f = record { count = 0; comes = λ block. refl }
@@ -21,7 +20,8 @@ stays_put code f = record { count = 0; comes = λ block. refl }
 pub steps_first : (code : Code) (f g h : Frame) → look code f ≡ GoesOn g → HasStepped code g h → HasStepped code f h
 steps_first code f g h e s = record {
   count = suc s.count;
-  comes = λ block. ap (λ move. goes_on_with (stepped move block) (after_events code (replicate s.count Steps))) e ∙ s.comes block }
+  comes = λ block. ap (λ move. goes_on_with (stepped move block) (after_events code (replicate s.count Steps))) e ∙ s.comes block;
+}
 
 more_if : (code : Code) (o : Option Run) (first more : List Event) → ((run : Run) → after_events code (first ++ more) run ≡ goes_on_with (after_events code first run) (after_events code more)) →
     goes_on_with o (after_events code (first ++ more)) ≡ goes_on_with (goes_on_with o (after_events code first)) (after_events code more)
@@ -39,7 +39,8 @@ steps_resume code f g h request follows answer s e is = record {
       after_more code (replicate s.count Steps) (Answered answer ∷ []) (record { frame = f; block = block })
       ∙ ap (λ o. goes_on_with o (after_events code (Answered answer ∷ []))) (s.comes block)
       ∙ ap (λ move. goes_on_with (answered move answer block) (after_events code [])) e
-      ∙ ap (λ o. goes_on_with (resumed_with o (block_after request block)) (after_events code [])) is }
+      ∙ ap (λ o. goes_on_with (resumed_with o (block_after request block)) (after_events code [])) is;
+}
 
 -- what a frame wants that stands at its want
 pub requests_next : (code : Code) (f : Frame) (request : Request) (follows : Answer → Option Frame) → look code f ≡ Requests request follows → WantsNext code f (Asks request)

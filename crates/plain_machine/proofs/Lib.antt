@@ -1,7 +1,9 @@
 mod Depositing
 mod Finding
 mod Going
+mod Lasting
 mod Ready
 mod Resuming
 mod Stacks
+mod Wanting
 mod Words

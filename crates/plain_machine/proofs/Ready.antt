@@ -1,13 +1,13 @@
 -- A frame that stands has what its next instruction takes.
-use Rattle.std.proofs.Common.{◌≡◌, ℕ, suc, ◌+◌, ◌-◌, ◌<◌, ◌≤◌, ◌^◌, List, [], ◌∷◌, length, Option, Some, None, refl, sym, ap, ◌∙◌, subst, arith}
-use Rattle.std.specs.Prelude.{ℤ, Bool, true, false, if◌then◌else◌, slice_get}
+use Rattle.std.proofs.Common.{◌≡◌, ℕ, suc, ◌<◌, ◌^◌, List, [], ◌∷◌, length, Option, Some, refl, sym, ap, ◌∙◌, subst, arith}
+use Rattle.std.specs.Prelude.{Bool, true, false, if◌then◌else◌, slice_get}
 use Rattle.cilk_meaning.specs.declared.ends.TrapKind.TheVariants.{Overflow}
 use Rattle.cilk_meaning.specs.Wants.{Traps}
 use Rattle.machine_code.proofs.Steps.{is_inside}
 use Rattle.machine_code.specs.declared.code.Proc.{Proc}
 use Rattle.machine_code.specs.declared.instr.Instr.{Instr}
 use Rattle.machine_code.specs.declared.instr.Instr.TheVariants as instr
-use Rattle.machine_code.specs.Machine.{Code, Activation, Frame, Move, Ends, act, look}
+use Rattle.machine_code.specs.Machine.{Code, Activation, Frame, Ends, act, look}
 use Rattle.machine_code.specs.Valid.{takes, puts, goes_behind, params_of}
 use Rattle.plain_machine.specs.Standing.{StandsIn, AreWaiting}
 use Rattle.plain_machine.specs.Stepping.{CanReceive, IsReady, Makes, NamesProc, asked}
@@ -34,7 +34,8 @@ module _ (code : Code) (f : Frame) (s : StandsIn code f) (i : Instr) (e : slice_
       record {
         operands = h;
         room = omega (arith, h, t, r, same);
-        next = next }
+        next = next;
+      }
 
   -- where it goes on depends on the instruction alone
   pub looked : f.overflowed ≡ false → look code f ≡ act code f (Some i)

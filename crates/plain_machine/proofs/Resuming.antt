@@ -1,5 +1,5 @@
 -- Where an answer leads a frame that stands at a request.
-use Rattle.std.proofs.Common.{◌≡◌, ℕ, zero, suc, ◌+◌, ◌<◌, ◌≤◌, List, [], ◌∷◌, length, drop, Option, Some, None, refl, sym, ap, ◌∙◌, subst, arith}
+use Rattle.std.proofs.Common.{◌≡◌, ℕ, List, [], ◌∷◌, length, drop, Option, Some, None, refl, sym, ap, ◌∙◌, subst}
 use Rattle.std.specs.Prelude.{ℤ, ◌==◌, Bool, true, false, if◌then◌else◌, Result, Ok, Err, slice_get}
 use Rattle.cilk_tree.specs.declared.tree.BinaryOp.{BinaryOp}
 use Rattle.cilk_tree.specs.declared.tree.BinaryOp.TheVariants as op
@@ -14,7 +14,7 @@ use Rattle.cilk_meaning.specs.Wants.{Want, Traps, Returns}
 use Rattle.machine_code.specs.declared.code.Proc.{Proc}
 use Rattle.machine_code.specs.declared.instr.Instr.{Instr}
 use Rattle.machine_code.specs.declared.instr.Instr.TheVariants as instr
-use Rattle.machine_code.specs.Machine.{Code, Activation, Frame, Move, GoesOn, Requests, Ends, Stuck, next_with, popping, given, with_proc, binary, unary, called, returned, added, act, look}
+use Rattle.machine_code.specs.Machine.{Code, Activation, Frame, Move, GoesOn, Ends, next_with, popping, given, with_proc, binary, unary, called, returned, added, act, look}
 use Rattle.machine_code.specs.Valid.{takes, params_of}
 use Rattle.plain_machine.specs.Stepping.{Resumes, led_to}
 use Rattle.plain_machine.specs.declared.want.Answer.{Answer}

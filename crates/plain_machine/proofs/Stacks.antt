@@ -1,5 +1,5 @@
 -- A stack that is kept with its top last.
-use Rattle.std.proofs.Common.{◌≡◌, ℕ, ◌+◌, ◌-◌, ◌≤◌, List, ◌++◌, length, take, drop, reverse, refl, sym, ap, ◌∙◌, arith}
+use Rattle.std.proofs.Common.{◌≡◌, ℕ, ◌+◌, List, ◌++◌, length, take, drop, reverse, sym, ap, ◌∙◌, arith}
 use Rattle.std.proofs.lemmas.List.{take-append-drop, reverse-append, reverse-reverse, length-reverse, length-drop, drop_at, take_at}
 
 parts : {A : Type 0} (items : List A) (n : ℕ) → reverse items ≡ reverse (drop n items) ++ reverse (take n items)

@@ -1,5 +1,5 @@
 -- The words of an array lie among all shared words.
-use Rattle.std.proofs.Common.{◌≡◌, ℕ, zero, suc, ◌+◌, ◌<◌, ◌≤◌, List, [], ◌∷◌, length, get_or, refl, sym, ap, ◌∙◌, arith}
+use Rattle.std.proofs.Common.{◌≡◌, ℕ, zero, suc, ◌+◌, ◌<◌, ◌≤◌, List, [], ◌∷◌, length, get_or, refl, ap, arith}
 use Rattle.machine_code.specs.declared.code.Extent.{Extent}
 use Rattle.machine_code.specs.Valid.{extents, words_in, AreInOrder}
 

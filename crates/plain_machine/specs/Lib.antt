@@ -3,3 +3,4 @@ pub mod Shown
 pub mod Standing
 pub mod Starting
 pub mod Stepping
+pub mod Lasting

@@ -1,5 +1,5 @@
 -- What contracts see of a frame, and the words of the calls in the words of the meaning.
-use Rattle.std.specs.Prelude.{◌≡◌, ℤ, true, Option, Some, List, []}
+use Rattle.std.specs.Prelude.{◌≡◌, ℤ, true, Some, List, []}
 use Rattle.cilk_meaning.specs.Serve.{now}
 use Rattle.cilk_meaning.specs.Wants.{Request, Read, Write, Add, Print, Spawn, Sync, Call, LoopTurn, Want, Asks, Returns, Traps, Value, Children, Done, suits}
 use Rattle.cilk_meaning.specs.Wants as wanted

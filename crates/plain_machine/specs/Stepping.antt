@@ -1,16 +1,18 @@
 -- How one frame came to be from another.
-use Rattle.std.specs.Prelude.{◌≡◌, ℕ, suc, ◌+◌, ◌-◌, ◌<◌, ◌≤◌, ◌^◌, true, Option, Some, None, List, [], ◌∷◌, ◌++◌, length, replicate}
+use Rattle.std.specs.Prelude.{◌≡◌, ℕ, suc, ◌+◌, ◌-◌, ◌<◌, ◌≤◌, ◌^◌, true, Option, Some, None, List, [], ◌∷◌, ◌++◌, length, replicate, slice_get}
 use Rattle.cilk_meaning.specs.Alone.{Block, block_after}
 use Rattle.cilk_meaning.specs.Wants as wanted
 use Rattle.cilk_meaning.specs.Wants.{Request, suits}
 use Rattle.machine_code.specs.Early.{Steps, Answered, after_events}
 use Rattle.machine_code.specs.Machine.{Code, Activation, Frame, Move, GoesOn, Requests, Ends, Stuck}
+use Rattle.machine_code.specs.Valid.{params_of}
 use Rattle.machine_code.specs.declared.code.Proc.{Proc}
 use Rattle.machine_code.specs.declared.instr.Instr.{Instr}
 use Rattle.machine_code.specs.declared.instr.Instr.TheVariants.{Call, Spawn}
 use Rattle.plain_machine.specs.Shown.{shown_request, shown_want, meant}
 use Rattle.plain_machine.specs.declared.want.Answer.{Answer}
 use Rattle.plain_machine.specs.declared.want.Want.{Want}
+use Rattle.plain_machine.specs.declared.want.Want.TheVariants as want
 
 -- Some instructions that ask for nothing led from one frame to the other, whatever children are out.
 pub record HasStepped (code : Code) (old new : Frame) : Type 0 where
@@ -65,3 +67,13 @@ abbrev pub NamesProc : List Proc → Instr → Type 0
 NamesProc procs (Call procedure) = procedure < length procs
 NamesProc procs (Spawn procedure target) = procedure < length procs
 NamesProc procs _ = Unit {0}
+
+-- how many parameters the procedure has that a want spawns, if it does
+abbrev pub child_params : List Proc → Want → ℕ
+child_params procs (want.Spawn procedure target) = params_of (slice_get procs procedure)
+child_params procs _ = 0
+
+-- and that it is one of the code
+abbrev pub NamesChild : List Proc → Want → Type 0
+NamesChild procs (want.Spawn procedure target) = procedure < length procs
+NamesChild procs _ = Unit {0}

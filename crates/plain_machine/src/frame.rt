@@ -8,14 +8,13 @@ ghost use Rattle.machine_code.specs.Machine.{start_frame, starts, wants};
 ghost use Rattle.machine_code.specs.Valid.{params_of};
 ghost use Rattle.plain_machine.specs.Shown.{Suits, WantsNext, arguments_of, meant, shown_want};
 ghost use Rattle.plain_machine.specs.Standing.{StandsIn, own_locals};
-ghost use Rattle.plain_machine.specs.Stepping.{HasResumed, HasStepped, Resumes, asked};
-
-use machine_code::{Code, Proc};
-use std::alloc::{AllocError, Global};
-use std::marker::Model;
+ghost use Rattle.plain_machine.specs.Stepping.{HasResumed, HasStepped, NamesChild, child_params};
 
 use crate::state::State;
 use crate::want::{Answer, Want};
+use machine_code::{Code, Proc};
+use std::alloc::{AllocError, Global};
+use std::marker::Model;
 
 /// An instance of a procedure that runs on a code, and may travel between nodes: the frame of the definitions, with the arguments
 /// of the child for whose spawn it was last asked. It makes only the steps of its code (the machine of `machine_code`): constant work for
@@ -41,7 +40,13 @@ impl Model for Frame {
 impl Frame {
     /// The start of the procedure `proc` of the code with these arguments, for an instance that is `depth` deep. It takes all
     /// memory that the steps in its own function need, and fails only where that is refused.
-    pub fn start(alloc: Global, code: &Code, proc: u32, args: &[i64], depth: u32) -> Result<Frame, AllocError>
+    pub fn start(
+        alloc: Global,
+        code: &Code,
+        proc: u32,
+        args: &[i64],
+        depth: u32,
+    ) -> Result<Frame, AllocError>
         requires proc { proc < length code.now.procs }
         requires args { length args.now ≡ params_of (slice_get code.now.procs proc) }
         requires depth { depth ≤ limits.depth }
@@ -64,10 +69,7 @@ impl Frame {
         ensures stands { StandsIn code.now self.new.frame }
     {
         let want = self.state.run(code);
-        self.spawned = match want {
-            Want::Spawn { proc, .. } => code.proc(proc).params as usize,
-            _ => 0,
-        };
+        self.spawned = child_params(code, want);
         want
     }
 
@@ -110,5 +112,16 @@ impl Frame {
         ensures { result ≡ self.now.frame.depth }
     {
         self.state.depth()
+    }
+}
+
+/// How many arguments the child has that is wanted, if one is.
+fn child_params(code: &Code, want: Want) -> usize
+    requires { NamesChild code.now.procs want }
+    ensures { result ≡ child_params code.now.procs want }
+{
+    match want {
+        Want::Spawn { proc, .. } => code.proc(proc).params as usize,
+        _ => 0,
     }
 }

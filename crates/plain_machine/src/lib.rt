@@ -3,6 +3,7 @@
 
 mod arithmetic;
 mod frame;
+mod laws;
 mod operand_count;
 mod operands;
 mod running;
@@ -11,4 +12,5 @@ mod want;
 mod word;
 
 pub use frame::Frame;
+pub use laws::{always_wants, children_can_start, has_run_stands};
 pub use want::{Answer, Want};

@@ -3,11 +3,10 @@ ghost use Rattle.cilk_meaning.specs.Locals.{local_at};
 ghost use Rattle.machine_code.specs.Machine.{Activation, activation};
 ghost use Rattle.plain_machine.specs.Stepping.{IsReady};
 
+use crate::operands::Operands;
 use machine_code::{Code, Instr, Proc};
 use std::alloc::{AllocError, Global};
 use std::marker::Model;
-
-use crate::operands::Operands;
 
 /// A function that runs, or waits for one that it called: the place of its next instruction, its locals and its operands.
 #[derive(Debug, Drop)]

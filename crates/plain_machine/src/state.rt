@@ -11,18 +11,17 @@ ghost use Rattle.machine_code.specs.declared.instr.Instr.TheVariants as instr;
 ghost use Rattle.plain_machine.specs.Standing.{StandsIn, own_locals};
 ghost use Rattle.plain_machine.specs.Stepping.{CanReceive, HasStepped, IsReady, Makes, Resumes, asked, led_to};
 
+use crate::arithmetic::{negate, operate};
+use crate::operand_count::operand_count;
+use crate::running::Running;
+use crate::want::{Answer, Want};
+use crate::word::word_at;
 use cilk_meaning::TrapKind;
 use cilk_tree::{BinaryOp, UnaryOp};
 use machine_code::{Code, Instr, Proc};
 use std::alloc::{AllocError, Global};
 use std::marker::Model;
 use std::mem;
-
-use crate::arithmetic::{negate, operate};
-use crate::operand_count::operand_count;
-use crate::running::Running;
-use crate::want::{Answer, Want};
-use crate::word::word_at;
 
 /// So many plain calls may be open in an instance.
 const MOST_CALLS: usize = 4096;

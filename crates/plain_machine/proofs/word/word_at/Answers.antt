@@ -1,4 +1,4 @@
-use Rattle.std.proofs.Common.{◌<◌, ◌≡◌, length, ap, ◌∙◌, sym, arith}
+use Rattle.std.proofs.Common.{◌<◌, ◌≡◌, length, ap, arith}
 use Rattle.std.proofs.lemmas.Int.{ints}
 use Rattle.machine_code.specs.Valid.{extents}
 use Rattle.plain_machine.proofs.Words.{ends_within, extents_length}

@@ -1,9 +1,7 @@
-use Rattle.std.proofs.Common.{◌≡◌, sym, ap, ◌∙◌, subst, length, reverse, ◌<◌, w64, FitsSigned, rules}
+use Rattle.std.proofs.Common.{sym, ap, ◌∙◌, reverse, w64, FitsSigned, rules}
 use Rattle.std.proofs.lemmas.Int.{to_z-of_z}
 use Rattle.std.specs.Prelude.{slice_set}
-use Rattle.machine_code.specs.Early.{with_values}
-use Rattle.machine_code.specs.Machine.{Activation, Frame}
-use Rattle.plain_machine.specs.Standing.{own_locals}
+use Rattle.machine_code.specs.Machine.{Frame}
 use Rattle.plain_machine.proofs.Depositing.{own_inside, first_set}
 use Rattle.plain_machine.proofs.state.State.deposit.Goals as goal
 

@@ -1,4 +1,4 @@
-use Rattle.std.proofs.Common.{◌≡◌, sym, ap, ◌∙◌, subst, Some, w64, FitsSigned, rules}
+use Rattle.std.proofs.Common.{sym, ap, ◌∙◌, subst, w64, FitsSigned, rules}
 use Rattle.std.proofs.lemmas.Int.{to_z-of_z}
 use Rattle.machine_code.specs.Machine.{added, look}
 use Rattle.plain_machine.specs.Stepping.{Resumes, IsReady, led_to}
@@ -24,5 +24,5 @@ returns-in-Value-AddShared-clause-ok c =
     let move = look c.args.code.now c.args.self.now in
     ap (λ answer. led_to move answer) c.in-Value-AddShared.is-0
     ∙ add_leads c.args.code.now c.args.self.now c.add_was.new.self c.in-Value-AddShared.old c.in-Value-AddShared.field-0-1
-      (subst (Resumes move) c.in-Value-AddShared.is-0 c.requires.resumes) c.in-Value-AddShared.ensures
-      (λ addend index rest e. c.add_was.ensures addend index rest e ∙ ap (λ old. added c.args.self.now addend rest old) (to_z-of_z w64 c.in-Value-AddShared.old fits))
+    (subst (Resumes move) c.in-Value-AddShared.is-0 c.requires.resumes) c.in-Value-AddShared.ensures
+    (λ addend index rest e. c.add_was.ensures addend index rest e ∙ ap (λ old. added c.args.self.now addend rest old) (to_z-of_z w64 c.in-Value-AddShared.old fits))

@@ -13,4 +13,5 @@ loop-want-preserved c =
     record {
       stands = goes_stands c.args.code.now c.loop-want.self c.loop-want.invariant.stands c.step.new.self goes;
       stepped = λ h s. c.loop-want.invariant.stepped h (steps_first c.args.code.now c.loop-want.self c.step.new.self h goes s);
-      same = sym (goes_same c.args.code.now c.loop-want.invariant.stands.valid.forward c.loop-want.self c.step.new.self goes) ∙ c.loop-want.invariant.same }
+      same = sym (goes_same c.args.code.now c.loop-want.invariant.stands.valid.forward c.loop-want.self c.step.new.self goes) ∙ c.loop-want.invariant.same;
+    }

@@ -4,7 +4,7 @@ use Rattle.machine_code.specs.declared.instr.Instr.TheVariants as instr
 use Rattle.machine_code.specs.Machine.{GoesOn, next_with}
 use Rattle.plain_machine.specs.Stepping.{Makes}
 use Rattle.plain_machine.proofs.Finding.{fine}
-use Rattle.plain_machine.proofs.Ready.{ready, leaves_ready, local_inside, stored_inside, call_inside, spawn_inside, receives, made, stays}
+use Rattle.plain_machine.proofs.Ready.{ready, leaves_ready, local_inside, stored_inside, call_inside, spawn_inside, made, stays}
 use Rattle.plain_machine.proofs.state.State.step.Goals as goal
 
 pub push-requires : goal.push-requires
