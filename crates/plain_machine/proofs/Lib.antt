@@ -1,9 +1,12 @@
+mod Checking
 mod Depositing
-mod Finding
+pub mod Finding
 mod Going
-mod Lasting
+pub mod Lasting
 mod Ready
 mod Resuming
+pub mod Saying
 mod Stacks
+mod Trials
 mod Wanting
 mod Words
