@@ -1,0 +1,9 @@
+pub mod Counting
+pub mod Gathering
+pub mod Growing
+pub mod Keeping
+pub mod Orders
+pub mod Parted
+pub mod Running
+pub mod ThreePlaces
+pub mod Ways
