@@ -142,7 +142,7 @@ module _ (h : History) (numbered : IsNumbered h) (more : History) (row : ℕ) (a
   unchanged (suc n) q far =
       ap (λ l. places_from (places_below n more) q 0 l) (one.others q (λ same. far (subst (λ r. IsAbove h q r) same Itself)))
       ∙ same_from h numbered (places_below n more) (places_below n h) q 0 (row_at h q).acts
-        (λ k c e. unchanged n c (λ above. far (above_up h c row (at q k) (numbered.child (at q k) c e).1.named above)))
+      (λ k c e. unchanged n c (λ above. far (above_up h c row (at q k) (numbered.child (at q k) c e).1.named above)))
 
   Grows : ℕ → Type 0
   Grows q = (n : ℕ) → length h ≤ n + q → places_below n more q ≡ places_below n h q ++ new ∷ []
@@ -171,7 +171,7 @@ module _ (h : History) (numbered : IsNumbered h) (more : History) (row : ℕ) (a
       ∙ places_more (places_below n more) row 0 acts act
       ∙ ap (λ l. places_from (places_below n more) row 0 acts ++ l) (ap (λ k. with_child_places (places_below n more) (at row k) act) (zero_plus (length acts)) ∙ nothing_below n)
       ∙ ap (λ l. l ++ new ∷ []) (same_from h numbered (places_below n more) (places_below n h) row 0 acts
-          (λ k c e. unchanged n c (λ above. absurd (omega (arith, child_after h numbered row k c e, above_le h numbered c row above)))))
+      (λ k c e. unchanged n c (λ above. absurd (omega (arith, child_after h numbered row k c e, above_le h numbered c row above)))))
     where
       zero_plus : (k : ℕ) → 0 + k ≡ k
       zero_plus k = omega arith
@@ -204,9 +204,9 @@ module _ (h : History) (numbered : IsNumbered h) (more : History) (row : ℕ) (a
         let f = places_below n more in
         let g = places_below n h in
         let before : places_from f place.row 0 front ≡ places_from g place.row 0 front =
-              same_from h numbered f g place.row 0 front (λ k c is. unchanged n c (far k c is)) in
+        same_from h numbered f g place.row 0 front (λ k c is. unchanged n c (far k c is)) in
         let below : with_child_places f (at place.row (0 + length front)) (Spawn q) ≡ with_child_places g (at place.row (0 + length front)) (Spawn q) ++ new ∷ [] =
-              ap (λ l. at place.row (0 + length front) ∷ l) (grows n (omega (arith, le, parent.before))) in
+        ap (λ l. at place.row (0 + length front) ∷ l) (grows n (omega (arith, le, parent.before))) in
         ap (λ l. places_from f place.row 0 l) (one.others place.row not_row ∙ cut.1)
         ∙ places_more f place.row 0 front (Spawn q)
         ∙ ap (λ l. l ++ with_child_places f (at place.row (0 + length front)) (Spawn q)) before

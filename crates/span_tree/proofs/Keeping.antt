@@ -81,7 +81,7 @@ module _ (rows : History) (places : List Place) (kept : IsKept rows places) (row
         near : q < length rows → length (row_at grown q).acts < 2 ^ 32
         near le =
             subst (λ (r : Row). length r.acts < 2 ^ 32) (sym (old_row rows kept.numbered row proc args runs q le))
-              (act_within child (subst (λ (r : Row). length r.acts < 2 ^ 32) (old_row rows kept.numbered row proc args runs row inside) lt) q)
+            (act_within child (subst (λ (r : Row). length r.acts < 2 ^ 32) (old_row rows kept.numbered row proc args runs row inside) lt) q)
 
         past : length rows ≤ q → (q ≡ length rows) ⊎ (q ≢ length rows) → length (row_at grown q).acts < 2 ^ 32
         past le (inl same) = subst (λ r. length (row_at grown r).acts < 2 ^ 32) (sym same) (subst (λ (r : Row). length r.acts < 2 ^ 32) (sym (new_row rows kept.numbered row proc args runs)) (omega arith))
@@ -105,4 +105,4 @@ module _ (rows : History) (places : List Place) (kept : IsKept rows places) (row
         let born_is : grown' ≡ born = e ∙ ap (λ r. rows ++ r ∷ []) (is ∙ ap (λ k. record { parent = Some (record { row = row; act = k }); proc = proc; args = args; acts = [] }) at) in
         let place = ap (λ h. next_place row h) born_is ∙ same_place in
         subst (λ h. IsKept h places') (sym made) (subst (λ l. IsKept grown l) (sym (order ∙ ap (λ p. places ++ p ∷ []) place))
-          (with_child_kept few (subst (λ h. length (row_at h row).acts < 2 ^ 32) made lt)))
+        (with_child_kept few (subst (λ h. length (row_at h row).acts < 2 ^ 32) made lt)))

@@ -181,10 +181,13 @@ module _ (h : History) (numbered : IsNumbered h) where
     child_way : (x : Place) → Contains (under_row child) x → (rest : List ℕ) × (way h x ≡ front row ++ index ∷ rest) × (act : ℕ) × (more : List ℕ) × (rest ≡ act ∷ more)
     child_way x c =
         let g = fine.goes x c in
-        let is = (numbered.child (at row index) child e).1 in
-        (g.act ∷ g.rest,
-         g.is_way ∙ ap (λ l. l ++ g.act ∷ g.rest) (row_way_is h numbered child (at row index) is.named ∙ own_way row index (within row index (Spawn child) e)) ∙ append_assoc (front row) (index ∷ []) (g.act ∷ g.rest),
-         g.act, g.rest, refl)
+        let is = (numbered.child (at row index) child e).1 in (
+          g.act ∷ g.rest,
+          g.is_way ∙ ap (λ l. l ++ g.act ∷ g.rest) (row_way_is h numbered child (at row index) is.named ∙ own_way row index (within row index (Spawn child) e)) ∙ append_assoc (front row) (index ∷ []) (g.act ∷ g.rest),
+          g.act,
+          g.rest,
+          refl,
+        )
 
     with_child : AtAct row index (at row index ∷ under_row child)
     with_child = record {
@@ -201,7 +204,7 @@ module _ (h : History) (numbered : IsNumbered h) where
         after y w =
             let mine = own_way row index (within row index (Spawn child) e) in
             subst (λ l. Earlier l (way h y)) (sym mine) (subst (λ l. Earlier (front row ++ index ∷ []) l) (sym (w.1 ∙ ap (λ l. front row ++ index ∷ l) w.4))
-              (under (front row) (index ∷ []) (index ∷ w.2 ∷ w.3) (inr (refl, tt))))
+            (under (front row) (index ∷ []) (index ∷ w.2 ∷ w.3) (inr (refl, tt))))
 
   abbrev ChildrenFine : ℕ → Type 0
   ChildrenFine row = (child : ℕ) → row < child → Fine child 0 (under_row child)
@@ -238,7 +241,7 @@ module _ (h : History) (numbered : IsNumbered h) where
   fine_within zero row le = subst (λ l. Fine row 0 l) (sym (same_below h numbered (length h) 0 row (omega arith) (omega (arith, le)))) (record { goes = λ x c. absurd (nothing_in_none x c); ascends = tt })
   fine_within (suc n) row le =
       subst (λ l. Fine row 0 l) (sym (below_is h numbered row))
-        (from_fine row 0 (row_at h row).acts (λ k. ap (λ m. slice_get (row_at h row).acts m) (zero_plus k)) (λ child lt. fine_within n child (omega (arith, le, lt))))
+      (from_fine row 0 (row_at h row).acts (λ k. ap (λ m. slice_get (row_at h row).acts m) (zero_plus k)) (λ child lt. fine_within n child (omega (arith, le, lt))))
 
   fine : Fine 0 0 (serial_order h)
   fine = fine_within (length h) 0 (omega arith)
@@ -265,7 +268,7 @@ module _ (h : History) (numbered : IsNumbered h) where
   own_in f row index [] k j lt e = absurd (omega (arith, lt))
   own_in f row index (act ∷ acts) zero j lt e =
       Contains-append_left (with_child_places f (at row index) act) (places_from f row (suc index) acts) (at row j)
-        (subst (λ i. Contains (with_child_places f (at row index) act) (at row i)) (plus_zero index ∙ e) (act_first f (at row index) act))
+      (subst (λ i. Contains (with_child_places f (at row index) act) (at row i)) (plus_zero index ∙ e) (act_first f (at row index) act))
   own_in f row index (act ∷ acts) (suc k) j lt e =
       Contains-append_right (with_child_places f (at row index) act) (places_from f row (suc index) acts) (at row j) (own_in f row (suc index) acts k j (omega (arith, lt)) (omega (arith, e)))
 
@@ -275,7 +278,7 @@ module _ (h : History) (numbered : IsNumbered h) where
   up_to_main (suc n) (suc row) x lt inside is =
       let up = numbered.parent (suc row) (omega arith) inside in
       up_to_main n up.0.row x (omega (arith, up.1.before, lt)) (omega (arith, up.1.before, inside))
-        (subst (λ l. Contains l x) (sym (below_is h numbered up.0.row)) (in_from under_row up.0.row 0 (row_at h up.0.row).acts up.0.act (suc row) x up.1.spawns is))
+      (subst (λ l. Contains l x) (sym (below_is h numbered up.0.row)) (in_from under_row up.0.row 0 (row_at h up.0.row).acts up.0.act (suc row) x up.1.spawns is))
 
   -- ---- what holds of the serial order
 
@@ -313,4 +316,4 @@ module _ (h : History) (numbered : IsNumbered h) where
   pub before_on : (x y z : Place) → IsBefore h x y → IsBefore h y z → IsBefore h x z
   before_on x y z a b =
       before_of x z (only_places x (first_is_in (serial_order h) x y a)) (only_places z (second_is_in (serial_order h) y z b))
-        (earlier_on (way h x) (way h y) (way h z) (earlier_of x y a) (earlier_of y z b))
+      (earlier_on (way h x) (way h y) (way h z) (earlier_of x y a) (earlier_of y z b))

@@ -90,7 +90,7 @@ module _ (h : History) (numbered : IsNumbered h) where
     beside_of u =
         let at : PartUnsynced h row (a.place.act ∷ xs) (b.place.act ∷ ys) = inl (u.0, goes_on a.child refl, u.2) in
         subst (λ l. PartUnsynced h 0 l (way h y)) (sym first_way) (subst (λ l. PartUnsynced h 0 (front ++ a.place.act ∷ xs) l) (sym second_way)
-          (part_down h numbered row (a.place.act ∷ xs) (b.place.act ∷ ys) inside at))
+        (part_down h numbered row (a.place.act ∷ xs) (b.place.act ∷ ys) inside at))
       where
         goes_on : (o : Option ℕ) → a.child ≡ o → xs ≢ []
         goes_on None e = absurd (u.1 e)
@@ -100,7 +100,7 @@ module _ (h : History) (numbered : IsNumbered h) where
       before_of_first : ComesFirst a b → IsBefore h x y
       before_of_first first =
           before_of h numbered x y is_x is_y (subst (λ l. Earlier l (way h y)) (sym first_way) (subst (λ l. Earlier (front ++ a.place.act ∷ xs) l) (sym second_way)
-            (under front (a.place.act ∷ xs) (b.place.act ∷ ys) (go first))))
+          (under front (a.place.act ∷ xs) (b.place.act ∷ ys) (go first))))
         where
           end : (us vs : List ℕ) → us ≡ [] → vs ≢ [] → Earlier us vs
           end [] [] e ne = absurd (ne refl)

@@ -23,7 +23,7 @@ still_open h numbered more row act one parents _ le Main = Main
 still_open h numbered more row act one parents q le (Child _ place e last up) =
     let before : place.row < q = (parent_of h numbered q place e).before in
     Child q place (parents q le ∙ e) (ap length (one.others place.row (λ same. omega (arith, same, before, le))) ∙ last)
-      (still_open h numbered more row act one parents place.row (omega (arith, before, le)) up)
+    (still_open h numbered more row act one parents place.row (omega (arith, before, le)) up)
 
 module _ (h : History) (row : ℕ) (running : IsRunning h row) where
   abbrev inside : row < length h
@@ -59,7 +59,10 @@ no_act main (suc row) k act e = none_is None act refl e
 pub first_runs : (main : ℕ) → IsRunning (first_history main) 0
 first_runs main = record {
   numbered = record {
-    some = omega arith; main = refl; main_args = refl; preorder = refl;
+    some = omega arith;
+    main = refl;
+    main_args = refl;
+    preorder = refl;
     parent = λ row some lt. absurd (omega (arith, some, lt));
     child = λ place row e. absurd (no_act main place.row place.act (Spawn row) e);
   };

@@ -46,7 +46,7 @@ module _ (h : History) (numbered : IsNumbered h) where
   same_way (suc n) zero place lt lt' = absurd (omega arith)
   same_way (suc n) (suc m) place lt lt' =
       ap (λ l. l ++ place.act ∷ []) (same_on (way_within n h) (way_within m h) place.row (row_at h place.row).parent refl
-        (λ up before. same_way n m up (omega (arith, before, lt)) (omega (arith, before, lt'))))
+      (λ up before. same_way n m up (omega (arith, before, lt)) (omega (arith, before, lt'))))
 
   -- a place is reached by its row's way and its own index
   pub way_is : (place : Place) → place.row < length h → way h place ≡ row_way place.row ++ place.act ∷ []

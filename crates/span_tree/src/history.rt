@@ -71,6 +71,15 @@ impl History {
         self.rows.get(place.row as usize)?.act(place.act)
     }
 
+    /// Whether an act stands there.
+    pub fn is_place(&self, place: Place) -> bool
+        ensures { IsTrue result ↔ IsPlace self.now place }
+    {
+        self.rows
+            .get(place.row as usize)
+            .is_some_and(|row| (place.act as usize) < row.len())
+    }
+
     /// Whether x is executed before y in every run: it is serially before y and not parallel to it.
     ///
     /// It takes time of the depth of the two rows.
@@ -142,7 +151,12 @@ impl History {
         let act = u32::try_from(self.rows[row as usize].len()).map_err(|_| AllocError)?;
         let parent = Some(Place { row, act });
         self.rows.push(Row::new(self.alloc, parent, proc, args))?;
-        if let Err(error) = append(&mut self.rows, &mut self.order, row, Act::Spawn { row: child }) {
+        if let Err(error) = append(
+            &mut self.rows,
+            &mut self.order,
+            row,
+            Act::Spawn { row: child },
+        ) {
             self.rows.pop();
             return Err(error);
         }
@@ -154,7 +168,11 @@ impl History {
         ensures { result ≡ is_access self.now word place }
     {
         match self.act(place) {
-            Some(Act::Read { word: at, .. } | Act::Write { word: at, .. } | Act::Add { word: at, .. }) => word == at,
+            Some(
+                Act::Read { word: at, .. }
+                | Act::Write { word: at, .. }
+                | Act::Add { word: at, .. },
+            ) => word == at,
             _ => false,
         }
     }
@@ -167,8 +185,14 @@ impl History {
         ensures numbered { IsNumbered self.now }
     {
         let _ = &self.rows;
-        let mut first = Branch { place: x, child: None };
-        let mut second = Branch { place: y, child: None };
+        let mut first = Branch {
+            place: x,
+            child: None,
+        };
+        let mut second = Branch {
+            place: y,
+            child: None,
+        };
         while first.place.row != second.place.row {
             if first.place.row > second.place.row {
                 first = self.branch_to(first.place.row);

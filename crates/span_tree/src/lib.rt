@@ -3,11 +3,18 @@
 
 mod act;
 mod history;
+mod laws;
 mod recording;
 mod row;
+#[cfg(test)]
+mod tests;
 
 pub use act::{Act, Place};
 pub use history::History;
+pub use laws::{
+    not_parallel_below, not_parallel_in_row, one_is_first, order_is_of_places,
+    parallel_is_symmetric, three_places,
+};
 pub use outside::Words as Args;
 pub use recording::Recording;
 pub use row::Row;

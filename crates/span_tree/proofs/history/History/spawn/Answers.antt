@@ -23,7 +23,7 @@ grown c =
     let number : c.in_ok-child.child ≡ length rows = search rules in
     let index : c.in_ok-act.act ≡ c.len-2.result = search rules in
     spawned rows places c.self.invariant c.args.row (runs c) c.args.proc c.args.args c.append.new.rows.items c.push.new.self.items c.new.result c.in_ok-act.act c.in_ok-child.child
-      c.in_ok-push.ensures.items c.new.ensures (index ∙ c.len-2.ensures.acts ∙ len_read rows c.args.row c.index.result.now row c.index.ensures) number c.in_default.ensures.rows
+    c.in_ok-push.ensures.items c.new.ensures (index ∙ c.len-2.ensures.acts ∙ len_read rows c.args.row c.index.result.now row c.index.ensures) number c.in_default.ensures.rows
 
 pub invariant_of-self-in_default : goal.invariant_of-self-in_default
 invariant_of-self-in_default c =
@@ -33,7 +33,7 @@ invariant_of-self-in_default c =
     let index : c.in_ok-act.act ≡ c.len-2.result = search rules in
     let few : length rows < 2 ^ 32 = search rules in
     spawned_kept rows places c.self.invariant c.args.row (runs c) c.args.proc c.args.args c.append.new.rows.items c.push.new.self.items c.append.new.order.items c.new.result c.in_ok-act.act
-      c.in_ok-push.ensures.items c.new.ensures (index ∙ c.len-2.ensures.acts ∙ len_read rows c.args.row c.index.result.now row c.index.ensures) (grown c) c.in_default.ensures.order few c.in_default.ensures.within
+    c.in_ok-push.ensures.items c.new.ensures (index ∙ c.len-2.ensures.acts ∙ len_read rows c.args.row c.index.result.now row c.index.ensures) (grown c) c.in_default.ensures.order few c.in_default.ensures.within
 
 pub returns-clause-ok : goal.returns-clause-ok
 returns-clause-ok c = grown c ∙ ap (with_child c.args.row c.args.proc c.args.args) c.self.view_is

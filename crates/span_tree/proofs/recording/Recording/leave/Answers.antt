@@ -16,10 +16,12 @@ unwrap-requires c = has_parent c.self.inside.history c.self.inside.row c.self.in
 pub invariant_of-self : goal.invariant_of-self
 invariant_of-self c =
     parent_runs c.self.inside.history c.self.inside.row c.self.invariant (λ e. c.requires (sym (ap (λ (r : Recorded). r.row) c.self.view_is) ∙ e)) c.index-rows-self.result
-      (c.index-rows-self.is ∙ ap (λ rows. get_or rows c.self.inside.row c.index-rows-self.result) c.rows.ensures.rows) c.parent.result c.unwrap.result c.parent.ensures c.unwrap.ensures
+    (c.index-rows-self.is ∙ ap (λ rows. get_or rows c.self.inside.row c.index-rows-self.result) c.rows.ensures.rows) c.parent.result c.unwrap.result c.parent.ensures c.unwrap.ensures
 
 pub returns-clause-parent : goal.returns-clause-parent
-returns-clause-parent c =
-    (c.unwrap.result.act, subst (λ (r : Recorded). (row_at r.history r.row).parent ≡ Some c.unwrap.result) c.self.view_is
+returns-clause-parent c = (
+  c.unwrap.result.act,
+  subst (λ (r : Recorded). (row_at r.history r.row).parent ≡ Some c.unwrap.result) c.self.view_is
       (parent_is c.self.inside.history c.self.inside.row c.self.invariant (λ e. c.requires (sym (ap (λ (r : Recorded). r.row) c.self.view_is) ∙ e)) c.index-rows-self.result
-        (c.index-rows-self.is ∙ ap (λ rows. get_or rows c.self.inside.row c.index-rows-self.result) c.rows.ensures.rows) c.parent.result c.unwrap.result c.parent.ensures c.unwrap.ensures))
+      (c.index-rows-self.is ∙ ap (λ rows. get_or rows c.self.inside.row c.index-rows-self.result) c.rows.ensures.rows) c.parent.result c.unwrap.result c.parent.ensures c.unwrap.ensures),
+)
