@@ -277,14 +277,14 @@ module _ (h : History) (numbered : IsNumbered h) (row : ℕ) (act : Act) (inside
   pub with_length : length with' ≡ length h
   with_length = length-set h row (record (row_at h row) { acts = (row_at h row).acts ++ act ∷ [] })
 
-  with_here : row_at with' row ≡ record (row_at h row) { acts = (row_at h row).acts ++ act ∷ [] }
+  pub with_here : row_at with' row ≡ record (row_at h row) { acts = (row_at h row).acts ++ act ∷ [] }
   with_here = get_or-set_same h row (record (row_at h row) { acts = (row_at h row).acts ++ act ∷ [] }) no_row inside
 
   pub with_other : (q : ℕ) → q ≢ row → row_at with' q ≡ row_at h q
   with_other q ne = get_or-set_other h row q (record (row_at h row) { acts = (row_at h row).acts ++ act ∷ [] }) no_row ne
 
   -- what an act leaves of a row
-  same_row : {A : Type 0} (f : Row → A) → f (record (row_at h row) { acts = (row_at h row).acts ++ act ∷ [] }) ≡ f (row_at h row) → (q : ℕ) → f (row_at with' q) ≡ f (row_at h q)
+  pub same_row : {A : Type 0} (f : Row → A) → f (record (row_at h row) { acts = (row_at h row).acts ++ act ∷ [] }) ≡ f (row_at h row) → (q : ℕ) → f (row_at with' q) ≡ f (row_at h q)
   same_row f e q = go (same_or q row)
     where
       go : (q ≡ row) ⊎ (q ≢ row) → f (row_at with' q) ≡ f (row_at h q)
@@ -294,7 +294,7 @@ module _ (h : History) (numbered : IsNumbered h) (row : ℕ) (act : Act) (inside
   pub with_parent : (q : ℕ) → (row_at with' q).parent ≡ (row_at h q).parent
   with_parent = same_row (λ (r : Row). r.parent) refl
 
-  with_args : (q : ℕ) → (row_at with' q).args ≡ (row_at h q).args
+  pub with_args : (q : ℕ) → (row_at with' q).args ≡ (row_at h q).args
   with_args = same_row (λ (r : Row). r.args) refl
 
   pub with_one : ((child : ℕ) → act ≡ Spawn child → length h ≤ child) → OneMore h with' row act

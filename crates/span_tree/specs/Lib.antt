@@ -4,5 +4,6 @@ pub mod Kept
 pub mod Laws
 pub mod Memory
 pub mod Parting
+pub mod Program
 pub mod Recording
 pub mod Steps

@@ -1,0 +1,4 @@
+pub mod Acting
+pub mod Elisions
+pub mod Growth
+pub mod Histories
