@@ -1,13 +1,12 @@
 -- The service makes its acts in serial order, and answers from the last writes.
-use Rattle.std.proofs.Common.{◌≡◌, ◌≢◌, ◌⊎◌, ℕ, zero, suc, ◌+◌, ◌<◌, ◌≤◌, List, [], ◌∷◌, ◌++◌, length, reverse, Option, Some, None, refl, sym, ap, ◌∙◌, subst, inl, inr, arith}
+use Rattle.std.proofs.Common.{◌≡◌, ◌⊎◌, ℕ, suc, List, [], ◌∷◌, ◌++◌, length, reverse, Some, None, refl, sym, ap, ◌∙◌, subst, inl, inr}
 use Rattle.std.proofs.lemmas.Bool.{eqb-true}
 use Rattle.std.proofs.lemmas.List.{reverse-append}
 use Rattle.std.proofs.lemmas.List.Elements.{filter_map-append}
 use Rattle.std.specs.List.{filter_map, cons_option}
 use Rattle.std.specs.Prelude.{ℤ, Bool, true, false, ◌==◌, ◌+ℤ◌, if◌then◌else◌, unwrap_or}
 use Rattle.cilk_meaning.specs.declared.ends.NodeEnd.{NodeEnd}
-use Rattle.cilk_meaning.specs.Instance.{Meaning}
-use Rattle.cilk_meaning.specs.Serve.{Entry, Parent, State, now, with_child, served, serve, first_state}
+use Rattle.cilk_meaning.specs.Serve.{State, now, served, serve, first_state}
 use Rattle.cilk_meaning.specs.Values.{fits}
 use Rattle.cilk_meaning.specs.Wants as wanted
 use Rattle.cilk_meaning.specs.Wants.{Request, Asks, Returns, Traps}
@@ -21,8 +20,8 @@ use Rattle.span_tree.specs.Memory.{IsAnsweredFrom, ReadsLastWrites, last_write, 
 use Rattle.span_tree.specs.Program.{Starts}
 use Rattle.span_tree.specs.Recording.{with_act, IsRunning, spawns_none}
 use Rattle.span_tree.proofs.Growing.{act_acts, child_acts}
-use Rattle.elision_history.specs.Logged.{act_in, act_of, logged}
-use Rattle.elision_history.proofs.Histories.{Inv, Kept, step_kept, return_kept, first_kept, invariant}
+use Rattle.elision_history.specs.Logged.{act_in, logged}
+use Rattle.elision_history.proofs.Histories.{Inv, step_kept, return_kept, first_kept}
 
 -- the acts of a log, in the order in which they were made
 abbrev pub acts_in : List Event → List Act
@@ -33,7 +32,7 @@ acts_in log = filter_map act_in (reverse log)
 one_more : (event : Event) (log : List Event) → acts_in (event ∷ log) ≡ acts_in log ++ cons_option (act_in event) []
 one_more event log = ap (filter_map act_in) (reverse-append (event ∷ []) log) ∙ filter_map-append act_in (reverse log) (event ∷ [])
 
-last_more : (word : ℕ) (value : ℤ) (acts : List Act) (act : Act) → last_write word value (acts ++ act ∷ []) ≡ unwrap_or (left_in word act) (last_write word value acts)
+pub last_more : (word : ℕ) (value : ℤ) (acts : List Act) (act : Act) → last_write word value (acts ++ act ∷ []) ≡ unwrap_or (left_in word act) (last_write word value acts)
 last_more word value [] act = refl
 last_more word value (first ∷ acts) act = last_more word (unwrap_or (left_in word first) value) acts act
 
@@ -74,14 +73,14 @@ module _ (start : ℕ → ℤ) where
     reads = reads_more start acts act is.reads answered;
   }
 
-wrote : (memory : ℕ → ℤ) (at : ℕ) (value : ℤ) (word : ℕ) → with_word at value memory word ≡ unwrap_or (left_in word (Write at value)) (memory word)
+pub wrote : (memory : ℕ → ℤ) (at : ℕ) (value : ℤ) (word : ℕ) → with_word at value memory word ≡ unwrap_or (left_in word (Write at value)) (memory word)
 wrote memory at value word = go (word == at)
   where
     go : (b : Bool) → (if b then value else memory word) ≡ unwrap_or (if b then Some value else None) (memory word)
     go true = refl
     go false = refl
 
-added : (memory : ℕ → ℤ) (at : ℕ) (addend : ℤ) (word : ℕ) → with_word at (sum_or_old (memory at) addend) memory word ≡ unwrap_or (left_in word (Add at (memory at) addend)) (memory word)
+pub added : (memory : ℕ → ℤ) (at : ℕ) (addend : ℤ) (word : ℕ) → with_word at (sum_or_old (memory at) addend) memory word ≡ unwrap_or (left_in word (Add at (memory at) addend)) (memory word)
 added memory at addend word = go (word == at) refl
   where
     sum : (b : Bool) → word ≡ at → (if b then memory at +ℤ addend else memory at) ≡ unwrap_or (if b then Some (memory at +ℤ addend) else None) (memory word)
@@ -160,7 +159,7 @@ module _ (starts : Starts) (main : ℕ) (start : ℕ → ℤ) where
           words_more s.world.memory (with_word word value s.world.memory) s.world.log (world.Acts s.running.row (world.Write word value)) (Write word value) refl good.answers tt (wrote s.world.memory word value)
       answers (wanted.Add word addend) =
           words_more s.world.memory (with_word word (sum_or_old (s.world.memory word) addend) s.world.memory) s.world.log (world.Acts s.running.row (world.Add word (s.world.memory word) addend)) (Add word (s.world.memory word) addend) refl
-            good.answers (good.answers.holds word) (added s.world.memory word addend)
+          good.answers (good.answers.holds word) (added s.world.memory word addend)
       answers (wanted.Print value) = words_more s.world.memory s.world.memory s.world.log (world.Acts s.running.row (world.Print value)) (Print value) refl good.answers tt (λ w. refl)
       answers (wanted.Spawn target f vs) = words_more s.world.memory s.world.memory s.world.log (world.Acts s.running.row (world.Spawn s.world.rows f vs)) (Spawn s.world.rows) refl good.answers tt (λ w. refl)
       answers wanted.Sync = words_more s.world.memory s.world.memory s.world.log (world.Acts s.running.row world.Sync) Sync refl good.answers tt (λ w. refl)
@@ -180,8 +179,10 @@ module _ (starts : Starts) (main : ℕ) (start : ℕ → ℤ) where
   pub service_done : (budget : ℕ) → Done (serve starts budget (first_state starts main start))
   service_done budget =
       serve_keeps starts Good Done good_kept budget (first_state starts main start) (record {
-        kept = first_kept starts main start; acts = refl;
-        answers = record { holds = λ word. refl; reads = λ front back act e. absurd (nothing front back act e) } })
+        kept = first_kept starts main start;
+        acts = refl;
+        answers = record { holds = λ word. refl; reads = λ front back act e. absurd (nothing front back act e) };
+      })
     where
       nothing : (front back : List Act) (act : Act) → [] ≡ front ++ act ∷ back → ⊥
       nothing [] back act e = cc

@@ -1,21 +1,18 @@
 -- What holds of services holds of the serial elision.
-use Rattle.std.proofs.Common.{◌≡◌, ◌≢◌, ℕ, List, length, reverse, refl, sym, ap, ◌∙◌, subst}
+use Rattle.std.proofs.Common.{◌≡◌, ℕ, reverse, sym, ap, ◌∙◌, subst}
 use Rattle.std.specs.List.{filter_map}
 use Rattle.std.specs.Prelude.{ℤ}
 use Rattle.cilk_meaning.specs.declared.ends.NodeEnd.TheVariants.{Finished}
 use Rattle.cilk_meaning.specs.Elision.{elision_within}
 use Rattle.cilk_meaning.specs.Instance.{Limits, wants_within}
 use Rattle.cilk_meaning.specs.Resolved.{Program}
-use Rattle.cilk_meaning.specs.Serve.{serve, first_state}
-use Rattle.cilk_meaning.specs.World as world
 use Rattle.cilk_meaning.specs.World.{End}
 use Rattle.cilk_meaning.proofs.Elisions.{elision_is_service}
-use Rattle.span_tree.specs.History.{History, serial_acts}
-use Rattle.span_tree.specs.Memory.{ReadsLastWrites, ReadsSerially, last_write, output_of, printed_by}
-use Rattle.span_tree.specs.Program.{IsComplete, IsHistory, IsHistoryWith}
-use Rattle.elision_history.specs.Laws.{ActsInOrder, ElisionIsHistory, ElisionReadsSerially, MemoryIsLastWrites}
-use Rattle.elision_history.specs.Logged.{acts_made, history_of, logged}
-use Rattle.elision_history.proofs.Acting.{acts_in, Done, service_done, printed_alike}
+use Rattle.span_tree.specs.Memory.{ReadsLastWrites, last_write, printed_by}
+use Rattle.elision_history.specs.Laws.{ActsInOrder, CompleteIsElision, ElisionIsHistory, ElisionReadsSerially, MemoryIsLastWrites}
+use Rattle.elision_history.specs.Logged.{history_of}
+use Rattle.elision_history.proofs.Acting.{Done, service_done, printed_alike}
+use Rattle.elision_history.proofs.Simulation.{Replayed, replayed}
 use Rattle.elision_history.proofs.Histories.{Told, service_told}
 
 module _ (most : Limits) (program : Program) (memory : ℕ → ℤ) (budget : ℕ) where
@@ -50,3 +47,10 @@ pub memory_is_last_writes : MemoryIsLastWrites
 memory_is_last_writes most program memory budget word =
     let d = done most program memory budget in
     d.holds word ∙ ap (last_write word (memory word)) (sym d.acts)
+
+pub complete_is_elision : CompleteIsElision
+complete_is_elision most program memory history complete reads =
+    let starts = wants_within most program in
+    let r : Replayed starts program.main history complete.0 complete.1 complete.2 memory reads = replayed starts program.main history complete.0 complete.1 complete.2 memory reads in
+    let is : elision_within most program memory r.ticks ≡ r.end = elision_is_service most program memory r.ticks ∙ r.is_end in
+    (r.ticks, subst (λ (e : End). e.end ≡ Finished) (sym is) r.finished, ap (λ (e : End). history_of program e) is ∙ r.tells)

@@ -1,12 +1,12 @@
 -- What stays of a history that grows: the alone runs and depths of its rows.
-use Rattle.std.proofs.Common.{◌≡◌, ◌≢◌, ◌⊎◌, ℕ, zero, suc, ◌+◌, ◌<◌, ◌≤◌, List, [], ◌∷◌, ◌++◌, length, Option, Some, None, refl, sym, ap, ◌∙◌, subst, inl, inr, arith}
+use Rattle.std.proofs.Common.{◌≡◌, ◌⊎◌, ℕ, ◌<◌, ◌≤◌, List, [], ◌∷◌, length, Option, Some, None, refl, sym, ap, ◌∙◌, subst, inl, inr}
 use Rattle.std.proofs.lemmas.Bool.{cases_lt}
 use Rattle.std.specs.Prelude.{ℤ}
 use Rattle.cilk_meaning.specs.Instance.{Meaning}
-use Rattle.cilk_meaning.specs.Wants.{Request, Deposit, Answer, Done}
+use Rattle.cilk_meaning.specs.Wants.{Request, Deposit, Answer}
 use Rattle.span_tree.specs.declared.act.Act.{Act}
 use Rattle.span_tree.specs.declared.act.Place.{Place}
-use Rattle.span_tree.specs.History.{Row, History, IsNumbered, row_at}
+use Rattle.span_tree.specs.History.{Row, History, row_at}
 use Rattle.span_tree.specs.Program.{Block, HaveReturned, IsChild, IsAnswered, Read, Write, Add, Print, Spawn, Sync, AloneRun, Begins, Ticks, Acts, HasDepth, Main, Child, Starts, IsRowOf}
 use Rattle.span_tree.proofs.Ways.{none_is, no_row_past}
 
@@ -51,7 +51,7 @@ module _ (h more : History) (returned returned' : ℕ → Option ℤ) (grows : G
   run_grows row begin _ _ _ (Ticks acts block goes run quiet) = Ticks acts block goes (run_grows row begin acts block goes run) quiet
   run_grows row begin _ _ _ (Acts acts block behind goes request made answer run is answered) =
       Acts acts block behind goes request made answer (run_grows row begin acts block goes run) is
-        (answered_grows (record { row = row; act = length acts }) request made answer block behind answered)
+      (answered_grows (record { row = row; act = length acts }) request made answer block behind answered)
 
   pub depth_grows : (row depth : ℕ) → HasDepth h row depth → HasDepth more row depth
   depth_grows _ _ Main = Main
@@ -70,7 +70,9 @@ module _ (h more : History) (returned returned' : ℕ → Option ℤ) (grows : G
   pub row_grows : (starts : Starts) (row : ℕ) → row < length h → (row_at more row).acts ≡ (row_at h row).acts → returned' row ≡ returned row →
       IsRowOf starts h returned row → IsRowOf starts more returned' row
   row_grows starts row lt same value is = record {
-    depth = is.depth; block = is.block; goes = is.goes;
+    depth = is.depth;
+    block = is.block;
+    goes = is.goes;
     has_depth = depth_grows row is.depth is.has_depth;
     alone_run = subst (λ acts. AloneRun more returned' row (starts is.depth (row_at more row).proc (row_at more row).args) acts is.block is.goes) (sym same)
         (begin_grows starts row is.depth (row_at h row).acts is.block is.goes lt is.alone_run);

@@ -1,28 +1,25 @@
 -- The service of instances makes a history: what its log tells has each row's alone run.
-use Rattle.std.proofs.Common.{◌≡◌, ◌≢◌, ◌⊎◌, ℕ, zero, suc, ◌+◌, ◌<◌, ◌≤◌, List, [], ◌∷◌, ◌++◌, length, Option, Some, None, refl, sym, ap, ◌∙◌, subst, inl, inr, arith}
+use Rattle.std.proofs.Common.{◌≡◌, ◌≢◌, ◌⊎◌, ℕ, suc, ◌<◌, ◌≤◌, List, [], ◌∷◌, ◌++◌, length, Option, Some, None, refl, sym, ap, ◌∙◌, subst, inl, inr, arith}
 use Rattle.std.proofs.lemmas.Bool.{eqb-true, eqb-false}
 use Rattle.std.specs.Prelude.{ℤ, Bool, true, false, ◌==◌, if◌then◌else◌}
 use Rattle.cilk_meaning.specs.declared.ends.NodeEnd.TheVariants.{Finished, Trapped, Budget}
-use Rattle.cilk_meaning.specs.declared.ends.TrapKind.{TrapKind}
-use Rattle.cilk_meaning.specs.Instance.{Meaning}
 use Rattle.cilk_meaning.specs.Serve.{Entry, Parent, State, now, after, answered, with_child, served, serve, first_state}
 use Rattle.cilk_meaning.specs.Wants as wanted
 use Rattle.cilk_meaning.specs.Wants.{Request, Asks, Returns, Traps, Deposit, Answer, Value, Children, Done}
-use Rattle.cilk_meaning.specs.World as world
-use Rattle.cilk_meaning.specs.World.{World, End, Event}
+use Rattle.cilk_meaning.specs.World.{End}
 use Rattle.cilk_meaning.proofs.Keeps.{IsInvariant, serve_keeps}
 use Rattle.span_tree.specs.declared.act.Act.{Act}
 use Rattle.span_tree.specs.declared.act.Act.TheVariants as act
 use Rattle.span_tree.specs.declared.act.Place.{Place}
-use Rattle.span_tree.specs.History.{Row, History, IsNumbered, row_at}
+use Rattle.span_tree.specs.History.{Row, History, row_at}
 use Rattle.span_tree.specs.Program.{Block, HaveReturned, IsChild, IsAnswered, Read, Write, Add, Print, Spawn, Sync, IsQuiet, AloneRun, Begins, Ticks, Acts, HasDepth, Main, Child, Starts, IsRowOf, IsHistoryWith}
 use Rattle.span_tree.specs.Recording as recording
 use Rattle.span_tree.specs.Recording.{first_history, with_act, next_place, child_row, IsRunning, spawns_none}
 use Rattle.span_tree.proofs.Ways.{some_same, none_is}
 use Rattle.span_tree.proofs.Growing.{OneMore, same_or, open_inside, with_length, with_here, with_other, same_row, child_length, new_row, old_row, one'}
 use Rattle.span_tree.proofs.Running.{open_parent, act_runs, child_runs, first_runs}
-use Rattle.elision_history.specs.Logged.{logged, after_event}
-use Rattle.elision_history.proofs.Growth.{Grows, is_there, returned_grows, run_grows, depth_grows, begin_grows, row_grows}
+use Rattle.elision_history.specs.Logged.{logged}
+use Rattle.elision_history.proofs.Growth.{Grows, returned_grows, run_grows, depth_grows, begin_grows, row_grows}
 
 -- ---- values that were returned
 
@@ -46,7 +43,7 @@ value_there returned row q v ne = go (q == row) refl
     go true e = absurd (ne (eqb-true q row e))
     go false e = refl
 
-returned_more : (returned : Values) (block : Block) (ds : List Deposit) (t : Option ℕ) (c : ℕ) (v : ℤ) → HaveReturned returned block ds → returned c ≡ Some v → HaveReturned returned (block ++ (t, c) ∷ []) (ds ++ (t, v) ∷ [])
+pub returned_more : (returned : Values) (block : Block) (ds : List Deposit) (t : Option ℕ) (c : ℕ) (v : ℤ) → HaveReturned returned block ds → returned c ≡ Some v → HaveReturned returned (block ++ (t, c) ∷ []) (ds ++ (t, v) ∷ [])
 returned_more returned [] [] t c v is e = (refl, e, tt)
 returned_more returned [] (d ∷ ds) t c v is e = absurd is
 returned_more returned (b ∷ block) [] t c v is e = absurd is
@@ -101,7 +98,13 @@ module _ (starts : Starts) (main : ℕ) where
 
   top_row : (h : History) (returned : Values) (e : Entry) (depth : ℕ) → Top h returned e depth → IsRowOf starts h returned e.row
   top_row h returned e depth t = record {
-    depth = depth; block = t.block; goes = e.goes; has_depth = t.has_depth; alone_run = t.alone_run; returns = λ v is. absurd (none_is (returned e.row) v t.unreturned is) }
+    depth = depth;
+    block = t.block;
+    goes = e.goes;
+    has_depth = t.has_depth;
+    alone_run = t.alone_run;
+    returns = λ v is. absurd (none_is (returned e.row) v t.unreturned is);
+  }
 
   wait_grows : (h more : History) (returned returned' : Values) → Grows h more returned returned' → (child : ℕ) (ps : List Parent) → child < length h →
       ((q : ℕ) → q < child → (row_at more q).acts ≡ (row_at h q).acts) → ((q : ℕ) → q < child → returned' q ≡ returned q) → AllWait h returned child ps → AllWait more returned' child ps
@@ -110,17 +113,19 @@ module _ (starts : Starts) (main : ℕ) where
       let w = is.0 in
       let q = p.entry.row in
       let up : q < child = w.before in
-      let inside : q < length h = omega (arith, up, lt) in
-      (record {
-        parent = (w.parent.0, grows.parent child lt ∙ w.parent.1, w.parent.2);
-        before = up;
-        block = w.block;
-        has_depth = depth_grows h more returned returned' grows q (length ps) w.has_depth;
-        alone_run = subst (λ acts. AloneRun more returned' q (starts (length ps) (row_at more q).proc (row_at more q).args) acts (w.block ++ (p.target, child) ∷ []) p.entry.goes) (sym (same q up))
-            (begin_grows h more returned returned' grows starts q (length ps) (row_at h q).acts (w.block ++ (p.target, child) ∷ []) p.entry.goes inside w.alone_run);
-        kept = returned_grows h more returned returned' grows w.block p.entry.kept w.kept;
-        unreturned = value q up ∙ w.unreturned },
-       wait_grows h more returned returned' grows q ps inside (λ r l. same r (omega (arith, l, up))) (λ r l. value r (omega (arith, l, up))) is.1)
+      let inside : q < length h = omega (arith, up, lt) in (
+        record {
+          parent = (w.parent.0, grows.parent child lt ∙ w.parent.1, w.parent.2);
+          before = up;
+          block = w.block;
+          has_depth = depth_grows h more returned returned' grows q (length ps) w.has_depth;
+          alone_run = subst (λ acts. AloneRun more returned' q (starts (length ps) (row_at more q).proc (row_at more q).args) acts (w.block ++ (p.target, child) ∷ []) p.entry.goes) (sym (same q up))
+              (begin_grows h more returned returned' grows starts q (length ps) (row_at h q).acts (w.block ++ (p.target, child) ∷ []) p.entry.goes inside w.alone_run);
+          kept = returned_grows h more returned returned' grows w.block p.entry.kept w.kept;
+          unreturned = value q up ∙ w.unreturned;
+        },
+        wait_grows h more returned returned' grows q ps inside (λ r l. same r (omega (arith, l, up))) (λ r l. value r (omega (arith, l, up))) is.1,
+      )
 
   -- ---- one act more of the row that runs
 
@@ -128,9 +133,9 @@ module _ (starts : Starts) (main : ℕ) where
   act_grows h row running a returned =
       let inside = open_inside h running.numbered row running.runs in
       record {
-        parent = λ q lt. same_row h running.numbered row a inside (λ (r : Row). r.parent) refl q;
-        proc = λ q lt. same_row h running.numbered row a inside (λ (r : Row). r.proc) refl q;
-        args = λ q lt. same_row h running.numbered row a inside (λ (r : Row). r.args) refl q;
+        parent = λ q lt. same_row h row a inside (λ (r : Row). r.parent) refl q;
+        proc = λ q lt. same_row h row a inside (λ (r : Row). r.proc) refl q;
+        args = λ q lt. same_row h row a inside (λ (r : Row). r.args) refl q;
         stays = λ q v is. is;
       }
 
@@ -143,7 +148,7 @@ module _ (starts : Starts) (main : ℕ) where
 
     -- an act that spawns nothing
     module _ (a : Act) (plain : spawns_none a ≡ true) (answer : Answer) (behind : Block) (more : List Deposit)
-             (is_answered : IsAnswered (with_act e.row a h) returned (next_place e.row h) request a answer kept.top.block behind) (have : HaveReturned returned behind more) where
+        (is_answered : IsAnswered (with_act e.row a h) returned (next_place e.row h) request a answer kept.top.block behind) (have : HaveReturned returned behind more) where
       abbrev next : History
       next = with_act e.row a h
 
@@ -151,13 +156,13 @@ module _ (starts : Starts) (main : ℕ) where
       grows = act_grows h e.row kept.running a returned
 
       size' : length next ≡ length h
-      size' = with_length h kept.running.numbered e.row a inside
+      size' = with_length h e.row a inside
 
       here : (row_at next e.row).acts ≡ (row_at h e.row).acts ++ a ∷ []
-      here = ap (λ (r : Row). r.acts) (with_here h kept.running.numbered e.row a inside)
+      here = ap (λ (r : Row). r.acts) (with_here h e.row a inside)
 
       others : (q : ℕ) → q ≢ e.row → (row_at next q).acts ≡ (row_at h q).acts
-      others q ne = ap (λ (r : Row). r.acts) (with_other h kept.running.numbered e.row a inside q ne)
+      others q ne = ap (λ (r : Row). r.acts) (with_other h e.row a inside q ne)
 
       top' : Top next returned (answered answer more e) (length ps)
       top' = record {
@@ -165,7 +170,7 @@ module _ (starts : Starts) (main : ℕ) where
         has_depth = depth_grows h next returned returned grows e.row (length ps) kept.top.has_depth;
         alone_run = subst (λ acts. AloneRun next returned e.row (starts (length ps) (row_at next e.row).proc (row_at next e.row).args) acts behind (after e.goes answer)) (sym here)
             (Acts (row_at h e.row).acts kept.top.block behind e.goes request a answer
-              (begin_grows h next returned returned grows starts e.row (length ps) (row_at h e.row).acts kept.top.block e.goes inside kept.top.alone_run) is is_answered);
+            (begin_grows h next returned returned grows starts e.row (length ps) (row_at h e.row).acts kept.top.block e.goes inside kept.top.alone_run) is is_answered);
         kept = have;
         unreturned = kept.top.unreturned;
       }
@@ -189,9 +194,19 @@ module _ (starts : Starts) (main : ℕ) where
 
     pub quiet_kept : (request ≡ wanted.Call) ⊎ (request ≡ wanted.LoopTurn) → Kept h (answered Done e.kept e) ps rows
     quiet_kept which = record {
-      returned = returned; running = kept.running; size = kept.size; main_is = kept.main_is; none_new = kept.none_new; out = kept.out; all = kept.all; wait = kept.wait;
+      returned = returned;
+      running = kept.running;
+      size = kept.size;
+      main_is = kept.main_is;
+      none_new = kept.none_new;
+      out = kept.out;
+      all = kept.all;
+      wait = kept.wait;
       top = record {
-        block = kept.top.block; has_depth = kept.top.has_depth; kept = kept.top.kept; unreturned = kept.top.unreturned;
+        block = kept.top.block;
+        has_depth = kept.top.has_depth;
+        kept = kept.top.kept;
+        unreturned = kept.top.unreturned;
         alone_run = Ticks (row_at h e.row).acts kept.top.block e.goes kept.top.alone_run (quiet which);
       };
     }
@@ -219,17 +234,17 @@ module _ (starts : Starts) (main : ℕ) where
     parent = record { entry = answered Done e.kept e; target = target }
 
     size'' : length grown ≡ suc (length h)
-    size'' = child_length h kept.running.numbered e.row f vs kept.running.runs
+    size'' = child_length h e.row f vs inside''
 
     one : OneMore h grown e.row (act.Spawn (length h))
-    one = one' h kept.running.numbered e.row f vs kept.running.runs
+    one = one' h e.row f vs inside''
 
     born : row_at grown (length h) ≡ child_row e.row f vs h
-    born = new_row h kept.running.numbered e.row f vs kept.running.runs
+    born = new_row h e.row f vs inside''
 
     same_head : {A : Type 0} (g : Row → A) → g (record (row_at h e.row) { acts = (row_at h e.row).acts ++ act.Spawn (length h) ∷ [] }) ≡ g (row_at h e.row) → (q : ℕ) → q < length h → g (row_at grown q) ≡ g (row_at h q)
     same_head g same q lt =
-        ap g (old_row h kept.running.numbered e.row f vs kept.running.runs q lt) ∙ same_row h kept.running.numbered e.row (act.Spawn (length h)) inside'' g same q
+        ap g (old_row h e.row f vs inside'' q lt) ∙ same_row h e.row (act.Spawn (length h)) inside'' g same q
 
     grows'' : Grows h grown returned'' returned''
     grows'' = record {
@@ -250,8 +265,8 @@ module _ (starts : Starts) (main : ℕ) where
       has_depth = depth_grows h grown returned'' returned'' grows'' e.row (length ps) kept.top.has_depth;
       alone_run = subst (λ acts. AloneRun grown returned'' e.row (starts (length ps) (row_at grown e.row).proc (row_at grown e.row).args) acts (kept.top.block ++ (target, length h) ∷ []) (after e.goes Done)) (sym one.here)
           (Acts (row_at h e.row).acts kept.top.block (kept.top.block ++ (target, length h) ∷ []) e.goes (wanted.Spawn target f vs) (act.Spawn (length h)) Done
-            (begin_grows h grown returned'' returned'' grows'' starts e.row (length ps) (row_at h e.row).acts kept.top.block e.goes inside'' kept.top.alone_run) is
-            (Spawn target f vs (length h) kept.top.block is_child));
+          (begin_grows h grown returned'' returned'' grows'' starts e.row (length ps) (row_at h e.row).acts kept.top.block e.goes inside'' kept.top.alone_run) is
+          (Spawn target f vs (length h) kept.top.block is_child));
       kept = returned_grows h grown returned'' returned'' grows'' kept.top.block e.kept kept.top.kept;
       unreturned = kept.top.unreturned;
     }
@@ -268,8 +283,13 @@ module _ (starts : Starts) (main : ℕ) where
     row'' : (q : ℕ) → q < length grown → (q ≡ e.row) ⊎ (q ≢ e.row) → (q ≡ length h) ⊎ (q ≢ length h) → IsRowOf starts grown returned'' q
     row'' q lt mine (inl same) = subst (λ r. IsRowOf starts grown returned'' r) (sym same) (top_row grown returned'' child (suc (length ps)) top'')
     row'' q lt (inl same) (inr ne) = subst (λ r. IsRowOf starts grown returned'' r) (sym same) (record {
-      depth = length ps; block = waits.block ++ (target, length h) ∷ []; goes = after e.goes Done; has_depth = waits.has_depth; alone_run = waits.alone_run;
-      returns = λ v is'. absurd (none_is (returned'' e.row) v kept.top.unreturned is') })
+      depth = length ps;
+      block = waits.block ++ (target, length h) ∷ [];
+      goes = after e.goes Done;
+      has_depth = waits.has_depth;
+      alone_run = waits.alone_run;
+      returns = λ v is'. absurd (none_is (returned'' e.row) v kept.top.unreturned is');
+    })
     row'' q lt (inr apart) (inr ne) =
         let lt' : q < length h = omega (arith, lt, ne, size'') in
         row_grows h grown returned'' returned'' grows'' starts q lt' (one.others q apart) refl (kept.all q lt')
@@ -309,9 +329,13 @@ module _ (starts : Starts) (main : ℕ) where
 
     row_back : (q : ℕ) → q < length h → (q ≡ e.row) ⊎ (q ≢ e.row) → IsRowOf starts h new q
     row_back q lt (inl same) = subst (λ r. IsRowOf starts h new r) (sym same) (record {
-      depth = length ps; block = kept.top.block; goes = e.goes; has_depth = kept.top.has_depth;
+      depth = length ps;
+      block = kept.top.block;
+      goes = e.goes;
+      has_depth = kept.top.has_depth;
       alone_run = run_grows h h old new value_grows e.row _ _ kept.top.block e.goes kept.top.alone_run;
-      returns = λ w there. is ∙ ap (λ x. Some (Returns x)) (some_same v w (sym (value_here old e.row e.row v refl) ∙ there)) })
+      returns = λ w there. is ∙ ap (λ x. Some (Returns x)) (some_same v w (sym (value_here old e.row e.row v refl) ∙ there));
+    })
     row_back q lt (inr ne) = row_grows h h old new value_grows starts q lt refl (value_there old e.row q v ne) (kept.all q lt)
 
     out_back : (q : ℕ) → q < length h → new q ≡ None → (q ≡ e.row) ⊎ (q ≢ e.row) → IsWaiting q ps
@@ -334,7 +358,8 @@ module _ (starts : Starts) (main : ℕ) where
         returned = next;
         running = record {
           numbered = kept.running.numbered;
-          runs = subst (λ r. recording.IsOpen h r) w.parent.2 (open_parent h e.row w.parent.0 (λ zero. omega (arith, zero, up)) w.parent.1 kept.running.runs) };
+          runs = subst (λ r. recording.IsOpen h r) w.parent.2 (open_parent h e.row w.parent.0 (λ zero. omega (arith, zero, up)) w.parent.1 kept.running.runs);
+        };
         size = kept.size;
         main_is = kept.main_is;
         none_new = λ q le. value_there kept.returned e.row q v (λ same. omega (arith, same, le, inside)) ∙ kept.none_new q le;
@@ -345,7 +370,8 @@ module _ (starts : Starts) (main : ℕ) where
           has_depth = w.has_depth;
           alone_run = run_grows h h kept.returned next grows p.entry.row _ _ _ p.entry.goes w.alone_run;
           kept = returned_more next w.block p.entry.kept p.target e.row v (returned_grows h h kept.returned next grows w.block p.entry.kept w.kept) (value_here kept.returned e.row e.row v refl);
-          unreturned = apart p.entry.row up ∙ w.unreturned };
+          unreturned = apart p.entry.row up ∙ w.unreturned;
+        };
         wait = wait_grows h h kept.returned next grows p.entry.row ps (omega (arith, up, inside)) (λ q lt. refl) (λ q lt. apart q (omega (arith, lt, up))) kept.wait.1;
       }
 
@@ -354,18 +380,18 @@ module _ (starts : Starts) (main : ℕ) where
   pub step_kept : (left : ℕ) (s : State) (request : Request) → now s.running.goes ≡ Some (Asks request) → Inv (suc left) s → Inv left (served starts request s)
   step_kept left s (wanted.Read word) is kept =
       act_kept (logged main s.world.log) s.running s.waiting s.world.rows kept (wanted.Read word) is (act.Read word (s.world.memory word)) refl (Value (s.world.memory word)) kept.top.block s.running.kept
-        (Read word (s.world.memory word) kept.top.block) kept.top.kept
+      (Read word (s.world.memory word) kept.top.block) kept.top.kept
   step_kept left s (wanted.Write word value) is kept =
       act_kept (logged main s.world.log) s.running s.waiting s.world.rows kept (wanted.Write word value) is (act.Write word value) refl Done kept.top.block s.running.kept (Write word value kept.top.block) kept.top.kept
   step_kept left s (wanted.Add word addend) is kept =
       act_kept (logged main s.world.log) s.running s.waiting s.world.rows kept (wanted.Add word addend) is (act.Add word (s.world.memory word) addend) refl (Value (s.world.memory word)) kept.top.block s.running.kept
-        (Add word (s.world.memory word) addend kept.top.block) kept.top.kept
+      (Add word (s.world.memory word) addend kept.top.block) kept.top.kept
   step_kept left s (wanted.Print value) is kept =
       act_kept (logged main s.world.log) s.running s.waiting s.world.rows kept (wanted.Print value) is (act.Print value) refl Done kept.top.block s.running.kept (Print value kept.top.block) kept.top.kept
   step_kept left s (wanted.Spawn target f vs) is kept =
       subst (λ n. Kept (recording.with_child s.running.row f vs (logged main s.world.log)) (record { goes = starts (suc (length s.waiting)) f vs; row = n; kept = [] })
-          (record { entry = answered Done s.running.kept s.running; target = target } ∷ s.waiting) (suc s.world.rows)) (sym kept.size)
-        (spawn_kept (logged main s.world.log) s.running s.waiting s.world.rows kept target f vs is)
+      (record { entry = answered Done s.running.kept s.running; target = target } ∷ s.waiting) (suc s.world.rows)) (sym kept.size)
+      (spawn_kept (logged main s.world.log) s.running s.waiting s.world.rows kept target f vs is)
   step_kept left s wanted.Sync is kept =
       act_kept (logged main s.world.log) s.running s.waiting s.world.rows kept wanted.Sync is act.Sync refl (Children s.running.kept) [] [] (Sync kept.top.block s.running.kept kept.top.kept) tt
   step_kept left s wanted.Call is kept = quiet_kept (logged main s.world.log) s.running s.waiting s.world.rows kept wanted.Call is (inl refl)
@@ -382,7 +408,8 @@ module _ (starts : Starts) (main : ℕ) where
     finished = λ left e v w is kept. record {
       returned = with_value e.row v kept.returned;
       history = record { numbered = kept.running.numbered; main_is = kept.main_is; rows = λ q lt. row_back (logged main w.log) e [] w.rows kept v is q lt (same_or q e.row) };
-      complete = λ f q lt none. out_back (logged main w.log) e [] w.rows kept v is q lt none (same_or q e.row) };
+      complete = λ f q lt none. out_back (logged main w.log) e [] w.rows kept v is q lt none (same_or q e.row);
+    };
     returned = λ left e p ps v w is kept. return_kept (logged main w.log) e p ps w.rows kept v is;
     step = step_kept;
   }
@@ -390,12 +417,15 @@ module _ (starts : Starts) (main : ℕ) where
   pub first_kept : (memory : ℕ → ℤ) → Inv 0 (first_state starts main memory)
   first_kept memory = record {
     returned = λ q. None;
-    running = first_runs main; size = refl; main_is = refl;
+    running = first_runs main;
+    size = refl;
+    main_is = refl;
     none_new = λ q le. refl;
     out = λ q lt none. inl (omega (arith, lt));
     all = λ q lt. subst (λ r. IsRowOf starts (first_history main) (λ q. None) r) (let zero : 0 ≡ q = omega (arith, lt) in zero)
         (top_row (first_history main) (λ q. None) (record { goes = starts 0 main []; row = 0; kept = [] }) 0 top);
-    top = top; wait = tt;
+    top = top;
+    wait = tt;
   }
     where
       top : Top (first_history main) (λ q. None) (record { goes = starts 0 main []; row = 0; kept = [] }) 0

@@ -270,7 +270,7 @@ module _ (h : History) (numbered : IsNumbered h) (more : History) (row : ℕ) (a
 
 -- ---- what recording makes
 
-module _ (h : History) (numbered : IsNumbered h) (row : ℕ) (act : Act) (inside : row < length h) where
+module _ (h : History) (row : ℕ) (act : Act) (inside : row < length h) where
   abbrev with' : History
   with' = with_act row act h
 
@@ -334,7 +334,7 @@ module _ (h : History) (numbered : IsNumbered h) (row : ℕ) (act : Act) (runs :
   inside = open_inside h numbered row runs
 
   abbrev one : OneMore h (with_act row act h) row act
-  one = with_one h numbered row act inside (λ child e. absurd (spawns_nothing act child plain e))
+  one = with_one h row act inside (λ child e. absurd (spawns_nothing act child plain e))
 
   pub act_order : serial_order (with_act row act h) ≡ serial_order h ++ next_place row h ∷ []
   act_order = order_more h numbered (with_act row act h) row act one runs
@@ -344,7 +344,7 @@ module _ (h : History) (numbered : IsNumbered h) (row : ℕ) (act : Act) (runs :
 
   keeps_parent : (q : ℕ) (place : Place) → IsParent h q place → IsParent (with_act row act h) q place
   keeps_parent q place is = record {
-    named = with_parent h numbered row act inside q ∙ is.named;
+    named = with_parent h row act inside q ∙ is.named;
     spawns = old_act h numbered (with_act row act h) row act one place (Spawn q) is.spawns;
     before = is.before;
   }
@@ -352,8 +352,8 @@ module _ (h : History) (numbered : IsNumbered h) (row : ℕ) (act : Act) (runs :
   pub act_numbered : IsNumbered (with_act row act h)
   act_numbered = record {
     some = omega (arith, size, numbered.some);
-    main = with_parent h numbered row act inside 0 ∙ numbered.main;
-    main_args = with_args h numbered row act inside 0 ∙ numbered.main_args;
+    main = with_parent h row act inside 0 ∙ numbered.main;
+    main_args = with_args h row act inside 0 ∙ numbered.main_args;
     parent = λ q some lt. (let up = numbered.parent q some (omega (arith, lt, size)) in (up.0, keeps_parent q up.0 up.1));
     child = λ place q e. child place q (act_cases h numbered (with_act row act h) row act one place (Spawn q) e);
     preorder = ap (λ l. 0 ∷ filter_map spawned_by l) act_acts ∙ ap (λ l. 0 ∷ l) (spawned_more (serial_acts h) act None (spawned_none act plain) ∙ append-nil (filter_map spawned_by (serial_acts h)))
@@ -361,17 +361,14 @@ module _ (h : History) (numbered : IsNumbered h) (row : ℕ) (act : Act) (runs :
   }
     where
       size : length (with_act row act h) ≡ length h
-      size = with_length h numbered row act inside
+      size = with_length h row act inside
 
       child : (place : Place) (q : ℕ) → (act_at h place ≡ Some (Spawn q)) ⊎ ((place ≡ next_place row h) × (act ≡ Spawn q)) → (q < length (with_act row act h)) × IsParent (with_act row act h) q place
       child place q (inl e) = let c = numbered.child place q e in (omega (arith, c.0, size), keeps_parent q place c.1)
       child place q (inr e) = absurd (spawns_nothing act q plain e.1)
 
--- a spawn
-module _ (h : History) (numbered : IsNumbered h) (row proc : ℕ) (args : List ℤ) (runs : IsOpen h row) where
-  abbrev inside' : row < length h
-  inside' = open_inside h numbered row runs
-
+-- the child's row
+module _ (h : History) (row proc : ℕ) (args : List ℤ) (inside' : row < length h) where
   abbrev act' : Act
   act' = Spawn (length h)
 
@@ -382,7 +379,7 @@ module _ (h : History) (numbered : IsNumbered h) (row proc : ℕ) (args : List �
   next = with_child row proc args h
 
   mid_size : length mid ≡ length h
-  mid_size = with_length h numbered row act' inside'
+  mid_size = with_length h row act' inside'
 
   pub child_length : length next ≡ suc (length h)
   child_length = let n = mid_size in omega (arith, n, length-append mid (child_row row proc args h ∷ []))
@@ -411,7 +408,7 @@ module _ (h : History) (numbered : IsNumbered h) (row proc : ℕ) (args : List �
 
   pub one' : OneMore h next row act'
   one' =
-      let m = with_one h numbered row act' inside' (λ child e. let same = some_spawn child e in omega (arith, same)) in
+      let m = with_one h row act' inside' (λ child e. let same = some_spawn child e in omega (arith, same)) in
       record {
         inside = inside';
         longer = omega (arith, child_length);
@@ -423,48 +420,59 @@ module _ (h : History) (numbered : IsNumbered h) (row proc : ℕ) (args : List �
       some_spawn : (child : ℕ) → act' ≡ Spawn child → length h ≡ child
       some_spawn child e = child_same (length h) child (ap (λ a. Some a) e)
 
-  pub child_order : serial_order next ≡ serial_order h ++ next_place row h ∷ []
-  child_order = order_more h numbered next row act' one' runs
-
-  pub child_acts : serial_acts next ≡ serial_acts h ++ act' ∷ []
-  child_acts = acts_more h numbered next row act' one' runs
-
-  pub new_spawn : act_at next (next_place row h) ≡ Some act'
-  new_spawn = new_act h numbered next row act' one'
-
   pub child_parent : (q : ℕ) → q < length h → (row_at next q).parent ≡ (row_at h q).parent
-  child_parent q lt = ap (λ (r : Row). r.parent) (old_row q lt) ∙ with_parent h numbered row act' inside' q
+  child_parent q lt = ap (λ (r : Row). r.parent) (old_row q lt) ∙ with_parent h row act' inside' q
 
-  pub new_parent : IsParent next (length h) (next_place row h)
-  new_parent = record { named = ap (λ (r : Row). r.parent) new_row; spawns = new_spawn; before = inside' }
+-- a spawn
+module _ (h : History) (numbered : IsNumbered h) (row proc : ℕ) (args : List ℤ) (runs : IsOpen h row) where
+  abbrev inside' : row < length h
+  inside' = open_inside h numbered row runs
 
-  keeps_parent' : (q : ℕ) (place : Place) → q < length h → IsParent h q place → IsParent next q place
+  abbrev grown : History
+  grown = with_child row proc args h
+
+  abbrev born : Act
+  born = Spawn (length h)
+
+  pub child_order : serial_order grown ≡ serial_order h ++ next_place row h ∷ []
+  child_order = order_more h numbered grown row born (one' h row proc args inside') runs
+
+  pub child_acts : serial_acts grown ≡ serial_acts h ++ born ∷ []
+  child_acts = acts_more h numbered grown row born (one' h row proc args inside') runs
+
+  pub new_spawn : act_at grown (next_place row h) ≡ Some born
+  new_spawn = new_act h numbered grown row born (one' h row proc args inside')
+
+  pub new_parent : IsParent grown (length h) (next_place row h)
+  new_parent = record { named = ap (λ (r : Row). r.parent) (new_row h row proc args inside'); spawns = new_spawn; before = inside' }
+
+  keeps_parent' : (q : ℕ) (place : Place) → q < length h → IsParent h q place → IsParent grown q place
   keeps_parent' q place lt is = record {
-    named = child_parent q lt ∙ is.named;
-    spawns = old_act h numbered next row act' one' place (Spawn q) is.spawns;
+    named = child_parent h row proc args inside' q lt ∙ is.named;
+    spawns = old_act h numbered grown row born (one' h row proc args inside') place (Spawn q) is.spawns;
     before = is.before;
   }
 
-  pub child_numbered : IsNumbered next
+  pub child_numbered : IsNumbered grown
   child_numbered = record {
-    some = omega (arith, child_length);
-    main = child_parent 0 numbered.some ∙ numbered.main;
-    main_args = ap (λ (r : Row). r.args) (old_row 0 numbered.some) ∙ with_args h numbered row act' inside' 0 ∙ numbered.main_args;
-    parent = λ q some lt. parent q some (cases_lt q (length h)) (omega (arith, lt, child_length));
-    child = λ place q e. child place q (act_cases h numbered next row act' one' place (Spawn q) e);
-    preorder = ap (λ l. 0 ∷ filter_map spawned_by l) child_acts ∙ ap (λ l. 0 ∷ l) (spawned_more (serial_acts h) act' (Some (length h)) refl)
-        ∙ ap (λ l. l ++ length h ∷ []) numbered.preorder ∙ sym (range_more 0 (length h) ∙ ap (λ n. range_with_len 0 (length h) ++ n ∷ []) (zero_plus (length h))) ∙ ap (range_with_len 0) (sym child_length);
+    some = omega (arith, child_length h row proc args inside');
+    main = child_parent h row proc args inside' 0 numbered.some ∙ numbered.main;
+    main_args = ap (λ (r : Row). r.args) (old_row h row proc args inside' 0 numbered.some) ∙ with_args h row born inside' 0 ∙ numbered.main_args;
+    parent = λ q some lt. parent q some (cases_lt q (length h)) (omega (arith, lt, child_length h row proc args inside'));
+    child = λ place q e. child place q (act_cases h numbered grown row born (one' h row proc args inside') place (Spawn q) e);
+    preorder = ap (λ l. 0 ∷ filter_map spawned_by l) child_acts ∙ ap (λ l. 0 ∷ l) (spawned_more (serial_acts h) born (Some (length h)) refl)
+        ∙ ap (λ l. l ++ length h ∷ []) numbered.preorder ∙ sym (range_more 0 (length h) ∙ ap (λ n. range_with_len 0 (length h) ++ n ∷ []) (zero_plus (length h))) ∙ ap (range_with_len 0) (sym (child_length h row proc args inside'));
   }
     where
       zero_plus : (k : ℕ) → 0 + k ≡ k
       zero_plus k = omega arith
 
-      parent : (q : ℕ) → 0 < q → (q < length h) ⊎ (length h ≤ q) → q < suc (length h) → (place : Place) × IsParent next q place
+      parent : (q : ℕ) → 0 < q → (q < length h) ⊎ (length h ≤ q) → q < suc (length h) → (place : Place) × IsParent grown q place
       parent q some (inl lt) le = let up = numbered.parent q some lt in (up.0, keeps_parent' q up.0 lt up.1)
-      parent q some (inr ge) le = (next_place row h, subst (λ r. IsParent next r (next_place row h)) (let same : length h ≡ q = omega (arith, ge, le) in same) new_parent)
+      parent q some (inr ge) le = (next_place row h, subst (λ r. IsParent grown r (next_place row h)) (let same : length h ≡ q = omega (arith, ge, le) in same) new_parent)
 
-      child : (place : Place) (q : ℕ) → (act_at h place ≡ Some (Spawn q)) ⊎ ((place ≡ next_place row h) × (act' ≡ Spawn q)) → (q < length next) × IsParent next q place
-      child place q (inl e) = let c = numbered.child place q e in (omega (arith, c.0, child_length), keeps_parent' q place c.0 c.1)
+      child : (place : Place) (q : ℕ) → (act_at h place ≡ Some (Spawn q)) ⊎ ((place ≡ next_place row h) × (born ≡ Spawn q)) → (q < length grown) × IsParent grown q place
+      child place q (inl e) = let c = numbered.child place q e in (omega (arith, c.0, child_length h row proc args inside'), keeps_parent' q place c.0 c.1)
       child place q (inr e) =
           let same : length h ≡ q = child_same (length h) q (ap (λ a. Some a) e.1) in
-          (omega (arith, same, child_length), subst (λ r. IsParent next r place) same (subst (λ p. IsParent next (length h) p) (sym e.0) new_parent))
+          (omega (arith, same, child_length h row proc args inside'), subst (λ r. IsParent grown r place) same (subst (λ p. IsParent grown (length h) p) (sym e.0) new_parent))

@@ -28,12 +28,12 @@ module _ (rows : History) (places : List Place) (kept : IsKept rows places) (row
     where
       go : (q ≡ row) ⊎ (q ≢ row) → length (row_at (with_act row act rows) q).acts < 2 ^ 32
       go (inl same) = subst (λ r. length (row_at (with_act row act rows) r).acts < 2 ^ 32) (sym same) lt
-      go (inr ne) = subst (λ (r : Row). length r.acts < 2 ^ 32) (sym (with_other rows kept.numbered row act inside q ne)) (kept.within.acts q)
+      go (inr ne) = subst (λ (r : Row). length r.acts < 2 ^ 32) (sym (with_other rows row act inside q ne)) (kept.within.acts q)
 
   with_act_kept : (act : Act) → spawns_none act ≡ true → length (row_at (with_act row act rows) row).acts < 2 ^ 32 → IsKept (with_act row act rows) (places ++ next_place row rows ∷ [])
   with_act_kept act plain lt = record {
     numbered = act_numbered rows kept.numbered row act runs plain;
-    within = record { rows = subst (λ n. n ≤ 2 ^ 32) (sym (with_length rows kept.numbered row act inside)) kept.within.rows; acts = act_within act lt };
+    within = record { rows = subst (λ n. n ≤ 2 ^ 32) (sym (with_length rows row act inside)) kept.within.rows; acts = act_within act lt };
     order = ap (λ l. l ++ next_place row rows ∷ []) kept.order ∙ sym (act_order rows kept.numbered row act runs plain);
   }
 
@@ -80,13 +80,13 @@ module _ (rows : History) (places : List Place) (kept : IsKept rows places) (row
       where
         near : q < length rows → length (row_at grown q).acts < 2 ^ 32
         near le =
-            subst (λ (r : Row). length r.acts < 2 ^ 32) (sym (old_row rows kept.numbered row proc args runs q le))
-            (act_within child (subst (λ (r : Row). length r.acts < 2 ^ 32) (old_row rows kept.numbered row proc args runs row inside) lt) q)
+            subst (λ (r : Row). length r.acts < 2 ^ 32) (sym (old_row rows row proc args inside q le))
+            (act_within child (subst (λ (r : Row). length r.acts < 2 ^ 32) (old_row rows row proc args inside row inside) lt) q)
 
         past : length rows ≤ q → (q ≡ length rows) ⊎ (q ≢ length rows) → length (row_at grown q).acts < 2 ^ 32
-        past le (inl same) = subst (λ r. length (row_at grown r).acts < 2 ^ 32) (sym same) (subst (λ (r : Row). length r.acts < 2 ^ 32) (sym (new_row rows kept.numbered row proc args runs)) (omega arith))
+        past le (inl same) = subst (λ r. length (row_at grown r).acts < 2 ^ 32) (sym same) (subst (λ (r : Row). length r.acts < 2 ^ 32) (sym (new_row rows row proc args inside)) (omega arith))
         past le (inr ne) =
-            subst (λ (r : Row). length r.acts < 2 ^ 32) (sym (no_row_past grown q (omega (arith, le, ne, child_length rows kept.numbered row proc args runs)))) (omega arith)
+            subst (λ (r : Row). length r.acts < 2 ^ 32) (sym (no_row_past grown q (omega (arith, le, ne, child_length rows row proc args inside)))) (omega arith)
 
         go : (q < length rows) ⊎ (length rows ≤ q) → length (row_at grown q).acts < 2 ^ 32
         go (inl lt') = near lt'
@@ -95,7 +95,7 @@ module _ (rows : History) (places : List Place) (kept : IsKept rows places) (row
     pub with_child_kept : length rows < 2 ^ 32 → length (row_at (with_child row proc args rows) row).acts < 2 ^ 32 → IsKept (with_child row proc args rows) (places ++ next_place row rows ∷ [])
     with_child_kept few lt = record {
       numbered = child_numbered rows kept.numbered row proc args runs;
-      within = record { rows = omega (arith, few, child_length rows kept.numbered row proc args runs); acts = λ q. child_within q lt };
+      within = record { rows = omega (arith, few, child_length rows row proc args inside); acts = λ q. child_within q lt };
       order = ap (λ l. l ++ next_place row rows ∷ []) kept.order ∙ sym (child_order rows kept.numbered row proc args runs);
     }
 

@@ -32,8 +32,8 @@ module _ (h : History) (row : ℕ) (running : IsRunning h row) where
   pub act_runs : (act : Act) → spawns_none act ≡ true → IsRunning (with_act row act h) row
   act_runs act plain = record {
     numbered = act_numbered h running.numbered row act running.runs plain;
-    runs = still_open h running.numbered (with_act row act h) row act (with_one h running.numbered row act inside (λ child e. absurd (spawns_nothing act child plain e)))
-        (λ q le. with_parent h running.numbered row act inside q) row (omega arith) running.runs;
+    runs = still_open h running.numbered (with_act row act h) row act (with_one h row act inside (λ child e. absurd (spawns_nothing act child plain e)))
+        (λ q le. with_parent h row act inside q) row (omega arith) running.runs;
   }
 
   pub act_runs_on : (act : Act) (h' : History) → spawns_none act ≡ true → {A B : Type 0} (result : Result A B) → OnOk result (h' ≡ with_act row act h) → OnErr result (h' ≡ h) → IsRunning h' row
@@ -43,12 +43,12 @@ module _ (h : History) (row : ℕ) (running : IsRunning h row) where
   pub child_runs : (proc : ℕ) (args : List ℤ) → IsRunning (with_child row proc args h) (length h)
   child_runs proc args =
       let next = with_child row proc args h in
-      let one = one' h running.numbered row proc args running.runs in
+      let one = one' h row proc args inside in
       record {
         numbered = child_numbered h running.numbered row proc args running.runs;
-        runs = Child (length h) (next_place row h) (ap (λ (r : Row). r.parent) (new_row h running.numbered row proc args running.runs))
+        runs = Child (length h) (next_place row h) (ap (λ (r : Row). r.parent) (new_row h row proc args inside))
             (ap length one.here ∙ (omega (arith, length-append (row_at h row).acts (Spawn (length h) ∷ []))))
-            (still_open h running.numbered next row (Spawn (length h)) one (λ q le. child_parent h running.numbered row proc args running.runs q (omega (arith, le, inside))) row (omega arith) running.runs);
+            (still_open h running.numbered next row (Spawn (length h)) one (λ q le. child_parent h row proc args inside q (omega (arith, le, inside))) row (omega arith) running.runs);
       }
 
 -- before the first act
