@@ -1,11 +1,11 @@
 -- The counts of Syncs that a row keeps: two acts have the same one exactly where no Sync stands behind the first up to the second.
-use Rattle.std.proofs.Common.{◌≡◌, ◌≢◌, ◌⊎◌, ℕ, zero, suc, ◌+◌, ◌-◌, ◌<◌, ◌≤◌, List, [], ◌∷◌, ◌++◌, length, get_or, map, Option, Some, None, refl, sym, ap, ◌∙◌, subst, inl, inr, arith}
+use Rattle.std.proofs.Common.{◌≡◌, ◌≢◌, ◌⊎◌, ℕ, zero, suc, ◌+◌, ◌-◌, ◌<◌, ◌≤◌, List, [], ◌∷◌, ◌++◌, length, get_or, Some, refl, sym, ap, ◌∙◌, inl, inr, arith}
 use Rattle.std.specs.Prelude.{slice_get}
 use Rattle.span_tree.specs.declared.act.Act.{Act}
 use Rattle.span_tree.specs.declared.act.Act.TheVariants.{Read, Write, Add, Print, Spawn, Sync}
 use Rattle.span_tree.specs.declared.row.Step.{Step}
 use Rattle.span_tree.specs.Dag.{NoSync}
-use Rattle.span_tree.specs.Steps.{acts_of, syncs_with, CountFrom, AreCounted, count_after}
+use Rattle.span_tree.specs.Steps.{acts_of, syncs_with, CountFrom, count_after}
 
 -- ---- one step more
 

@@ -1,14 +1,14 @@
 -- Walks along the serial order.
-use Rattle.std.proofs.Common.{◌≡◌, ℕ, suc, ◌+◌, ◌<◌, List, [], ◌∷◌, ◌++◌, length, take, get_or, cond, Option, Some, None, refl, sym, ap, ◌∙◌, subst}
-use Rattle.std.proofs.lemmas.List.{take_more, take_all}
-use Rattle.std.proofs.lemmas.List.Elements.{filter_map-append, filter-append}
-use Rattle.std.specs.List.{filter, filter_map, cons_option}
+use Rattle.std.proofs.Common.{◌≡◌, ℕ, ◌+◌, ◌<◌, List, [], ◌∷◌, ◌++◌, length, take, get_or, Option, Some, None, refl, sym, ap, ◌∙◌}
+use Rattle.std.proofs.lemmas.List.{take_more}
+use Rattle.std.proofs.lemmas.List.Elements.{filter_map-append}
+use Rattle.std.specs.List.{filter_map, cons_option}
 use Rattle.std.specs.Option.{option_and_then, option_to_list}
 use Rattle.std.specs.Prelude.{ℤ}
 use Rattle.span_tree.specs.declared.act.Act.{Act}
 use Rattle.span_tree.specs.declared.act.Place.{Place}
 use Rattle.span_tree.specs.History.{History, act_at}
-use Rattle.span_tree.specs.Memory.{printed_by, is_access}
+use Rattle.span_tree.specs.Memory.{printed_by}
 
 one_printed : (o : Option Act) → filter_map printed_by (cons_option o []) ≡ option_to_list (option_and_then printed_by o)
 one_printed None = refl

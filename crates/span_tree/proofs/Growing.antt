@@ -1,16 +1,16 @@
 -- One act more at the end of an open row: the history stays one, and the act stands last in its serial order.
-use Rattle.std.proofs.Common.{◌≡◌, ◌≢◌, ◌⊎◌, ℕ, zero, suc, ◌+◌, ◌<◌, ◌≤◌, List, [], ◌∷◌, ◌++◌, length, get_or, Option, Some, None, refl, sym, ap, ◌∙◌, subst, inl, inr, arith, append_assoc, length-append}
+use Rattle.std.proofs.Common.{◌≡◌, ◌≢◌, ◌⊎◌, ℕ, zero, suc, ◌+◌, ◌<◌, ◌≤◌, List, [], ◌∷◌, ◌++◌, length, Option, Some, None, refl, sym, ap, ◌∙◌, subst, inl, inr, arith, append_assoc, length-append}
 use Rattle.std.proofs.lemmas.Bool.{cases_lt}
 use Rattle.std.proofs.lemmas.List.{append-nil, get_or-set_same, get_or-set_other, length-set, get_or_append_left, get_or_push}
 use Rattle.std.proofs.lemmas.List.Elements.{filter_map-append}
-use Rattle.std.proofs.lemmas.Option.{slice_get_within, slice_get_past}
+use Rattle.std.proofs.lemmas.Option.{slice_get_within}
 use Rattle.std.specs.List.{Contains, filter_map, cons_option, range_with_len}
-use Rattle.std.specs.Prelude.{ℤ, Bool, true, false, slice_get, slice_set}
+use Rattle.std.specs.Prelude.{ℤ, true, false, slice_get}
 use Rattle.span_tree.specs.declared.act.Act.{Act}
 use Rattle.span_tree.specs.declared.act.Act.TheVariants.{Read, Write, Add, Print, Spawn, Sync}
 use Rattle.span_tree.specs.declared.act.Place.{Place}
 use Rattle.span_tree.specs.History.{Row, History, no_row, row_at, act_at, IsPlace, with_child_places, places_from, places_below, serial_order, serial_acts, spawned_by, IsParent, IsNumbered}
-use Rattle.span_tree.specs.Recording.{first_history, with_act, next_place, child_row, with_child, IsLast, IsOpen, Main, Child, spawns_none}
+use Rattle.span_tree.specs.Recording.{with_act, next_place, child_row, with_child, IsLast, IsOpen, Main, Child, spawns_none}
 use Rattle.span_tree.proofs.Ways.{some_same, none_is, child_same, no_row_past, parent_of, same_from, same_below, child_after}
 use Rattle.span_tree.proofs.Orders.{only_places, is_later, is_first}
 

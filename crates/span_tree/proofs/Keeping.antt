@@ -1,12 +1,12 @@
 -- What a history keeps beside its rows, after one act more.
-use Rattle.std.proofs.Common.{◌≡◌, ◌≢◌, ◌⊎◌, ℕ, zero, suc, ◌+◌, ◌<◌, ◌≤◌, List, [], ◌∷◌, ◌++◌, length, get_or, Option, Some, None, Result, Ok, Err, refl, sym, ap, ◌∙◌, subst, inl, inr, arith, length-append}
+use Rattle.std.proofs.Common.{◌≡◌, ◌≢◌, ◌⊎◌, ℕ, ◌<◌, ◌≤◌, List, [], ◌∷◌, ◌++◌, length, get_or, Some, Result, Ok, Err, sym, ap, ◌∙◌, subst, inl, inr, arith}
 use Rattle.std.proofs.lemmas.Bool.{cases_lt}
 use Rattle.std.proofs.lemmas.List.{set-append_left, get_or_append_left, get_or_default}
-use Rattle.std.specs.Prelude.{ℤ, Bool, true, ◌^◌, OnOk, OnErr, slice_set}
+use Rattle.std.specs.Prelude.{ℤ, true, ◌^◌, OnOk, OnErr, slice_set}
 use Rattle.span_tree.specs.declared.act.Act.{Act}
 use Rattle.span_tree.specs.declared.act.Act.TheVariants.{Spawn}
 use Rattle.span_tree.specs.declared.act.Place.{Place}
-use Rattle.span_tree.specs.History.{Row, History, no_row, row_at, IsNumbered, IsWithin32Bits, serial_order}
+use Rattle.span_tree.specs.History.{Row, History, no_row, row_at}
 use Rattle.span_tree.specs.Kept.{IsKept}
 use Rattle.span_tree.specs.Recording.{with_act, next_place, child_row, with_child, IsOpen, spawns_none}
 use Rattle.span_tree.proofs.Ways.{no_row_past}

@@ -1,4 +1,5 @@
 pub mod Counting
+pub mod Deciding
 pub mod Gathering
 pub mod Growing
 pub mod Keeping

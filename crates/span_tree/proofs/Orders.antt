@@ -1,5 +1,5 @@
 -- The serial order has each place once, and what stands first in it is what its way puts first.
-use Rattle.std.proofs.Common.{◌≡◌, ◌≢◌, ◌⊎◌, ℕ, zero, suc, ◌+◌, ◌<◌, ◌≤◌, List, [], ◌∷◌, ◌++◌, length, get_or, Option, Some, None, refl, sym, ap, ◌∙◌, subst, inl, inr, arith, append_assoc}
+use Rattle.std.proofs.Common.{◌≡◌, ◌⊎◌, ℕ, zero, suc, ◌+◌, ◌<◌, ◌≤◌, List, [], ◌∷◌, ◌++◌, length, Some, refl, sym, ap, ◌∙◌, subst, inl, inr, arith, append_assoc}
 use Rattle.std.proofs.lemmas.Bool.{cases_lt}
 use Rattle.std.proofs.lemmas.Option.{slice_get_within}
 use Rattle.std.proofs.lemmas.List.Elements.{Contains-append_left, Contains-append_right, Contains-append_cases}
@@ -9,8 +9,8 @@ use Rattle.span_tree.specs.declared.act.Act.{Act}
 use Rattle.span_tree.specs.declared.act.Act.TheVariants.{Read, Write, Add, Print, Spawn, Sync}
 use Rattle.span_tree.specs.declared.act.Place.{Place}
 use Rattle.span_tree.specs.Dag.{StandsBefore, IsBefore, way}
-use Rattle.span_tree.specs.History.{Row, History, no_row, row_at, act_at, IsPlace, with_child_places, places_from, serial_order, IsParent, IsNumbered}
-use Rattle.span_tree.proofs.Ways.{no_row_past, some_same, row_way, way_is, row_way_is, main_way, parent_of, child_after, below, below_is, same_below}
+use Rattle.span_tree.specs.History.{Row, History, row_at, act_at, IsPlace, with_child_places, places_from, serial_order, IsNumbered}
+use Rattle.span_tree.proofs.Ways.{no_row_past, some_same, row_way, way_is, row_way_is, child_after, below, below_is, same_below}
 
 zero_plus : (k : ℕ) → 0 + k ≡ k
 zero_plus k = omega arith

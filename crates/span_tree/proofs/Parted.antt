@@ -1,14 +1,14 @@
 -- What the branches by which two ways part say of the places.
-use Rattle.std.proofs.Common.{◌≡◌, ◌≢◌, ◌⊎◌, ℕ, zero, suc, ◌+◌, ◌<◌, ◌≤◌, List, [], ◌∷◌, ◌++◌, length, Option, Some, None, refl, sym, ap, ◌∙◌, subst, inl, inr, arith, append_assoc}
-use Rattle.std.specs.Prelude.{Bool, true, false, not, IsTrue, slice_get}
+use Rattle.std.proofs.Common.{◌≡◌, ◌≢◌, ℕ, ◌<◌, List, [], ◌∷◌, ◌++◌, length, Option, Some, None, refl, sym, ap, ◌∙◌, subst, inl, inr, arith, append_assoc}
+use Rattle.std.specs.Prelude.{Bool, true, false, not, IsTrue}
 use Rattle.std.proofs.lemmas.Option.{slice_get_within}
 use Rattle.span_tree.specs.declared.act.Place.{Place}
 use Rattle.span_tree.specs.declared.history.Branch.{Branch}
-use Rattle.span_tree.specs.Dag.{IsBefore, IsParallel, NoSync, PartUnsynced, Precedes, RunsBeside, way}
+use Rattle.span_tree.specs.Dag.{IsBefore, IsParallel, PartUnsynced, Precedes, RunsBeside, way}
 use Rattle.span_tree.specs.History.{History, IsNumbered, IsParent, IsPlace, act_at, row_at}
 use Rattle.span_tree.specs.Parting.{ComesFirst, GoesBy, IsParting, IsUnsynced}
 use Rattle.span_tree.proofs.Orders.{Earlier, under, over, earlier_of, before_of, row_within}
-use Rattle.span_tree.proofs.Ways.{none_is, some_same, child_same, row_way, way_is, part_up, part_down, parent_of}
+use Rattle.span_tree.proofs.Ways.{none_is, some_same, child_same, row_way, way_is, part_up, part_down}
 
 swapped : (h : History) (x y : Place) (a b : Branch) → IsParting h x y a b → IsParting h y x b a
 swapped h x y a b p = record { one_row = sym p.one_row; first_goes = p.second_goes; second_goes = p.first_goes; apart = λ child e f. p.apart child f e }

@@ -1,12 +1,12 @@
 -- The row that runs stays open.
-use Rattle.std.proofs.Common.{◌≡◌, ◌≢◌, ◌⊎◌, ℕ, zero, suc, ◌+◌, ◌<◌, ◌≤◌, List, [], ◌∷◌, ◌++◌, length, get_or, Option, Some, None, Result, Ok, Err, refl, sym, ap, ◌∙◌, subst, inl, inr, arith, length-append}
+use Rattle.std.proofs.Common.{◌≡◌, ◌≢◌, ℕ, zero, suc, ◌<◌, ◌≤◌, List, [], ◌∷◌, length, get_or, Option, Some, None, Result, Ok, Err, refl, sym, ap, ◌∙◌, subst, arith, length-append}
 use Rattle.std.specs.Option.{IsSome}
 use Rattle.std.specs.Prelude.{ℤ, true, OnOk, OnErr, slice_get}
 use Rattle.span_tree.specs.declared.act.Act.{Act}
 use Rattle.span_tree.specs.declared.act.Act.TheVariants.{Spawn}
 use Rattle.span_tree.specs.declared.act.Place.{Place}
 use Rattle.span_tree.specs.History.{Row, History, row_at, IsNumbered, IsParent}
-use Rattle.span_tree.specs.Recording.{first_history, with_act, next_place, child_row, with_child, IsLast, IsOpen, Main, Child, IsRunning, spawns_none}
+use Rattle.span_tree.specs.Recording.{first_history, with_act, next_place, with_child, IsOpen, Main, Child, IsRunning, spawns_none}
 use Rattle.span_tree.proofs.Ways.{parent_of, some_same, none_is}
 use Rattle.span_tree.proofs.Keeping.{parent_read}
 use Rattle.span_tree.proofs.Growing.{OneMore, with_parent, with_one, one', child_parent, new_row, open_inside, act_numbered, child_numbered, spawns_nothing}

@@ -1,15 +1,15 @@
 -- The law on three places, and what parallel places are.
-use Rattle.std.proofs.Common.{◌≡◌, ◌≢◌, ◌⊎◌, ℕ, zero, suc, ◌+◌, ◌<◌, ◌≤◌, List, [], ◌∷◌, ◌++◌, length, Option, Some, None, refl, sym, ap, ◌∙◌, subst, inl, inr, arith, append_assoc}
+use Rattle.std.proofs.Common.{◌≡◌, ◌≢◌, ◌⊎◌, ℕ, ◌<◌, ◌≤◌, List, [], ◌∷◌, ◌++◌, length, Some, refl, sym, ap, ◌∙◌, subst, inl, inr, arith, append_assoc}
 use Rattle.std.proofs.lemmas.Bool.{cases_lt}
 use Rattle.std.specs.Prelude.{slice_get}
 use Rattle.std.proofs.lemmas.Option.{slice_get_within}
 use Rattle.span_tree.specs.declared.act.Act.{Act}
 use Rattle.span_tree.specs.declared.act.Act.TheVariants.{Spawn, Sync}
 use Rattle.span_tree.specs.declared.act.Place.{Place}
-use Rattle.span_tree.specs.Dag.{IsBefore, IsParallel, NoSync, PartUnsynced, Precedes, RunsBeside, way}
+use Rattle.span_tree.specs.Dag.{IsBefore, IsParallel, NoSync, PartUnsynced, RunsBeside, way}
 use Rattle.span_tree.specs.History.{History, IsNumbered, IsPlace, act_at, row_at}
 use Rattle.span_tree.specs.Laws.{OrderIsOfPlaces, ThreePlaces, OneIsFirst, ParallelIsSymmetric, NotParallelInRow, NotParallelBelow, IsWithin, Itself, Below}
-use Rattle.span_tree.proofs.Orders.{Earlier, all_in, row_within, earlier_of, before_of, before_on, earlier_on, not_itself, not_both_before, not_before_itself, one_is_first, only_places, first_is_in, second_is_in}
+use Rattle.span_tree.proofs.Orders.{Earlier, all_in, row_within, earlier_of, earlier_on, not_itself, not_both_before, not_before_itself, one_is_first, only_places}
 use Rattle.span_tree.proofs.Ways.{child_same, parent_of, row_way, row_way_is, way_is, part_up}
 
 no_sync_on : (acts : List Act) (i j k : ℕ) → NoSync acts i j → NoSync acts j k → NoSync acts i k

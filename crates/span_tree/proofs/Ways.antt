@@ -1,13 +1,13 @@
 -- Rows nest no deeper than there are rows: so the ways of places, and the places below rows, are as their parents say.
-use Rattle.std.proofs.Common.{◌≡◌, ◌≢◌, ◌⊎◌, ℕ, zero, suc, ◌+◌, ◌<◌, ◌≤◌, List, [], ◌∷◌, ◌++◌, length, get_or, Option, Some, None, refl, sym, ap, ◌∙◌, subst, inl, inr, arith, append_assoc}
+use Rattle.std.proofs.Common.{◌≡◌, ◌⊎◌, ℕ, zero, suc, ◌+◌, ◌<◌, ◌≤◌, List, [], ◌∷◌, ◌++◌, length, Option, Some, None, refl, sym, ap, ◌∙◌, subst, inl, inr, arith, append_assoc}
 use Rattle.std.proofs.lemmas.Bool.{cases_lt}
 use Rattle.std.proofs.lemmas.List.{get_or_past}
 use Rattle.std.specs.Prelude.{slice_get}
 use Rattle.span_tree.specs.declared.act.Act.{Act}
 use Rattle.span_tree.specs.declared.act.Act.TheVariants.{Read, Write, Add, Print, Spawn, Sync}
 use Rattle.span_tree.specs.declared.act.Place.{Place}
-use Rattle.span_tree.specs.Dag.{way_on, way_within, way, NoSync, PartUnsynced}
-use Rattle.span_tree.specs.History.{Row, History, no_row, row_at, act_at, IsPlace, with_child_places, places_from, places_below, IsParent, IsNumbered}
+use Rattle.span_tree.specs.Dag.{way_on, way_within, way, PartUnsynced}
+use Rattle.span_tree.specs.History.{Row, History, no_row, row_at, with_child_places, places_from, places_below, IsParent, IsNumbered}
 
 pub some_same : {A : Type 0} (a b : A) → Some a ≡ Some b → a ≡ b
 some_same a b e = cc

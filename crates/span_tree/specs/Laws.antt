@@ -1,9 +1,9 @@
 -- Laws of the serial order and of the dag.
-use Rattle.std.specs.Prelude.{◌≡◌, ◌≢◌, ◌⊎◌, ◌↔◌, ℕ, Some, List, [], ◌∷◌}
+use Rattle.std.specs.Prelude.{◌≡◌, ◌≢◌, ◌⊎◌, ◌↔◌, ℕ, Some}
 use Rattle.std.specs.List.{Contains}
 use Rattle.span_tree.specs.declared.act.Act.TheVariants.{Spawn}
 use Rattle.span_tree.specs.declared.act.Place.{Place}
-use Rattle.span_tree.specs.Dag.{IsBefore, IsParallel}
+use Rattle.span_tree.specs.Dag.{IsBefore, IsParallel, Precedes}
 use Rattle.span_tree.specs.History.{History, IsNumbered, IsPlace, act_at, row_at, serial_order}
 
 -- The serial order has each place, once, and nothing else.
@@ -20,6 +20,15 @@ ThreePlaces = (history : History) → IsNumbered history → (x y z : Place) →
 abbrev pub OneIsFirst : Type 0
 OneIsFirst = (history : History) → IsNumbered history → (x y : Place) → IsPlace history x → IsPlace history y → x ≢ y →
     (IsBefore history x y × ¬ IsBefore history y x) ⊎ (IsBefore history y x × ¬ IsBefore history x y)
+
+-- Of two different places one precedes the other, or they are parallel.
+abbrev pub OneOfThree : Type 0
+OneOfThree = (history : History) → IsNumbered history → (x y : Place) → IsPlace history x → IsPlace history y → x ≢ y →
+    IsParallel history x y ⊎ (Precedes history x y ⊎ Precedes history y x)
+
+-- What is executed before a place that is executed before a third one is executed before the third one.
+abbrev pub PrecedesOn : Type 0
+PrecedesOn = (history : History) → IsNumbered history → (x y z : Place) → Precedes history x y → Precedes history y z → Precedes history x z
 
 abbrev pub ParallelIsSymmetric : Type 0
 ParallelIsSymmetric = (history : History) (x y : Place) → IsParallel history x y → IsParallel history y x

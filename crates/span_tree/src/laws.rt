@@ -1,6 +1,6 @@
 //! Laws of the serial order and of the dag, each the contract of a function that does nothing.
 
-ghost use Rattle.span_tree.specs.Laws.{NotParallelInRow, NotParallelBelow, OneIsFirst, OrderIsOfPlaces, ParallelIsSymmetric, ThreePlaces};
+ghost use Rattle.span_tree.specs.Laws.{NotParallelInRow, NotParallelBelow, OneIsFirst, OneOfThree, OrderIsOfPlaces, ParallelIsSymmetric, PrecedesOn, ThreePlaces};
 
 /// The serial order has each place once, and nothing else.
 pub fn order_is_of_places()
@@ -10,6 +10,16 @@ pub fn order_is_of_places()
 /// Of two different places exactly one is serially first.
 pub fn one_is_first()
     ensures { OneIsFirst }
+{}
+
+/// Of two different places one precedes the other, or they are parallel.
+pub fn one_of_three()
+    ensures { OneOfThree }
+{}
+
+/// What precedes a place precedes what that place precedes.
+pub fn precedes_on()
+    ensures { PrecedesOn }
 {}
 
 /// It does not matter which of two parallel places is named first.

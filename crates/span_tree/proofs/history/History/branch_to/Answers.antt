@@ -1,4 +1,4 @@
-use Rattle.std.proofs.Common.{◌≡◌, ◌<◌, length, Some, rules, sym, ◌∙◌, subst}
+use Rattle.std.proofs.Common.{◌<◌, length, rules, sym, ◌∙◌, subst}
 use Rattle.std.specs.Option.{IsSome}
 use Rattle.span_tree.specs.History.{IsParent}
 use Rattle.span_tree.proofs.Keeping.{parent_read}

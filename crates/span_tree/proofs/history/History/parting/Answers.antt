@@ -1,4 +1,4 @@
-use Rattle.std.proofs.Common.{◌≡◌, ◌<◌, Some, arith, sym, ap, ◌∙◌, subst}
+use Rattle.std.proofs.Common.{arith, sym, ◌∙◌}
 use Rattle.span_tree.proofs.Parted.{goes_up}
 use Rattle.span_tree.proofs.Ways.{some_same}
 use Rattle.span_tree.proofs.history.History.parting.Goals as goal

@@ -1,5 +1,4 @@
 use Rattle.std.proofs.Common.{◌≡◌, ℕ, ◌+◌, ◌<◌, Some}
-use Rattle.span_tree.specs.History.{IsNumbered}
 use Rattle.span_tree.specs.Parting.{GoesBy}
 use Rattle.span_tree.proofs.history.History.parting.Given as goal
 

@@ -1,5 +1,4 @@
-use Rattle.std.proofs.Common.{◌≡◌, sym, subst}
-use Rattle.span_tree.specs.History.{History}
+use Rattle.std.proofs.Common.{sym, subst}
 use Rattle.span_tree.specs.Recording.{IsOpen}
 use Rattle.span_tree.proofs.Keeping.{pushed}
 use Rattle.span_tree.proofs.history.History.push.Goals as goal

@@ -1,7 +1,5 @@
-use Rattle.std.proofs.Common.{rules, ◌≡◌, ◌<◌, ◌^◌, ◌∷◌, ◌++◌, [], length, arith, sym, ap, ◌∙◌, subst, length-append}
-use Rattle.span_tree.specs.History.{History, row_at}
-use Rattle.span_tree.specs.Kept.{IsKept}
-use Rattle.span_tree.specs.Recording.{IsOpen, next_place, with_child}
+use Rattle.std.proofs.Common.{rules, ◌≡◌, ◌<◌, ◌^◌, ◌∷◌, [], length, arith, sym, ap, ◌∙◌, subst, length-append}
+use Rattle.span_tree.specs.Recording.{IsOpen, with_child}
 use Rattle.span_tree.proofs.Keeping.{inside, len_read, spawned, spawned_kept}
 use Rattle.span_tree.proofs.history.History.spawn.Goals as goal
 

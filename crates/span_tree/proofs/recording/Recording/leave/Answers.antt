@@ -1,5 +1,5 @@
-use Rattle.std.proofs.Common.{◌≡◌, ◌≢◌, ℕ, get_or, Some, sym, ap, ◌∙◌, subst}
-use Rattle.span_tree.specs.History.{Row, row_at}
+use Rattle.std.proofs.Common.{◌≡◌, ◌≢◌, get_or, Some, sym, ap, ◌∙◌, subst}
+use Rattle.span_tree.specs.History.{row_at}
 use Rattle.span_tree.specs.Recording.{Recorded}
 use Rattle.span_tree.proofs.Running.{has_parent, parent_is, parent_runs}
 use Rattle.span_tree.proofs.recording.Recording.leave.Goals as goal

@@ -1,4 +1,4 @@
-use Rattle.std.proofs.Common.{◌≡◌, ◌<◌, length, get_or, ap, sym, ◌∙◌, subst, eq-eqb, eqb-true, arith}
+use Rattle.std.proofs.Common.{◌≡◌, ◌<◌, length, ap, sym, ◌∙◌, subst, eq-eqb, eqb-true, arith}
 use Rattle.span_tree.specs.History.{Row}
 use Rattle.span_tree.specs.declared.row.Step.{Step}
 use Rattle.span_tree.specs.Dag.{NoSync}

@@ -1,4 +1,4 @@
-use Rattle.std.proofs.Common.{◌≡◌, ◌+◌, ◌<◌, ◌∷◌, [], length, ap, sym, ◌∙◌, arith, length-append}
+use Rattle.std.proofs.Common.{◌∷◌, [], ap, ◌∙◌, arith, length-append}
 use Rattle.span_tree.specs.Steps.{count_after, syncs_with}
 use Rattle.span_tree.proofs.Counting.{count_within, counted_more}
 use Rattle.span_tree.proofs.row.Row.push.Goals as goal
