@@ -15,7 +15,7 @@ use std::marker::Model;
 /// The history of a run: a row for each instance, numbered in serial preorder. Contracts see the rows.
 ///
 /// An act takes about 40 bytes, and a row about 60 beside its arguments, in tables that may have room for twice as many.
-#[derive(Drop)]
+#[derive(Debug, Drop)]
 pub struct History {
     alloc: Global,
     rows: Vec<Row>,
@@ -118,10 +118,10 @@ impl History {
     }
 
     /// The printed values in serial order.
-    pub fn output(&self, alloc: Global) -> Result<Args, AllocError>
-        ensures { IfOk result (λ values. values ≡ output_of self.now) }
+    pub fn output(&self, alloc: Global) -> Result<Vec<i64>, AllocError>
+        ensures { IfOk result (λ values. values.items ≡ output_of self.now) }
     {
-        let mut values = Args::new(alloc);
+        let mut values = Vec::new(alloc);
         for place in &self.order {
             add_printed(&mut values, self.act(*place))?;
         }
@@ -249,8 +249,8 @@ impl Branch {
 }
 
 /// Adds the value that the act prints, where it prints one.
-fn add_printed(values: &mut Args, act: Option<Act>) -> Result<(), AllocError>
-    ensures ok { OnOk result (values.new ≡ values.old ++ option_to_list (option_and_then printed_by act)) }
+fn add_printed(values: &mut Vec<i64>, act: Option<Act>) -> Result<(), AllocError>
+    ensures ok { OnOk result (values.new.items ≡ values.old.items ++ option_to_list (option_and_then printed_by act)) }
 {
     if let Some(Act::Print { value }) = act {
         values.push(value)?;

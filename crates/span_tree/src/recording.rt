@@ -8,7 +8,7 @@ use std::alloc::{AllocError, Global};
 use std::marker::Model;
 
 /// A history while it is recorded in serial order, and the row that runs. Contracts see both.
-#[derive(Drop)]
+#[derive(Debug, Drop)]
 pub struct Recording {
     history: History,
     row: u32,

@@ -156,7 +156,7 @@ fn what_is_in_serial_order(rt: HostRuntime) -> Result<(), Fail> {
         accesses.as_slice() == [at(0, 0), at(1, 0), at(1, 2), at(3, 0), at(0, 6)].as_slice()
     );
     assert!(rt; history.places_of(rt.alloc(), 7)?.as_slice().is_empty());
-    assert!(rt; history.output(rt.alloc())?.items() == [20, 2, 7].as_slice());
+    assert!(rt; history.output(rt.alloc())?.as_slice() == [20, 2, 7].as_slice());
     Ok(())
 }
 
