@@ -1,0 +1,10 @@
+pub mod Counting
+pub mod Deciding
+pub mod Gathering
+pub mod Growing
+pub mod Keeping
+pub mod Orders
+pub mod Parted
+pub mod Running
+pub mod ThreePlaces
+pub mod Ways

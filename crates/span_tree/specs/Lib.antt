@@ -1,0 +1,9 @@
+pub mod Dag
+pub mod History
+pub mod Kept
+pub mod Laws
+pub mod Memory
+pub mod Parting
+pub mod Program
+pub mod Recording
+pub mod Steps
