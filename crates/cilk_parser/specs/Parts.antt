@@ -1,5 +1,5 @@
 -- What the parts of the parser say: where the machine stands before and after the tokens that a part reads.
-use Rattle.std.specs.Prelude.{◌≡◌, ◌⊎◌, ℕ, pos, ◌+◌, ◌<◌, ◌≤◌, Bool, true, false, not, ◌&&◌, nat_lt, IsTrue, Option, Some, None, option_map, List, [], ◌∷◌, ◌++◌, length, drop, bytes_eq}
+use Rattle.std.specs.Prelude.{◌≡◌, ◌⊎◌, ℕ, pos, ◌+◌, ◌<◌, ◌≤◌, Bool, true, false, not, ◌&&◌, nat_lt, IsTrue, Option, Some, None, List, [], ◌∷◌, ◌++◌, length, drop, bytes_eq}
 use Rattle.std.specs.Option.{option_map_or}
 use Rattle.cilk_tree.specs.declared.count.Count.{Count}
 use Rattle.cilk_tree.specs.declared.count.Count.TheVariants.{Anew, OneMore}
@@ -22,7 +22,7 @@ use Rattle.cilk_tree.specs.declared.tree.Program.{Program}
 use Rattle.cilk_tree.specs.declared.tree.Shared.{Shared}
 use Rattle.cilk_tree.specs.declared.tree.Stmt.{Stmt}
 use Rattle.cilk_tree.specs.Levels.{counting, mark}
-use Rattle.cilk_tree.specs.Sugar.{expression_tree, commas_list, argument_trees, right_tree, declarator_trees, simple_tree, start_trees, condition_tree, statement_trees, inner_trees, inners_trees, body_trees, parameter_names, function_tree, one_array, item_arrays, item_functions, source_tree}
+use Rattle.cilk_tree.specs.Sugar.{expression_tree, commas_list, argument_trees, right_tree, declarator_trees, simple_tree, one_simple, if_there, start_trees, condition_tree, statement_trees, inner_trees, inners_trees, body_trees, parameter_names, function_tree, one_array, item_arrays, item_functions, source_tree}
 use Rattle.cilk_tree.specs.Syntax as syntax
 use Rattle.cilk_tree.specs.Syntax.{Commas, One, More, Empty, Then, Expression, Variable, Right, Result, Declarator, Simple, Start, DeclaringStart, Statement, Inner, Declaration, Inners, NoInners, ThenInner, Body, Parameters, Array, Item, Defined, Source, operator_strength}
 use Rattle.cilk_tree.specs.Token.{keyword_text}
@@ -30,16 +30,17 @@ use Rattle.cilk_parser.specs.declared.addition.Addition.{Addition}
 use Rattle.cilk_parser.specs.declared.call.Call.{Call}
 use Rattle.cilk_parser.specs.declared.opening.Opening.{Opening}
 use Rattle.cilk_parser.specs.declared.opening.Opening.TheVariants.{Part, Whole, Argument}
-use Rattle.cilk_parser.specs.declared.reader.End.{End}
+use Rattle.cilk_parser.specs.declared.parser.End.{End}
 use Rattle.cilk_parser.specs.declared.refusal.ParseRefusal.{ParseRefusal}
 use Rattle.cilk_parser.specs.declared.refusal.ParseRefusal.TheVariants.{At, Memory}
+use Rattle.cilk_parser.specs.declared.statement.ForHead.{ForHead}
 use Rattle.cilk_parser.specs.declared.tallies.Tallies.{Tallies}
 use Rattle.cilk_parser.specs.Contexts.{with_last, Heading, InnersIn, BodyIn, ForBody, StatementIn, inners_level, body_level, statement_level, owner_level, closing_level, SimpleIn, AsStatement, AsForStart, AsForLast, simple_level, DeclareIn, AsDeclaration, AsForDeclaration, declare_level, RightIn, right_level, CallIn, call_level, Around, level_of, first_counts, least_strength}
 use Rattle.cilk_parser.specs.Run.{Answer, Accepted, Refused, Within, Over, at_end, judge_token, run, run_step}
 use Rattle.cilk_parser.specs.Steps.{State, Items, AfterCilk, AfterArray, ParametersStart, AfterParameter, NextParameter, AtInner, AtBody, HasBody, HasDeclarators, AtRight, AtArguments, AfterName, AtForStart, AtForCondition, AtForLast, Wants, Has, Awaits, AwaitsName, AddOpen, ArrayOpen, BodyOpen, CallOpen, SimpleEnd, FunctionName, DeclaratorName, SpawnedName, Next, addition_of, after_addition, after_call, after_right, after_statement, after_inners, call_of, finish, is_mark, step, step_end, step_only, step_operand, step_statement, token_operator}
 use Rattle.cilk_parser.specs.Tally.{none_counted}
 
--- Where a reader is in a text: how the text ends, what was counted so far, and the tokens that are left.
+-- Where a parser is in a text: how the text ends, what was counted so far, and the tokens that are left.
 pub record Spot : Type 0 where
   pub end : End
   pub tallies : Tallies
@@ -170,6 +171,21 @@ pub record HasExpression (least level : ℕ) (opening : Opening) (old new : Spot
 -- None can be read.
 abbrev pub LacksExpression : ℕ → ℕ → Opening → Spot → ParseRefusal → Type 0
 LacksExpression least level opening old refusal = (around : Around) → Fits least level opening around → Refuses (from (Wants around) old) refusal
+
+-- Round a whole expression of this level stands what this sign closes, which has a level of its own.
+pub record Encloses (level : ℕ) (opening : Opening) (around : Around) (own : ℕ) (closing : Sign) (after : Expression → State) : Type 0 where
+  pub fits : Fits 0 level opening around
+  pub closes : (syntax : Expression) (token : Token) → step_end around syntax token ≡ step_only (mark own closing) (after syntax) token
+
+-- An expression and the sign that closes it were read.
+pub record HasEnclosed (level : ℕ) (opening : Opening) (closing : Sign) (own : ℕ) (old new : Spot) (tree : Expr) : Type 0 where
+  pub syntax : Expression
+  pub same : tree ≡ expression_tree syntax
+  pub shorter : length new.left < length old.left
+  pub leads : (around : Around) (after : Expression → State) → Encloses level opening around own closing after → from (Wants around) old ≡ from (after syntax) new
+
+abbrev pub LacksEnclosed : ℕ → Opening → Sign → ℕ → Spot → ParseRefusal → Type 0
+LacksEnclosed level opening closing own old refusal = (around : Around) (after : Expression → State) → Encloses level opening around own closing after → Refuses (from (Wants around) old) refusal
 
 -- the operator stands first and binds as strongly
 pub record HasOperator (least : ℕ) (left : List Placed) (operator : BinaryOp) : Type 0 where
@@ -346,9 +362,8 @@ LacksBody level owner_own old refusal = (owner : BodyIn) → body_level owner �
 
 -- An expression in parentheses stands between these two states, whatever it is.
 pub record IsCondition (level : ℕ) (around : Around) (before : State) (after : Expression → State) : Type 0 where
-  pub fits : Fits 0 level Whole around
   pub opens : (token : Token) → step before token ≡ step_only (mark level OpenParen) (Wants around) token
-  pub closes : (syntax : Expression) (token : Token) → step_end around syntax token ≡ step_only (mark level CloseParen) (after syntax) token
+  pub encloses : Encloses level Whole around level CloseParen after
   pub unfinished : finish before ≡ None
 
 -- An expression in parentheses was read.
@@ -382,14 +397,26 @@ abbrev pub LacksForCondition : ℕ → Spot → ParseRefusal → Type 0
 LacksForCondition level old refusal = (outer : StatementIn) (start : Start) → statement_level outer + 1 ≡ level → Refuses (from (AtForCondition outer start) old) refusal
 
 -- The last part of a `for` and the parenthesis were read.
-pub record HasForLast (level owner_own : ℕ) (old new : Spot) (tree : Option Stmt) : Type 0 where
+pub record HasForLast (level owner_own : ℕ) (old new : Spot) (before now : List Stmt) : Type 0 where
   pub last : Option Simple
-  pub same : tree ≡ option_map simple_tree last
+  pub same : now ≡ before ++ if_there one_simple last
   pub shorter : length new.left < length old.left
   pub leads : (outer : StatementIn) (start : Start) (condition : Option Expression) → statement_level outer + 2 ≡ level → statement_level outer ≡ owner_own → from (AtForLast outer start condition) old ≡ from (AtBody (ForBody outer start condition last)) new
 
 abbrev pub LacksForLast : ℕ → ℕ → Spot → ParseRefusal → Type 0
 LacksForLast level owner_own old refusal = (outer : StatementIn) (start : Start) (condition : Option Expression) → statement_level outer + 2 ≡ level → statement_level outer ≡ owner_own → Refuses (from (AtForLast outer start condition) old) refusal
+
+-- `for` and what stands between the parentheses were read.
+pub record HasForHead (level : ℕ) (old new : Spot) (head : ForHead) : Type 0 where
+  pub start : Start
+  pub condition : Option Expression
+  pub last : Option Simple
+  pub same_start : head.start ≡ start_trees start
+  pub same_condition : head.condition ≡ condition_tree condition
+  pub same_last : head.last ≡ if_there one_simple last
+  pub shallow : level ≤ 64
+  pub shorter : length new.left < length old.left
+  pub leads : (outer : StatementIn) → statement_level outer ≡ level → stepping (step_statement outer) old ≡ from (AtBody (ForBody outer start condition last)) new
 
 -- ---- items
 

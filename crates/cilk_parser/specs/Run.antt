@@ -8,7 +8,7 @@ use Rattle.cilk_tree.specs.declared.token.Token.{Token}
 use Rattle.cilk_tree.specs.Counts.{is_long}
 use Rattle.cilk_tree.specs.Levels.{Spelled}
 use Rattle.cilk_tree.specs.Syntax.{Source}
-use Rattle.cilk_parser.specs.declared.reader.End.{End}
+use Rattle.cilk_parser.specs.declared.parser.End.{End}
 use Rattle.cilk_parser.specs.declared.tallies.Tallies.{Tallies}
 use Rattle.cilk_parser.specs.Tally.{all_counted_on, is_over}
 use Rattle.cilk_parser.specs.Steps.{State, Next, step, finish, pending}

@@ -1,4 +1,4 @@
--- A machine that reads a program token by token. It serves the proofs of the reader alone: where it stands between two tokens, and where it
+-- A machine that reads a program token by token. It serves the proofs of the parser alone: where it stands between two tokens, and where it
 -- goes with a token.
 use Rattle.std.specs.Prelude.{ℕ, pos, ◌+◌, Bool, true, false, nat_lt, bytes_eq, Option, Some, None, option_map, if◌then◌else◌, List, [], ◌∷◌, ◌++◌}
 use Rattle.cilk_tree.specs.declared.token.Keyword.TheVariants as word

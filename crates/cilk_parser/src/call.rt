@@ -2,7 +2,7 @@ ghost use Rattle.cilk_parser.specs.Parts.{HasArguments, HasCall, HasOpened, HasS
 ghost use Rattle.std.specs.Prelude.{◌≡◌, IsTrue, MatchResult};
 
 use crate::opening::Opening;
-use crate::reader::Reader;
+use crate::parser::Parser;
 use crate::refusal::ParseRefusal;
 use cilk_tree::{Count, Counted, Expr, Name, Sign};
 use sqlite_items::Items;
@@ -14,7 +14,7 @@ pub(crate) struct Call {
     pub(crate) arguments: Items<Expr>,
 }
 
-impl<'a> Reader<'a> {
+impl<'a> Parser<'a> {
     /// Reads arguments and the parenthesis behind them.
     pub(crate) fn arguments(&mut self, level: u64) -> Result<Items<Expr>, ParseRefusal>
         ensures { MatchResult result (λ trees. HasArguments level self.old self.new trees) (λ refusal. LacksArguments level self.old refusal) }

@@ -1,18 +1,18 @@
-ghost use Rattle.cilk_parser.specs.Parts.{HasExpression, HasOperator, HasVariable, LacksExpression, LacksVariable, stops_below};
+ghost use Rattle.cilk_parser.specs.Parts.{HasEnclosed, HasExpression, HasOperator, HasVariable, LacksEnclosed, LacksExpression, LacksVariable, stops_below};
 ghost use Rattle.cilk_parser.specs.Starts.{starts_operand};
 ghost use Rattle.cilk_parser.specs.Steps.{sign_operator};
 ghost use Rattle.cilk_tree.specs.Syntax.{operator_strength};
 ghost use Rattle.std.specs.Prelude.{◌≡◌, ◌≤◌, ℕ, IfOk, IsTrue, MatchOption, MatchResult};
 
 use crate::opening::Opening;
-use crate::reader::Reader;
+use crate::parser::Parser;
 use crate::refusal::ParseRefusal;
 use crate::starts::OperandStart;
 use cilk_tree::{BinaryOp, Count, Counted, Expr, Name, Sign, Token, UnaryOp};
 use sqlite_items::Boxed;
 use std::alloc::{AllocError, Global};
 
-impl<'a> Reader<'a> {
+impl<'a> Parser<'a> {
     /// Reads an expression whose operators bind at least as strongly as `least`, up to where it cannot go on. `level`
     /// is the level of its tokens.
     #[cycle(expression)]
@@ -32,6 +32,22 @@ impl<'a> Reader<'a> {
             left = binary(self.alloc(), operator, left, right)?;
         }
         Ok(left)
+    }
+
+    /// Reads an expression of this level, and the sign that closes it, which has the level `closing_level`.
+    #[cycle(expression)]
+    pub(crate) fn enclosed(
+        &mut self,
+        level: u64,
+        opening: Opening,
+        closing: Sign,
+        closing_level: u64,
+    ) -> Result<Expr, ParseRefusal>
+        ensures { MatchResult result (λ tree. HasEnclosed level opening closing closing_level self.old self.new tree) (λ refusal. LacksEnclosed level opening closing closing_level self.old refusal) }
+    {
+        let inner = self.expression(0, level, opening)?;
+        self.sign(closing, closing_level)?;
+        Ok(inner)
     }
 
     /// Reads what is no operation of two operands.
@@ -61,9 +77,7 @@ impl<'a> Reader<'a> {
         ensures { (least : ℕ) → MatchResult result (λ tree. HasExpression least level opening self.old self.new tree) (λ refusal. LacksExpression least level opening self.old refusal) }
     {
         self.pass(level, opening.counts())?;
-        let inner = self.expression(0, level + 1, Opening::Part)?;
-        self.sign(Sign::CloseParen, level)?;
-        Ok(inner)
+        self.enclosed(level + 1, Opening::Part, Sign::CloseParen, level)
     }
 
     /// Reads a unary operator and its operand.
@@ -92,8 +106,7 @@ impl<'a> Reader<'a> {
             return Ok(Expr::Local(name));
         }
         self.pass(level, &[])?;
-        let index = self.expression(0, level + 1, Opening::Part)?;
-        self.sign(Sign::CloseBracket, level)?;
+        let index = self.enclosed(level + 1, Opening::Part, Sign::CloseBracket, level)?;
         Ok(Expr::Get(name, Boxed::new(self.alloc(), index)?))
     }
 

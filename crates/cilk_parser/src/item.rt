@@ -2,7 +2,7 @@ ghost use Rattle.cilk_parser.specs.Parts.{HasArray, HasArrayName, HasArrays, Has
 ghost use Rattle.cilk_parser.specs.Starts.{starts_item};
 ghost use Rattle.std.specs.Prelude.{◌≡◌, ◌≢◌, [], false, IsTrue, MatchResult};
 
-use crate::reader::Reader;
+use crate::parser::Parser;
 use crate::refusal::ParseRefusal;
 use crate::starts::ItemStart;
 use cilk_tree::{Count, Counted, Function, Keyword, Name, Program, Shared, Sign};
@@ -15,7 +15,7 @@ const FUNCTION: [Count; 3] = [
     Count::Anew(Counted::Variables),
 ];
 
-impl<'a> Reader<'a> {
+impl<'a> Parser<'a> {
     /// Reads an item, and adds it to the program.
     pub(crate) fn item(&mut self, program: &mut Program) -> Result<(), ParseRefusal>
         requires { self.old.left ≢ [] }

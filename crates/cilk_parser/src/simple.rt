@@ -4,14 +4,14 @@ ghost use Rattle.std.specs.Prelude.{◌≡◌, IfOk, MatchResult, ℤ};
 
 use crate::expression::binary;
 use crate::opening::Opening;
-use crate::reader::Reader;
+use crate::parser::Parser;
 use crate::refusal::ParseRefusal;
 use crate::starts::SimpleStart;
 use cilk_tree::{BinaryOp, Count, Counted, Expr, Keyword, Name, Sign, Stmt};
 use sqlite_items::Items;
 use std::alloc::{AllocError, Global};
 
-impl<'a> Reader<'a> {
+impl<'a> Parser<'a> {
     /// Reads what stands behind `=`, as a statement that sets the target.
     pub(crate) fn right(&mut self, level: u64, target: Name) -> Result<Stmt, ParseRefusal>
         ensures { MatchResult result (λ tree. HasRight level target self.old self.new tree) (λ refusal. LacksRight level self.old refusal) }
@@ -108,8 +108,7 @@ impl<'a> Reader<'a> {
         ensures { MatchResult result (λ tree. HasSimple level name self.old self.new tree) (λ refusal. LacksSimple level name self.old refusal) }
     {
         self.pass(level, &[])?;
-        let index = self.expression(0, level + 1, Opening::Whole)?;
-        self.sign(Sign::CloseBracket, level)?;
+        let index = self.enclosed(level + 1, Opening::Whole, Sign::CloseBracket, level)?;
         self.sign(Sign::Assign, level)?;
         let value = self.expression(0, level, Opening::Whole)?;
         Ok(Stmt::Put(name, index, value))

@@ -1,17 +1,16 @@
-ghost use Rattle.cilk_parser.specs.Parts.{HasOneBody, HasCondition, HasForCondition, HasForLast, HasForStart, HasInner, HasInners, HasStatement, LacksBody, LacksCondition, LacksForCondition, LacksForLast, LacksForStart, LacksInner, LacksInners, LacksStatement, is_sign};
+ghost use Rattle.cilk_parser.specs.Parts.{HasOneBody, HasCondition, HasForCondition, HasForHead, HasForLast, HasForStart, HasInner, HasInners, HasStatement, LacksBody, LacksCondition, LacksForCondition, LacksForLast, LacksForStart, LacksInner, LacksInners, LacksStatement, is_sign};
 ghost use Rattle.cilk_parser.specs.Starts.{starts_statement};
-ghost use Rattle.cilk_tree.specs.Sugar.{if_there};
 ghost use Rattle.std.specs.Prelude.{◌≡◌, ◌++◌, ◌∷◌, [], false, IfOk, MatchResult};
 
 use crate::opening::Opening;
-use crate::reader::Reader;
+use crate::parser::Parser;
 use crate::refusal::ParseRefusal;
 use crate::starts::StatementStart;
 use cilk_tree::{Count, Counted, Expr, Keyword, Sign, Stmt};
 use sqlite_items::Items;
 use std::alloc::AllocError;
 
-impl<'a> Reader<'a> {
+impl<'a> Parser<'a> {
     /// Reads statements of this level up to a brace of the level `closing`, and that brace.
     #[cycle(statement)]
     pub(crate) fn inners(&mut self, level: u64, closing: u64) -> Result<Items<Stmt>, ParseRefusal>
@@ -116,15 +115,29 @@ impl<'a> Reader<'a> {
         requires { starts_statement self.old.left ≡ StatementStart.For }
         ensures { MatchResult result (λ _. HasStatement level self.old self.new into.old into.new) (λ refusal. LacksStatement level self.old refusal) }
     {
+        let head = self.for_head(level)?;
+        let body = self.body(level + 2, level)?;
+        into.push(head.with_body(body)?)?;
+        Ok(())
+    }
+
+    /// Reads the word `for` and what stands between the parentheses.
+    fn for_head(&mut self, level: u64) -> Result<ForHead, ParseRefusal>
+        requires { starts_statement self.old.left ≡ StatementStart.For }
+        ensures { MatchResult result (λ head. HasForHead level self.old self.new head) (λ refusal. LacksStatement level self.old refusal) }
+    {
         self.pass(level, &[])?;
         self.sign(Sign::OpenParen, level)?;
-        let mut block = Items::new(self.alloc());
-        self.for_start(level + 1, &mut block)?;
+        let mut start = Items::new(self.alloc());
+        self.for_start(level + 1, &mut start)?;
         let condition = self.for_condition(level + 1)?;
-        let last = self.for_last(level + 2, level)?;
-        let body = self.body(level + 2, level)?;
-        into.push(for_tree(block, condition, last, body)?)?;
-        Ok(())
+        let mut last = Items::new(self.alloc());
+        self.for_last(level + 2, level, &mut last)?;
+        Ok(ForHead {
+            start,
+            condition,
+            last,
+        })
     }
 
     /// Reads the first part of a `for` and the semicolon behind it.
@@ -140,9 +153,8 @@ impl<'a> Reader<'a> {
         }
         let name = self.name(level, &[])?;
         let start = self.simple(level, name)?;
-        self.sign(Sign::Semicolon, level)?;
         into.push(start)?;
-        Ok(())
+        self.sign(Sign::Semicolon, level)
     }
 
     /// Reads the condition of a `for`, which is 1 where it is left out, and the semicolon behind it.
@@ -153,23 +165,25 @@ impl<'a> Reader<'a> {
             self.pass(level, &[])?;
             return Ok(Expr::Number(1));
         }
-        let condition = self.expression(0, level, Opening::Whole)?;
-        self.sign(Sign::Semicolon, level)?;
-        Ok(condition)
+        self.enclosed(level, Opening::Whole, Sign::Semicolon, level)
     }
 
     /// Reads the last part of a `for`, where it has one, and the parenthesis behind it, which has the level `owner`.
-    fn for_last(&mut self, level: u64, owner: u64) -> Result<Option<Stmt>, ParseRefusal>
-        ensures { MatchResult result (λ tree. HasForLast level owner self.old self.new tree) (λ refusal. LacksForLast level owner self.old refusal) }
+    fn for_last(
+        &mut self,
+        level: u64,
+        owner: u64,
+        into: &mut Items<Stmt>,
+    ) -> Result<(), ParseRefusal>
+        ensures { MatchResult result (λ _. HasForLast level owner self.old self.new into.old into.new) (λ refusal. LacksForLast level owner self.old refusal) }
     {
         if self.is_at(Sign::CloseParen) {
-            self.pass(owner, &[])?;
-            return Ok(None);
+            return self.pass(owner, &[]);
         }
         let name = self.name(level, &[])?;
         let last = self.simple(level, name)?;
-        self.sign(Sign::CloseParen, owner)?;
-        Ok(Some(last))
+        into.push(last)?;
+        self.sign(Sign::CloseParen, owner)
     }
 
     /// Reads an expression in parentheses that do not count as a level.
@@ -177,9 +191,7 @@ impl<'a> Reader<'a> {
         ensures { MatchResult result (λ tree. HasCondition level self.old self.new tree) (λ refusal. LacksCondition level self.old refusal) }
     {
         self.sign(Sign::OpenParen, level)?;
-        let condition = self.expression(0, level, Opening::Whole)?;
-        self.sign(Sign::CloseParen, level)?;
-        Ok(condition)
+        self.enclosed(level, Opening::Whole, Sign::CloseParen, level)
     }
 
     /// Reads a statement that begins with a name: a call, an assignment, a step or a store.
@@ -190,15 +202,13 @@ impl<'a> Reader<'a> {
         let name = self.name(level, &[])?;
         if !self.is_at(Sign::OpenParen) {
             let simple = self.simple(level, name)?;
-            self.sign(Sign::Semicolon, level)?;
             into.push(simple)?;
-            return Ok(());
+            return self.sign(Sign::Semicolon, level);
         }
         self.pass(level, &[Count::Anew(Counted::Arguments)])?;
         let arguments = self.arguments(level)?;
-        self.sign(Sign::Semicolon, level)?;
         into.push(Stmt::Call(None, name, arguments))?;
-        Ok(())
+        self.sign(Sign::Semicolon, level)
     }
 
     /// Reads a spawn whose value is dropped.
@@ -208,9 +218,8 @@ impl<'a> Reader<'a> {
     {
         self.pass(level, &[])?;
         let call = self.spawned(level)?;
-        self.sign(Sign::Semicolon, level)?;
         into.push(Stmt::Spawn(None, call.name, call.arguments))?;
-        Ok(())
+        self.sign(Sign::Semicolon, level)
     }
 
     /// Reads an addition whose old value is dropped.
@@ -220,9 +229,8 @@ impl<'a> Reader<'a> {
     {
         self.pass(level, &[])?;
         let addition = self.added(level)?;
-        self.sign(Sign::Semicolon, level)?;
         into.push(Stmt::Add(None, addition.name, addition.index, addition.addend))?;
-        Ok(())
+        self.sign(Sign::Semicolon, level)
     }
 
     /// Reads `sync;`
@@ -231,9 +239,8 @@ impl<'a> Reader<'a> {
         ensures { MatchResult result (λ _. HasStatement level self.old self.new into.old into.new) (λ refusal. LacksStatement level self.old refusal) }
     {
         self.pass(level, &[])?;
-        self.sign(Sign::Semicolon, level)?;
         into.push(Stmt::Sync)?;
-        Ok(())
+        self.sign(Sign::Semicolon, level)
     }
 
     /// Reads a `print`.
@@ -243,9 +250,8 @@ impl<'a> Reader<'a> {
     {
         self.pass(level, &[])?;
         let value = self.condition(level)?;
-        self.sign(Sign::Semicolon, level)?;
         into.push(Stmt::Print(value))?;
-        Ok(())
+        self.sign(Sign::Semicolon, level)
     }
 
     /// Reads a `return`.
@@ -255,12 +261,10 @@ impl<'a> Reader<'a> {
     {
         self.pass(level, &[])?;
         if self.is_at(Sign::Semicolon) {
-            self.pass(level, &[])?;
             into.push(Stmt::Return(None))?;
-            return Ok(());
+            return self.pass(level, &[]);
         }
-        let value = self.expression(0, level, Opening::Whole)?;
-        self.sign(Sign::Semicolon, level)?;
+        let value = self.enclosed(level, Opening::Whole, Sign::Semicolon, level)?;
         into.push(Stmt::Return(Some(value)))?;
         Ok(())
     }
@@ -274,18 +278,26 @@ impl<'a> Reader<'a> {
     }
 }
 
-/// A `for` is a block of its first part and a loop, whose body has the last part at its end.
-fn for_tree(
-    mut block: Items<Stmt>,
+/// What stands between the parentheses of a `for`: the statements of its first part, the condition, and those of its last part.
+#[derive(Drop)]
+struct ForHead {
+    start: Items<Stmt>,
     condition: Expr,
-    last: Option<Stmt>,
-    mut body: Items<Stmt>,
-) -> Result<Stmt, AllocError>
-    ensures { IfOk result (λ tree. tree ≡ Stmt.Block (block ++ Stmt.While condition (body ++ if_there (λ one. one ∷ []) last) ∷ [])) }
-{
-    if let Some(last) = last {
-        body.push(last)?;
+    last: Items<Stmt>,
+}
+
+impl ForHead {
+    /// The `for` with this body: a block of its first part and a loop, whose body has the last part at its end.
+    fn with_body(self, mut body: Items<Stmt>) -> Result<Stmt, AllocError>
+        ensures { IfOk result (λ tree. tree ≡ Stmt.Block (self.start ++ Stmt.While self.condition (body ++ self.last) ∷ [])) }
+    {
+        let ForHead {
+            mut start,
+            condition,
+            last,
+        } = self;
+        body.append(last)?;
+        start.push(Stmt::While(condition, body))?;
+        Ok(Stmt::Block(start))
     }
-    block.push(Stmt::While(condition, body))?;
-    Ok(Stmt::Block(block))
 }

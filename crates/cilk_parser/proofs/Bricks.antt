@@ -1,0 +1,25 @@
+-- What the code reads is what the machine does.
+pub mod Additions
+pub mod ArrayParts
+pub mod Beginnings
+pub mod BehindOperand
+pub mod Blocks
+pub mod Bodies
+pub mod Calls
+pub mod Conditions
+pub mod Declarations
+pub mod Enclosed
+pub mod Firsts
+pub mod FunctionParts
+pub mod Heads
+pub mod ItemHeads
+pub mod Lists
+pub mod OperandParts
+pub mod OperatorParts
+pub mod Owners
+pub mod ProgramParts
+pub mod RightNames
+pub mod Rights
+pub mod Simples
+pub mod Statements
+pub mod Stepping
