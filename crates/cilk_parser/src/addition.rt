@@ -1,4 +1,4 @@
-ghost use Rattle.cilk_parser.specs.Parts.{HasAddition, LacksAddition};
+ghost use Rattle.cilk_parser.specs.Phrases.{Lacks, Parses, addition_phrase};
 ghost use Rattle.std.specs.Prelude.{MatchResult};
 
 use crate::opening::Opening;
@@ -17,7 +17,7 @@ pub(crate) struct Addition {
 impl<'a> Parser<'a> {
     /// Reads `(a[i], e)` behind `fetch_add`. The index is one level deeper, since it stands in brackets.
     pub(crate) fn added(&mut self, level: u64) -> Result<Addition, ParseRefusal>
-        ensures { MatchResult result (λ addition. HasAddition level self.old self.new addition) (λ refusal. LacksAddition level self.old refusal) }
+        ensures { MatchResult result (λ addition. Parses (addition_phrase level) self.old self.new addition) (λ refusal. Lacks (addition_phrase level) self.old refusal) }
     {
         self.sign(Sign::OpenParen, level)?;
         let name = self.name(level, &[])?;

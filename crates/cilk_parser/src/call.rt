@@ -1,4 +1,5 @@
-ghost use Rattle.cilk_parser.specs.Parts.{HasArguments, HasCall, HasOpened, HasSpawn, LacksArguments, LacksCall, LacksOpened, LacksSpawn, is_name_before};
+ghost use Rattle.cilk_parser.specs.Spots.{is_name_before};
+ghost use Rattle.cilk_parser.specs.Phrases.{Lacks, Parses, arguments_phrase, call_phrase, opened_phrase, spawn_phrase};
 ghost use Rattle.std.specs.Prelude.{◌≡◌, IsTrue, MatchResult};
 
 use crate::opening::Opening;
@@ -17,7 +18,7 @@ pub(crate) struct Call {
 impl<'a> Parser<'a> {
     /// Reads arguments and the parenthesis behind them.
     pub(crate) fn arguments(&mut self, level: u64) -> Result<Items<Expr>, ParseRefusal>
-        ensures { MatchResult result (λ trees. HasArguments level self.old self.new trees) (λ refusal. LacksArguments level self.old refusal) }
+        ensures { MatchResult result (λ trees. Parses (arguments_phrase level) self.old self.new trees) (λ refusal. Lacks (arguments_phrase level) self.old refusal) }
     {
         let mut arguments = Items::new(self.alloc());
         if self.is_at(Sign::CloseParen) {
@@ -37,7 +38,7 @@ impl<'a> Parser<'a> {
 
     /// Reads the parenthesis behind the name that is called, and the arguments.
     fn opened(&mut self, level: u64) -> Result<Items<Expr>, ParseRefusal>
-        ensures { MatchResult result (λ trees. HasOpened level self.old self.new trees) (λ refusal. LacksOpened level self.old refusal) }
+        ensures { MatchResult result (λ trees. Parses (opened_phrase level) self.old self.new trees) (λ refusal. Lacks (opened_phrase level) self.old refusal) }
     {
         if !self.is_at(Sign::OpenParen) {
             return Err(self.unexpected());
@@ -48,7 +49,7 @@ impl<'a> Parser<'a> {
 
     /// Reads the name and the arguments behind `spawn`.
     pub(crate) fn spawned(&mut self, level: u64) -> Result<Call, ParseRefusal>
-        ensures { MatchResult result (λ call. HasSpawn level self.old self.new call) (λ refusal. LacksSpawn level self.old refusal) }
+        ensures { MatchResult result (λ call. Parses (spawn_phrase level) self.old self.new call) (λ refusal. Lacks (spawn_phrase level) self.old refusal) }
     {
         let name = self.name(level, &[])?;
         let arguments = self.opened(level)?;
@@ -58,7 +59,7 @@ impl<'a> Parser<'a> {
     /// Reads a call whose result is assigned.
     pub(crate) fn called(&mut self, level: u64) -> Result<Call, ParseRefusal>
         requires { IsTrue (is_name_before Sign.OpenParen self.old.left) }
-        ensures { MatchResult result (λ call. HasCall level self.old self.new call) (λ refusal. LacksCall level self.old refusal) }
+        ensures { MatchResult result (λ call. Parses (call_phrase level) self.old self.new call) (λ refusal. Lacks (call_phrase level) self.old refusal) }
     {
         let name = self.name(level, &[])?;
         let arguments = self.opened(level)?;

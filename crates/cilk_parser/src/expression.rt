@@ -1,4 +1,4 @@
-ghost use Rattle.cilk_parser.specs.Parts.{HasEnclosed, HasExpression, HasOperator, HasVariable, LacksEnclosed, LacksExpression, LacksVariable, stops_below};
+ghost use Rattle.cilk_parser.specs.Phrases.{HasOperator, HasVariable, Lacks, LacksVariable, Parses, enclosed_phrase, expression_phrase, stops_below};
 ghost use Rattle.cilk_parser.specs.Starts.{starts_operand};
 ghost use Rattle.cilk_parser.specs.Steps.{sign_operator};
 ghost use Rattle.cilk_tree.specs.Syntax.{operator_strength};
@@ -22,7 +22,7 @@ impl<'a> Parser<'a> {
         level: u64,
         opening: Opening,
     ) -> Result<Expr, ParseRefusal>
-        ensures reads { MatchResult result (λ tree. HasExpression least level opening self.old self.new tree) (λ refusal. LacksExpression least level opening self.old refusal) }
+        ensures reads { MatchResult result (λ tree. Parses (expression_phrase least level opening) self.old self.new tree) (λ refusal. Lacks (expression_phrase least level opening) self.old refusal) }
         ensures stops { IfOk result (λ _. IsTrue (stops_below least self.new.left)) }
     {
         let mut left = self.operand(level, opening)?;
@@ -43,7 +43,7 @@ impl<'a> Parser<'a> {
         closing: Sign,
         closing_level: u64,
     ) -> Result<Expr, ParseRefusal>
-        ensures { MatchResult result (λ tree. HasEnclosed level opening closing closing_level self.old self.new tree) (λ refusal. LacksEnclosed level opening closing closing_level self.old refusal) }
+        ensures { MatchResult result (λ tree. Parses (enclosed_phrase level opening closing closing_level) self.old self.new tree) (λ refusal. Lacks (enclosed_phrase level opening closing closing_level) self.old refusal) }
     {
         let inner = self.expression(0, level, opening)?;
         self.sign(closing, closing_level)?;
@@ -53,7 +53,7 @@ impl<'a> Parser<'a> {
     /// Reads what is no operation of two operands.
     #[cycle(expression)]
     fn operand(&mut self, level: u64, opening: Opening) -> Result<Expr, ParseRefusal>
-        ensures { (least : ℕ) → MatchResult result (λ tree. HasExpression least level opening self.old self.new tree) (λ refusal. LacksExpression least level opening self.old refusal) }
+        ensures { (least : ℕ) → MatchResult result (λ tree. Parses (expression_phrase least level opening) self.old self.new tree) (λ refusal. Lacks (expression_phrase least level opening) self.old refusal) }
     {
         match self.operand_start() {
             OperandStart::Number(value) => {
@@ -74,7 +74,7 @@ impl<'a> Parser<'a> {
     #[cycle(expression)]
     fn group(&mut self, level: u64, opening: Opening) -> Result<Expr, ParseRefusal>
         requires { starts_operand self.old.left ≡ OperandStart.Group }
-        ensures { (least : ℕ) → MatchResult result (λ tree. HasExpression least level opening self.old self.new tree) (λ refusal. LacksExpression least level opening self.old refusal) }
+        ensures { (least : ℕ) → MatchResult result (λ tree. Parses (expression_phrase least level opening) self.old self.new tree) (λ refusal. Lacks (expression_phrase least level opening) self.old refusal) }
     {
         self.pass(level, opening.counts())?;
         self.enclosed(level + 1, Opening::Part, Sign::CloseParen, level)
@@ -89,7 +89,7 @@ impl<'a> Parser<'a> {
         opening: Opening,
     ) -> Result<Expr, ParseRefusal>
         requires { starts_operand self.old.left ≡ OperandStart.Prefix operator }
-        ensures { (least : ℕ) → MatchResult result (λ tree. HasExpression least level opening self.old self.new tree) (λ refusal. LacksExpression least level opening self.old refusal) }
+        ensures { (least : ℕ) → MatchResult result (λ tree. Parses (expression_phrase least level opening) self.old self.new tree) (λ refusal. Lacks (expression_phrase least level opening) self.old refusal) }
     {
         self.pass(level, opening.operator_counts())?;
         let operand = self.operand(level + 1, Opening::Part)?;

@@ -1,4 +1,4 @@
-ghost use Rattle.cilk_parser.specs.Parts.{opening_counts};
+ghost use Rattle.cilk_parser.specs.Phrases.{opening_counts};
 ghost use Rattle.cilk_tree.specs.declared.count.Count.TheVariants.{OneMore};
 ghost use Rattle.cilk_tree.specs.declared.count.Counted.TheVariants.{Operators};
 ghost use Rattle.std.specs.Prelude.{◌≡◌, ◌≤◌, [], ◌∷◌, ◌++◌, length};

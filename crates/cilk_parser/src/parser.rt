@@ -3,7 +3,7 @@ ghost use Rattle.cilk_parser.specs.Tally.{none_counted, is_over};
 ghost use Rattle.cilk_tree.specs.declared.ending.Ending.TheVariants.{Reached};
 ghost use Rattle.std.specs.Prelude.{◌≡◌, ◌≢◌, ◌≤◌, ◌↔◌, [], false, length, drop, IsTrue, MatchOption, MatchResult};
 ghost use Rattle.cilk_tree.specs.Counts.{is_long};
-ghost use Rattle.cilk_parser.specs.Parts.{StartsAt, HasNamed, HasPassed, HasRead, HasWords, IsOver, LacksName, LacksSign, LacksWords, end_refusal, is_keyword, is_name_before, is_sign, is_word, unexpected_of};
+ghost use Rattle.cilk_parser.specs.Spots.{StartsAt, HasNamed, HasPassed, HasRead, HasWords, IsOver, LacksName, LacksSign, LacksWords, end_refusal, is_keyword, is_name_before, is_sign, is_word, unexpected_of};
 
 use crate::refusal::ParseRefusal;
 use crate::tallies::Tallies;
@@ -57,7 +57,7 @@ pub(crate) struct Parser<'a> {
 
 impl<'a> Model for Parser<'a> {
     ghost use Rattle.std.specs.Prelude.{◌≡◌, false};
-    ghost use Rattle.cilk_parser.specs.Parts.{Spot};
+    ghost use Rattle.cilk_parser.specs.Spots.{Spot};
     ghost use Rattle.cilk_parser.specs.Tally.{is_over};
 
     ghost Value = { Spot };

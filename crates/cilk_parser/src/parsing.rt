@@ -1,5 +1,6 @@
 ghost use Rattle.cilk_parser.specs.Faults.{IsRefusedFor};
-ghost use Rattle.cilk_parser.specs.Parts.{Refuses, answer_on, HasProgram};
+ghost use Rattle.cilk_parser.specs.Spots.{Refuses};
+ghost use Rattle.cilk_parser.specs.Phrases.{HasProgram, answer_on};
 ghost use Rattle.cilk_tree.specs.Lexeme.{Divides, tokens_of};
 ghost use Rattle.cilk_tree.specs.Spelling.{IsFault, IsProgram};
 ghost use Rattle.cilk_tree.specs.declared.ending.Ending.TheVariants.{Reached};

@@ -1,4 +1,4 @@
-ghost use Rattle.cilk_parser.specs.Parts.{HasDeclarator, HasDeclaration, HasRight, HasSimple, LacksDeclarator, LacksDeclaration, LacksRight, LacksSimple};
+ghost use Rattle.cilk_parser.specs.Phrases.{Lacks, LacksSimple, Parses, declaration_phrase, declarator_phrase, right_phrase, simple_phrase};
 ghost use Rattle.cilk_parser.specs.Starts.{starts_simple};
 ghost use Rattle.std.specs.Prelude.{◌≡◌, IfOk, MatchResult, ℤ};
 
@@ -14,7 +14,7 @@ use std::alloc::{AllocError, Global};
 impl<'a> Parser<'a> {
     /// Reads what stands behind `=`, as a statement that sets the target.
     pub(crate) fn right(&mut self, level: u64, target: Name) -> Result<Stmt, ParseRefusal>
-        ensures { MatchResult result (λ tree. HasRight level target self.old self.new tree) (λ refusal. LacksRight level self.old refusal) }
+        ensures { MatchResult result (λ tree. Parses (right_phrase level) self.old self.new (target, tree)) (λ refusal. Lacks (right_phrase level) self.old refusal) }
     {
         if self.is_at_word(Keyword::Spawn) {
             self.pass(level, &[])?;
@@ -40,7 +40,7 @@ impl<'a> Parser<'a> {
         level: u64,
         into: &mut Items<Stmt>,
     ) -> Result<(), ParseRefusal>
-        ensures { MatchResult result (λ _. HasDeclaration level self.old self.new into.old into.new) (λ refusal. LacksDeclaration level self.old refusal) }
+        ensures { MatchResult result (λ _. Parses (declaration_phrase level) self.old self.new (into.old, into.new)) (λ refusal. Lacks (declaration_phrase level) self.old refusal) }
     {
         loop {
             self.declarator(level, into)?;
@@ -53,7 +53,7 @@ impl<'a> Parser<'a> {
 
     /// Reads a name that is declared, with its value where it has one.
     fn declarator(&mut self, level: u64, into: &mut Items<Stmt>) -> Result<(), ParseRefusal>
-        ensures { MatchResult result (λ _. HasDeclarator level self.old self.new into.old into.new) (λ refusal. LacksDeclarator level self.old refusal) }
+        ensures { MatchResult result (λ _. Parses (declarator_phrase level) self.old self.new (into.old, into.new)) (λ refusal. Lacks (declarator_phrase level) self.old refusal) }
     {
         let name = self.name(level, &[Count::OneMore(Counted::Variables)])?;
         if !self.is_at(Sign::Assign) {
@@ -69,7 +69,7 @@ impl<'a> Parser<'a> {
 
     /// Reads an assignment, a step or a store behind its name, up to the sign behind it.
     pub(crate) fn simple(&mut self, level: u64, name: Name) -> Result<Stmt, ParseRefusal>
-        ensures { MatchResult result (λ tree. HasSimple level name self.old self.new tree) (λ refusal. LacksSimple level name self.old refusal) }
+        ensures { MatchResult result (λ tree. Parses (simple_phrase level name) self.old self.new tree) (λ refusal. LacksSimple level name self.old refusal) }
     {
         match self.simple_start() {
             SimpleStart::Assign => {
@@ -89,7 +89,7 @@ impl<'a> Parser<'a> {
     /// Reads `+= e` or `-= e`. The sign is the first operator of the value, which is one level deeper.
     fn change(&mut self, operator: BinaryOp, level: u64, name: Name) -> Result<Stmt, ParseRefusal>
         requires { starts_simple self.old.left ≡ SimpleStart.Change operator }
-        ensures { MatchResult result (λ tree. HasSimple level name self.old self.new tree) (λ refusal. LacksSimple level name self.old refusal) }
+        ensures { MatchResult result (λ tree. Parses (simple_phrase level name) self.old self.new tree) (λ refusal. LacksSimple level name self.old refusal) }
     {
         self.pass(
             level,
@@ -105,7 +105,7 @@ impl<'a> Parser<'a> {
     /// Reads `[i] = e`.
     fn store(&mut self, level: u64, name: Name) -> Result<Stmt, ParseRefusal>
         requires { starts_simple self.old.left ≡ SimpleStart.Index }
-        ensures { MatchResult result (λ tree. HasSimple level name self.old self.new tree) (λ refusal. LacksSimple level name self.old refusal) }
+        ensures { MatchResult result (λ tree. Parses (simple_phrase level name) self.old self.new tree) (λ refusal. LacksSimple level name self.old refusal) }
     {
         self.pass(level, &[])?;
         let index = self.enclosed(level + 1, Opening::Whole, Sign::CloseBracket, level)?;

@@ -1,4 +1,5 @@
-ghost use Rattle.cilk_parser.specs.Parts.{HasOneBody, HasCondition, HasForCondition, HasForHead, HasForLast, HasForStart, HasInner, HasInners, HasStatement, LacksBody, LacksCondition, LacksForCondition, LacksForLast, LacksForStart, LacksInner, LacksInners, LacksStatement, is_sign};
+ghost use Rattle.cilk_parser.specs.Spots.{is_sign};
+ghost use Rattle.cilk_parser.specs.Phrases.{Lacks, Parses, body_phrase, condition_phrase, for_condition_phrase, for_head_phrase, for_last_phrase, for_start_phrase, inner_phrase, inners_phrase, statement_phrase};
 ghost use Rattle.cilk_parser.specs.Starts.{starts_statement};
 ghost use Rattle.std.specs.Prelude.{◌≡◌, ◌++◌, ◌∷◌, [], false, IfOk, MatchResult};
 
@@ -14,7 +15,7 @@ impl<'a> Parser<'a> {
     /// Reads statements of this level up to a brace of the level `closing`, and that brace.
     #[cycle(statement)]
     pub(crate) fn inners(&mut self, level: u64, closing: u64) -> Result<Items<Stmt>, ParseRefusal>
-        ensures { MatchResult result (λ trees. HasInners level closing self.old self.new trees) (λ refusal. LacksInners level closing self.old refusal) }
+        ensures { MatchResult result (λ trees. Parses (inners_phrase level closing) self.old self.new trees) (λ refusal. Lacks (inners_phrase level closing) self.old refusal) }
     {
         let mut trees = Items::new(self.alloc());
         while !self.is_at(Sign::CloseBrace) {
@@ -28,7 +29,7 @@ impl<'a> Parser<'a> {
     #[cycle(statement)]
     fn inner(&mut self, level: u64, into: &mut Items<Stmt>) -> Result<(), ParseRefusal>
         requires { is_sign Sign.CloseBrace self.old.left ≡ false }
-        ensures { MatchResult result (λ _. HasInner level self.old self.new into.old into.new) (λ refusal. LacksInner level self.old refusal) }
+        ensures { MatchResult result (λ _. Parses (inner_phrase level) self.old self.new (into.old, into.new)) (λ refusal. Lacks (inner_phrase level) self.old refusal) }
     {
         if self.is_at_word(Keyword::Int) {
             self.pass(level, &[])?;
@@ -46,7 +47,7 @@ impl<'a> Parser<'a> {
     /// Reads what an `if`, an `else` or a loop holds, whose own level is `owner`.
     #[cycle(statement)]
     fn body(&mut self, level: u64, owner: u64) -> Result<Items<Stmt>, ParseRefusal>
-        ensures { MatchResult result (λ trees. HasOneBody level owner self.old self.new trees) (λ refusal. LacksBody level owner self.old refusal) }
+        ensures { MatchResult result (λ trees. Parses (body_phrase level owner) self.old self.new trees) (λ refusal. Lacks (body_phrase level owner) self.old refusal) }
     {
         if self.is_at(Sign::OpenBrace) {
             self.pass(owner, &[])?;
@@ -60,7 +61,7 @@ impl<'a> Parser<'a> {
     /// Reads a statement that is no declaration and no block, and adds what it gives.
     #[cycle(statement)]
     fn statement(&mut self, level: u64, into: &mut Items<Stmt>) -> Result<(), ParseRefusal>
-        ensures { MatchResult result (λ _. HasStatement level self.old self.new into.old into.new) (λ refusal. LacksStatement level self.old refusal) }
+        ensures { MatchResult result (λ _. Parses (statement_phrase level) self.old self.new (into.old, into.new)) (λ refusal. Lacks (statement_phrase level) self.old refusal) }
     {
         match self.statement_start() {
             StatementStart::Empty => self.pass(level, &[]),
@@ -81,7 +82,7 @@ impl<'a> Parser<'a> {
     #[cycle(statement)]
     fn branch(&mut self, level: u64, into: &mut Items<Stmt>) -> Result<(), ParseRefusal>
         requires { starts_statement self.old.left ≡ StatementStart.If }
-        ensures { MatchResult result (λ _. HasStatement level self.old self.new into.old into.new) (λ refusal. LacksStatement level self.old refusal) }
+        ensures { MatchResult result (λ _. Parses (statement_phrase level) self.old self.new (into.old, into.new)) (λ refusal. Lacks (statement_phrase level) self.old refusal) }
     {
         self.pass(level, &[])?;
         let condition = self.condition(level)?;
@@ -100,7 +101,7 @@ impl<'a> Parser<'a> {
     #[cycle(statement)]
     fn while_loop(&mut self, level: u64, into: &mut Items<Stmt>) -> Result<(), ParseRefusal>
         requires { starts_statement self.old.left ≡ StatementStart.While }
-        ensures { MatchResult result (λ _. HasStatement level self.old self.new into.old into.new) (λ refusal. LacksStatement level self.old refusal) }
+        ensures { MatchResult result (λ _. Parses (statement_phrase level) self.old self.new (into.old, into.new)) (λ refusal. Lacks (statement_phrase level) self.old refusal) }
     {
         self.pass(level, &[])?;
         let condition = self.condition(level)?;
@@ -113,7 +114,7 @@ impl<'a> Parser<'a> {
     #[cycle(statement)]
     fn for_loop(&mut self, level: u64, into: &mut Items<Stmt>) -> Result<(), ParseRefusal>
         requires { starts_statement self.old.left ≡ StatementStart.For }
-        ensures { MatchResult result (λ _. HasStatement level self.old self.new into.old into.new) (λ refusal. LacksStatement level self.old refusal) }
+        ensures { MatchResult result (λ _. Parses (statement_phrase level) self.old self.new (into.old, into.new)) (λ refusal. Lacks (statement_phrase level) self.old refusal) }
     {
         let head = self.for_head(level)?;
         let body = self.body(level + 2, level)?;
@@ -124,7 +125,7 @@ impl<'a> Parser<'a> {
     /// Reads the word `for` and what stands between the parentheses.
     fn for_head(&mut self, level: u64) -> Result<ForHead, ParseRefusal>
         requires { starts_statement self.old.left ≡ StatementStart.For }
-        ensures { MatchResult result (λ head. HasForHead level self.old self.new head) (λ refusal. LacksStatement level self.old refusal) }
+        ensures { MatchResult result (λ head. Parses (for_head_phrase level) self.old self.new head) (λ refusal. Lacks (statement_phrase level) self.old refusal) }
     {
         self.pass(level, &[])?;
         self.sign(Sign::OpenParen, level)?;
@@ -142,7 +143,7 @@ impl<'a> Parser<'a> {
 
     /// Reads the first part of a `for` and the semicolon behind it.
     fn for_start(&mut self, level: u64, into: &mut Items<Stmt>) -> Result<(), ParseRefusal>
-        ensures { MatchResult result (λ _. HasForStart level self.old self.new into.old into.new) (λ refusal. LacksForStart level self.old refusal) }
+        ensures { MatchResult result (λ _. Parses (for_start_phrase level) self.old self.new (into.old, into.new)) (λ refusal. Lacks (for_start_phrase level) self.old refusal) }
     {
         if self.is_at(Sign::Semicolon) {
             return self.pass(level, &[]);
@@ -159,7 +160,7 @@ impl<'a> Parser<'a> {
 
     /// Reads the condition of a `for`, which is 1 where it is left out, and the semicolon behind it.
     fn for_condition(&mut self, level: u64) -> Result<Expr, ParseRefusal>
-        ensures { MatchResult result (λ tree. HasForCondition level self.old self.new tree) (λ refusal. LacksForCondition level self.old refusal) }
+        ensures { MatchResult result (λ tree. Parses (for_condition_phrase level) self.old self.new tree) (λ refusal. Lacks (for_condition_phrase level) self.old refusal) }
     {
         if self.is_at(Sign::Semicolon) {
             self.pass(level, &[])?;
@@ -175,7 +176,7 @@ impl<'a> Parser<'a> {
         owner: u64,
         into: &mut Items<Stmt>,
     ) -> Result<(), ParseRefusal>
-        ensures { MatchResult result (λ _. HasForLast level owner self.old self.new into.old into.new) (λ refusal. LacksForLast level owner self.old refusal) }
+        ensures { MatchResult result (λ _. Parses (for_last_phrase level owner) self.old self.new (into.old, into.new)) (λ refusal. Lacks (for_last_phrase level owner) self.old refusal) }
     {
         if self.is_at(Sign::CloseParen) {
             return self.pass(owner, &[]);
@@ -188,7 +189,7 @@ impl<'a> Parser<'a> {
 
     /// Reads an expression in parentheses that do not count as a level.
     fn condition(&mut self, level: u64) -> Result<Expr, ParseRefusal>
-        ensures { MatchResult result (λ tree. HasCondition level self.old self.new tree) (λ refusal. LacksCondition level self.old refusal) }
+        ensures { MatchResult result (λ tree. Parses (condition_phrase level) self.old self.new tree) (λ refusal. Lacks (condition_phrase level) self.old refusal) }
     {
         self.sign(Sign::OpenParen, level)?;
         self.enclosed(level, Opening::Whole, Sign::CloseParen, level)
@@ -197,7 +198,7 @@ impl<'a> Parser<'a> {
     /// Reads a statement that begins with a name: a call, an assignment, a step or a store.
     fn named(&mut self, level: u64, into: &mut Items<Stmt>) -> Result<(), ParseRefusal>
         requires { starts_statement self.old.left ≡ StatementStart.Name }
-        ensures { MatchResult result (λ _. HasStatement level self.old self.new into.old into.new) (λ refusal. LacksStatement level self.old refusal) }
+        ensures { MatchResult result (λ _. Parses (statement_phrase level) self.old self.new (into.old, into.new)) (λ refusal. Lacks (statement_phrase level) self.old refusal) }
     {
         let name = self.name(level, &[])?;
         if !self.is_at(Sign::OpenParen) {
@@ -214,7 +215,7 @@ impl<'a> Parser<'a> {
     /// Reads a spawn whose value is dropped.
     fn spawning(&mut self, level: u64, into: &mut Items<Stmt>) -> Result<(), ParseRefusal>
         requires { starts_statement self.old.left ≡ StatementStart.Spawn }
-        ensures { MatchResult result (λ _. HasStatement level self.old self.new into.old into.new) (λ refusal. LacksStatement level self.old refusal) }
+        ensures { MatchResult result (λ _. Parses (statement_phrase level) self.old self.new (into.old, into.new)) (λ refusal. Lacks (statement_phrase level) self.old refusal) }
     {
         self.pass(level, &[])?;
         let call = self.spawned(level)?;
@@ -225,7 +226,7 @@ impl<'a> Parser<'a> {
     /// Reads an addition whose old value is dropped.
     fn adding(&mut self, level: u64, into: &mut Items<Stmt>) -> Result<(), ParseRefusal>
         requires { starts_statement self.old.left ≡ StatementStart.Add }
-        ensures { MatchResult result (λ _. HasStatement level self.old self.new into.old into.new) (λ refusal. LacksStatement level self.old refusal) }
+        ensures { MatchResult result (λ _. Parses (statement_phrase level) self.old self.new (into.old, into.new)) (λ refusal. Lacks (statement_phrase level) self.old refusal) }
     {
         self.pass(level, &[])?;
         let addition = self.added(level)?;
@@ -236,7 +237,7 @@ impl<'a> Parser<'a> {
     /// Reads `sync;`
     fn syncing(&mut self, level: u64, into: &mut Items<Stmt>) -> Result<(), ParseRefusal>
         requires { starts_statement self.old.left ≡ StatementStart.Sync }
-        ensures { MatchResult result (λ _. HasStatement level self.old self.new into.old into.new) (λ refusal. LacksStatement level self.old refusal) }
+        ensures { MatchResult result (λ _. Parses (statement_phrase level) self.old self.new (into.old, into.new)) (λ refusal. Lacks (statement_phrase level) self.old refusal) }
     {
         self.pass(level, &[])?;
         into.push(Stmt::Sync)?;
@@ -246,7 +247,7 @@ impl<'a> Parser<'a> {
     /// Reads a `print`.
     fn printing(&mut self, level: u64, into: &mut Items<Stmt>) -> Result<(), ParseRefusal>
         requires { starts_statement self.old.left ≡ StatementStart.Print }
-        ensures { MatchResult result (λ _. HasStatement level self.old self.new into.old into.new) (λ refusal. LacksStatement level self.old refusal) }
+        ensures { MatchResult result (λ _. Parses (statement_phrase level) self.old self.new (into.old, into.new)) (λ refusal. Lacks (statement_phrase level) self.old refusal) }
     {
         self.pass(level, &[])?;
         let value = self.condition(level)?;
@@ -257,7 +258,7 @@ impl<'a> Parser<'a> {
     /// Reads a `return`.
     fn returning(&mut self, level: u64, into: &mut Items<Stmt>) -> Result<(), ParseRefusal>
         requires { starts_statement self.old.left ≡ StatementStart.Return }
-        ensures { MatchResult result (λ _. HasStatement level self.old self.new into.old into.new) (λ refusal. LacksStatement level self.old refusal) }
+        ensures { MatchResult result (λ _. Parses (statement_phrase level) self.old self.new (into.old, into.new)) (λ refusal. Lacks (statement_phrase level) self.old refusal) }
     {
         self.pass(level, &[])?;
         if self.is_at(Sign::Semicolon) {

@@ -19,7 +19,7 @@ use Rattle.cilk_tree.specs.Spelling.{IsEndFault, IsFault, IsFaultAt, IsNoLater, 
 use Rattle.cilk_tree.specs.Sugar.{source_tree}
 use Rattle.cilk_tree.specs.Syntax.{Empty, Source, IsWellFormed}
 use Rattle.cilk_parser.specs.declared.parser.End.{End}
-use Rattle.cilk_parser.specs.Parts.{answer_on}
+use Rattle.cilk_parser.specs.Phrases.{answer_on}
 use Rattle.cilk_parser.specs.Run.{Answer, Accepted, Refused, at_end, reads, walk}
 use Rattle.cilk_parser.specs.Steps.{Items, Next, finish}
 use Rattle.cilk_parser.specs.Tally.{all_counted_on, is_over, none_counted}

@@ -11,7 +11,8 @@ use Rattle.cilk_parser.specs.declared.parser.End.{End}
 use Rattle.cilk_parser.specs.declared.refusal.ParseRefusal.{ParseRefusal}
 use Rattle.cilk_parser.specs.declared.refusal.ParseRefusal.TheVariants.{At, Memory}
 use Rattle.cilk_parser.specs.Faults.{IsRefusedFor}
-use Rattle.cilk_parser.specs.Parts.{HasProgram, Refuses, answer_on}
+use Rattle.cilk_parser.specs.Spots.{Refuses}
+use Rattle.cilk_parser.specs.Phrases.{HasProgram, answer_on}
 use Rattle.cilk_parser.specs.Run.{Accepted, Refused}
 use Rattle.cilk_parser.proofs.Answered.Answers.{accepted_is_program, program_is_accepted, program_has_no_fault, refused_is_first}
 

@@ -17,7 +17,8 @@ use Rattle.cilk_parser.specs.declared.refusal.ParseRefusal.{ParseRefusal}
 use Rattle.cilk_parser.specs.declared.starts.StatementStart.{StatementStart}
 use Rattle.cilk_parser.specs.declared.starts.StatementStart.TheVariants as statement
 use Rattle.cilk_parser.specs.Contexts.{StatementIn, AsStatement, statement_level}
-use Rattle.cilk_parser.specs.Parts.{Spot, from, Refuses, HasPassed, IsOver, HasStatement, LacksStatement, is_sign, is_keyword, is_name_token, stepping, unexpected_of}
+use Rattle.cilk_parser.specs.Spots.{Spot, from, Refuses, HasPassed, IsOver, is_sign, is_keyword, is_name_token, stepping, unexpected_of}
+use Rattle.cilk_parser.specs.Phrases.{Lacks, Parses, statement_phrase}
 use Rattle.cilk_parser.specs.Starts.{statement_start, starts_statement}
 use Rattle.cilk_parser.specs.Steps.{State, Next, Awaits, AwaitsName, AfterName, AfterReturn, AddOpen, SyncEnd, IfOpen, WhileOpen, ForOpen, PrintOpen, SpawnedName, after_statement, goes_on, step_statement}
 use Rattle.cilk_parser.specs.Contexts.{Called}
@@ -138,19 +139,19 @@ module _ (start : StatementStart) (token : Token) (next : StatementIn → State)
   pub begun_passed : (new : Spot) → HasPassed level [] old new → (outer : StatementIn) → statement_level outer ≡ level → stepping (step_statement outer) old ≡ from (next outer) new
   begun_passed new passed outer same = token_passed (step_statement outer) (next outer) level [] token (goes_there outer same) old stands new passed
 
-  pub begun_over : (refusal : ParseRefusal) → IsOver level [] old refusal → LacksStatement level old refusal
+  pub begun_over : (refusal : ParseRefusal) → IsOver level [] old refusal → Lacks (statement_phrase level) old refusal
   begun_over refusal over outer same = token_over (step_statement outer) (next outer) level [] token (goes_there outer same) old stands refusal over
 
 -- `;` is a statement.
-pub empty_reads : (level : ℕ) (old new : Spot) (before : List Stmt) → starts_statement old.left ≡ statement.Empty → HasPassed level [] old new → HasStatement level old new before before
+pub empty_reads : (level : ℕ) (old new : Spot) (before : List Stmt) → starts_statement old.left ≡ statement.Empty → HasPassed level [] old new → Parses (statement_phrase level) old new (before, before)
 empty_reads level old new before there passed = record {
-  statement = Nothing;
+  syntax = Nothing;
   same = sym (append-nil before);
   shorter = passed_shorter level [] old new passed;
   leads = begun_passed statement.Empty (Mark sign.Semicolon) (λ outer. after_statement outer Nothing) begun_empty level old there new passed;
 }
 
-pub empty_over : (level : ℕ) (old : Spot) (refusal : ParseRefusal) → starts_statement old.left ≡ statement.Empty → IsOver level [] old refusal → LacksStatement level old refusal
+pub empty_over : (level : ℕ) (old : Spot) (refusal : ParseRefusal) → starts_statement old.left ≡ statement.Empty → IsOver level [] old refusal → Lacks (statement_phrase level) old refusal
 empty_over level old refusal there over = begun_over statement.Empty (Mark sign.Semicolon) (λ outer. after_statement outer Nothing) begun_empty level old there refusal over
 
 nowhere : (outer : StatementIn) (token : Token) → statement_start token ≡ statement.Other → step_statement outer token ≡ None
@@ -167,7 +168,7 @@ nowhere outer (Word word.Return) other = absurd (cc)
 nowhere outer _ other = refl
 
 -- No statement begins here.
-pub other_refuses : (level : ℕ) (old : Spot) → starts_statement old.left ≡ statement.Other → LacksStatement level old (unexpected_of old.end old.left)
+pub other_refuses : (level : ℕ) (old : Spot) → starts_statement old.left ≡ statement.Other → Lacks (statement_phrase level) old (unexpected_of old.end old.left)
 other_refuses level old there outer same =
     unexpected_refuses (step_statement outer) old (λ placed places first. nowhere outer placed.token (subst (λ left. starts_statement left ≡ statement.Other) first there))
 

@@ -13,7 +13,8 @@ use Rattle.cilk_tree.specs.declared.tree.UnaryOp.{UnaryOp}
 use Rattle.cilk_tree.specs.Levels.{counting}
 use Rattle.cilk_tree.specs.Syntax.{Expression, Variable, Prefix, Infix, operator_strength}
 use Rattle.cilk_parser.specs.Contexts.{Around, ValueOf, ArgumentOf, AddedAt, AddendOf, ChangedBy, StoredAt, StoredIn, IfCondition, WhileCondition, ForCondition, Printed, Returned, RightOf, Under, InIndex, InGroup, level_of, least_strength}
-use Rattle.cilk_parser.specs.Parts.{Spot, from, is_sign, stepping, stops_below}
+use Rattle.cilk_parser.specs.Spots.{Spot, from, is_sign, stepping}
+use Rattle.cilk_parser.specs.Phrases.{stops_below}
 use Rattle.cilk_parser.specs.Steps.{Wants, Has, goes_on, is_mark, step, step_end, step_has, step_operand, step_operator, token_operator, with_operator}
 use Rattle.cilk_parser.proofs.Signs.{strength_most}
 use Rattle.cilk_parser.proofs.Bricks.Stepping.{from_steps, sign_absent, stepping_same}

@@ -11,7 +11,8 @@ use Rattle.cilk_tree.specs.Sugar.{inner_trees, inners_trees}
 use Rattle.cilk_tree.specs.Syntax.{Declaration, Block, Stated, Inners, NoInners, ThenInner, Braced, Single}
 use Rattle.cilk_parser.specs.declared.refusal.ParseRefusal.{ParseRefusal}
 use Rattle.cilk_parser.specs.Contexts.{AsBody, AsDeclaration, BodyIn, InBlock, InBody, InInners, InnersIn, closing_level, inners_level, owner_level}
-use Rattle.cilk_parser.specs.Parts.{Spot, from, HasPassed, IsOver, HasDeclaration, LacksDeclaration, HasStatement, LacksStatement, HasInner, LacksInner, HasInners, LacksInners, HasOneBody, LacksBody, is_keyword, is_sign, is_word, stepping}
+use Rattle.cilk_parser.specs.Spots.{Spot, from, HasPassed, IsOver, is_keyword, is_sign, is_word, stepping}
+use Rattle.cilk_parser.specs.Phrases.{Lacks, Parses, body_phrase, declaration_phrase, inner_phrase, inners_phrase, statement_phrase}
 use Rattle.cilk_parser.specs.Steps.{AtBody, AtInner, AwaitsName, DeclaratorName, after_inners, goes_on, is_mark, step, step_body, step_inner, step_statement}
 use Rattle.cilk_parser.proofs.Bricks.Beginnings.{keyword_begins, sign_begins}
 use Rattle.cilk_parser.proofs.Bricks.Stepping.{from_steps, keyword_absent, passed_shorter, refuses_as, sign_absent, stepping_same}
@@ -24,8 +25,8 @@ module _ (level : ℕ) (old : Spot) (there : IsTrue (is_keyword word.Int old.lef
   unfolding step
   goes_declaring outer others same = ap (λ l. goes_on (plain l (Word word.Int)) (AwaitsName (DeclaratorName (AsDeclaration outer others) None))) same
 
-  pub declaration_over : (refusal : ParseRefusal) → IsOver level [] old refusal → LacksInner level old refusal
-  declaration_over refusal over outer others same =
+  pub declaration_over : (refusal : ParseRefusal) → IsOver level [] old refusal → Lacks (inner_phrase level) old refusal
+  declaration_over refusal over (outer, others) same =
       state_over (AtInner outer others) (AwaitsName (DeclaratorName (AsDeclaration outer others) None)) refl level (Word word.Int) (goes_declaring outer others same) old (keyword_begins word.Int old.left there) refusal over
 
   module _ (middle : Spot) (passed : HasPassed level [] old middle) where
@@ -33,15 +34,15 @@ module _ (level : ℕ) (old : Spot) (there : IsTrue (is_keyword word.Int old.lef
     to_names outer others same =
         state_passed (AtInner outer others) (AwaitsName (DeclaratorName (AsDeclaration outer others) None)) refl level (Word word.Int) (goes_declaring outer others same) old (keyword_begins word.Int old.left there) middle passed
 
-    pub declaration_lacks : (refusal : ParseRefusal) → LacksDeclaration level middle refusal → LacksInner level old refusal
-    declaration_lacks refusal lacks outer others same = refuses_as refusal _ _ (to_names outer others same) (lacks (AsDeclaration outer others) same)
+    pub declaration_lacks : (refusal : ParseRefusal) → Lacks (declaration_phrase level) middle refusal → Lacks (inner_phrase level) old refusal
+    declaration_lacks refusal lacks (outer, others) same = refuses_as refusal _ _ (to_names outer others same) (lacks (AsDeclaration outer others) same)
 
-    pub declaration_reads : (new : Spot) (before now : List Stmt) → HasDeclaration level middle new before now → HasInner level old new before now
+    pub declaration_reads : (new : Spot) (before now : List Stmt) → Parses (declaration_phrase level) middle new (before, now) → Parses (inner_phrase level) old new (before, now)
     declaration_reads new before now read = record {
-      inner = Declaration read.declarators;
+      syntax = Declaration read.syntax;
       same = read.same;
       shorter = let a = passed_shorter level [] old middle passed in let b = read.shorter in omega arith;
-      leads = λ outer others same. to_names outer others same ∙ read.leads (AsDeclaration outer others) same;
+      leads = λ (outer, others) same. to_names outer others same ∙ read.leads (AsDeclaration outer others) same;
     }
 
 module _ (level : ℕ) (old : Spot) (there : IsTrue (is_sign sign.OpenBrace old.left)) where
@@ -49,8 +50,8 @@ module _ (level : ℕ) (old : Spot) (there : IsTrue (is_sign sign.OpenBrace old.
   unfolding step
   goes_deeper outer others same = ap (λ l. goes_on (mark l sign.OpenBrace) (AtInner (InBlock outer others) NoInners)) same
 
-  pub block_over : (refusal : ParseRefusal) → IsOver level [] old refusal → LacksInner level old refusal
-  block_over refusal over outer others same =
+  pub block_over : (refusal : ParseRefusal) → IsOver level [] old refusal → Lacks (inner_phrase level) old refusal
+  block_over refusal over (outer, others) same =
       state_over (AtInner outer others) (AtInner (InBlock outer others) NoInners) refl level (Mark sign.OpenBrace) (goes_deeper outer others same) old (sign_begins sign.OpenBrace old.left there) refusal over
 
   module _ (middle : Spot) (passed : HasPassed level [] old middle) where
@@ -58,15 +59,15 @@ module _ (level : ℕ) (old : Spot) (there : IsTrue (is_sign sign.OpenBrace old.
     to_block outer others same =
         state_passed (AtInner outer others) (AtInner (InBlock outer others) NoInners) refl level (Mark sign.OpenBrace) (goes_deeper outer others same) old (sign_begins sign.OpenBrace old.left there) middle passed
 
-    pub block_lacks : (refusal : ParseRefusal) → LacksInners (level + 1) level middle refusal → LacksInner level old refusal
-    block_lacks refusal lacks outer others same = refuses_as refusal _ _ (to_block outer others same) (lacks (InBlock outer others) (ap (λ l. l + 1) same) same)
+    pub block_lacks : (refusal : ParseRefusal) → Lacks (inners_phrase (level + 1) level) middle refusal → Lacks (inner_phrase level) old refusal
+    block_lacks refusal lacks (outer, others) same = refuses_as refusal _ _ (to_block outer others same) (lacks (InBlock outer others) (ap (λ l. l + 1) same, same))
 
-    pub block_reads : (new : Spot) (trees : List Stmt) → HasInners (level + 1) level middle new trees → (before now : List Stmt) → now ≡ before ++ stmt.Block trees ∷ [] → HasInner level old new before now
+    pub block_reads : (new : Spot) (trees : List Stmt) → Parses (inners_phrase (level + 1) level) middle new trees → (before now : List Stmt) → now ≡ before ++ stmt.Block trees ∷ [] → Parses (inner_phrase level) old new (before, now)
     block_reads new trees read before now added = record {
-      inner = Block read.inners;
+      syntax = Block read.syntax;
       same = added ∙ ap (λ ts. before ++ stmt.Block ts ∷ []) read.same;
       shorter = let a = passed_shorter level [] old middle passed in let b = read.shorter in omega arith;
-      leads = λ outer others same. to_block outer others same ∙ read.leads (InBlock outer others) (ap (λ l. l + 1) same) same;
+      leads = λ (outer, others) same. to_block outer others same ∙ read.leads (InBlock outer others) (ap (λ l. l + 1) same, same);
     }
 
 inner_stated : (outer : InnersIn) (others : Inners) (token : Token) → is_mark sign.CloseBrace token ≡ false → is_word word.Int token ≡ false → is_mark sign.OpenBrace token ≡ false →
@@ -85,15 +86,15 @@ module _ (level : ℕ) (old : Spot) (no_end : is_sign sign.CloseBrace old.left �
       (λ placed places first.
       inner_stated outer others placed.token (sign_absent sign.CloseBrace old.left places placed first no_end) (keyword_absent word.Int old.left places placed first no_int) (sign_absent sign.OpenBrace old.left places placed first no_block))
 
-  pub stated_lacks : (refusal : ParseRefusal) → LacksStatement level old refusal → LacksInner level old refusal
-  stated_lacks refusal lacks outer others same = refuses_as refusal _ _ (at_statement outer others) (lacks (InInners outer others) same)
+  pub stated_lacks : (refusal : ParseRefusal) → Lacks (statement_phrase level) old refusal → Lacks (inner_phrase level) old refusal
+  stated_lacks refusal lacks (outer, others) same = refuses_as refusal _ _ (at_statement outer others) (lacks (InInners outer others) same)
 
-  pub stated_reads : (new : Spot) (before now : List Stmt) → HasStatement level old new before now → HasInner level old new before now
+  pub stated_reads : (new : Spot) (before now : List Stmt) → Parses (statement_phrase level) old new (before, now) → Parses (inner_phrase level) old new (before, now)
   stated_reads new before now read = record {
-    inner = Stated read.statement;
+    syntax = Stated read.syntax;
     same = read.same;
     shorter = read.shorter;
-    leads = λ outer others same. at_statement outer others ∙ read.leads (InInners outer others) same;
+    leads = λ (outer, others) same. at_statement outer others ∙ read.leads (InInners outer others) same;
   }
 
 -- ---- a list
@@ -109,33 +110,33 @@ pub begins_list : (level : ℕ) (old : Spot) → HasBegun level old old []
 begins_list level old = record { inners = NoInners; same = refl; no_longer = omega arith; leads = λ outer same. refl }
 
 module _ (level : ℕ) (old middle : Spot) (trees : List Stmt) (begun : HasBegun level old middle trees) where
-  pub goes_on_list : (new : Spot) (now : List Stmt) → HasInner level middle new trees now → HasBegun level old new now
+  pub goes_on_list : (new : Spot) (now : List Stmt) → Parses (inner_phrase level) middle new (trees, now) → HasBegun level old new now
   goes_on_list new now read = record {
-    inners = ThenInner begun.inners read.inner;
-    same = read.same ∙ ap (λ ts. ts ++ inner_trees read.inner) begun.same;
+    inners = ThenInner begun.inners read.syntax;
+    same = read.same ∙ ap (λ ts. ts ++ inner_trees read.syntax) begun.same;
     no_longer = let a = begun.no_longer in let b = read.shorter in omega arith;
-    leads = λ outer same. begun.leads outer same ∙ read.leads outer begun.inners same;
+    leads = λ outer same. begun.leads outer same ∙ read.leads (outer, begun.inners) same;
   }
 
-  pub list_lacks : (closing : ℕ) (refusal : ParseRefusal) → LacksInner level middle refusal → LacksInners level closing old refusal
-  list_lacks closing refusal lacks outer same same_closing = refuses_as refusal _ _ (begun.leads outer same) (lacks outer begun.inners same)
+  pub list_lacks : (closing : ℕ) (refusal : ParseRefusal) → Lacks (inner_phrase level) middle refusal → Lacks (inners_phrase level closing) old refusal
+  list_lacks closing refusal lacks outer (same, same_closing) = refuses_as refusal _ _ (begun.leads outer same) (lacks (outer, begun.inners) same)
 
   module _ (closing : ℕ) (ends : IsTrue (is_sign sign.CloseBrace middle.left)) where
     goes_out : (outer : InnersIn) → closing_level outer ≡ closing → step (AtInner outer begun.inners) (Mark sign.CloseBrace) ≡ goes_on (mark closing sign.CloseBrace) (after_inners outer begun.inners)
     unfolding step
     goes_out outer same = ap (λ l. goes_on (mark l sign.CloseBrace) (after_inners outer begun.inners)) same
 
-    pub list_over : (refusal : ParseRefusal) → IsOver closing [] middle refusal → LacksInners level closing old refusal
-    list_over refusal over outer same same_closing =
+    pub list_over : (refusal : ParseRefusal) → IsOver closing [] middle refusal → Lacks (inners_phrase level closing) old refusal
+    list_over refusal over outer (same, same_closing) =
         refuses_as refusal _ _ (begun.leads outer same)
         (state_over (AtInner outer begun.inners) (after_inners outer begun.inners) refl closing (Mark sign.CloseBrace) (goes_out outer same_closing) middle (sign_begins sign.CloseBrace middle.left ends) refusal over)
 
-    pub list_reads : (new : Spot) → HasPassed closing [] middle new → HasInners level closing old new trees
+    pub list_reads : (new : Spot) → HasPassed closing [] middle new → Parses (inners_phrase level closing) old new trees
     list_reads new passed = record {
-      inners = begun.inners;
+      syntax = begun.inners;
       same = begun.same;
       shorter = let a = begun.no_longer in let b = passed_shorter closing [] middle new passed in omega arith;
-      leads = λ outer same same_closing.
+      leads = λ outer (same, same_closing).
           begun.leads outer same ∙
           state_passed (AtInner outer begun.inners) (after_inners outer begun.inners) refl closing (Mark sign.CloseBrace) (goes_out outer same_closing) middle (sign_begins sign.CloseBrace middle.left ends) new passed;
     }
@@ -147,23 +148,23 @@ module _ (level own : ℕ) (old : Spot) (there : IsTrue (is_sign sign.OpenBrace 
   unfolding step
   goes_braced owner same = ap (λ l. goes_on (mark l sign.OpenBrace) (AtInner (InBody owner) NoInners)) same
 
-  pub braced_over : (refusal : ParseRefusal) → IsOver own [] old refusal → LacksBody level own old refusal
-  braced_over refusal over owner same same_own =
+  pub braced_over : (refusal : ParseRefusal) → IsOver own [] old refusal → Lacks (body_phrase level own) old refusal
+  braced_over refusal over owner (same, same_own) =
       state_over (AtBody owner) (AtInner (InBody owner) NoInners) refl own (Mark sign.OpenBrace) (goes_braced owner same_own) old (sign_begins sign.OpenBrace old.left there) refusal over
 
   module _ (middle : Spot) (passed : HasPassed own [] old middle) where
     to_braced : (owner : BodyIn) → owner_level owner ≡ own → from (AtBody owner) old ≡ from (AtInner (InBody owner) NoInners) middle
     to_braced owner same_own = state_passed (AtBody owner) (AtInner (InBody owner) NoInners) refl own (Mark sign.OpenBrace) (goes_braced owner same_own) old (sign_begins sign.OpenBrace old.left there) middle passed
 
-    pub braced_lacks : (refusal : ParseRefusal) → LacksInners level own middle refusal → LacksBody level own old refusal
-    braced_lacks refusal lacks owner same same_own = refuses_as refusal _ _ (to_braced owner same_own) (lacks (InBody owner) same same_own)
+    pub braced_lacks : (refusal : ParseRefusal) → Lacks (inners_phrase level own) middle refusal → Lacks (body_phrase level own) old refusal
+    braced_lacks refusal lacks owner (same, same_own) = refuses_as refusal _ _ (to_braced owner same_own) (lacks (InBody owner) (same, same_own))
 
-    pub braced_reads : (new : Spot) (trees : List Stmt) → HasInners level own middle new trees → HasOneBody level own old new trees
+    pub braced_reads : (new : Spot) (trees : List Stmt) → Parses (inners_phrase level own) middle new trees → Parses (body_phrase level own) old new trees
     braced_reads new trees read = record {
-      body = Braced read.inners;
+      syntax = Braced read.syntax;
       same = read.same;
       shorter = let a = passed_shorter own [] old middle passed in let b = read.shorter in omega arith;
-      leads = λ owner same same_own. to_braced owner same_own ∙ read.leads (InBody owner) same same_own;
+      leads = λ owner (same, same_own). to_braced owner same_own ∙ read.leads (InBody owner) (same, same_own);
     }
 
 body_stated : (owner : BodyIn) (token : Token) → is_mark sign.OpenBrace token ≡ false → step_body owner token ≡ step_statement (AsBody owner) token
@@ -177,13 +178,13 @@ module _ (level own : ℕ) (old : Spot) (absent : is_sign sign.OpenBrace old.lef
       from_steps (AtBody owner) refl old ∙
       stepping_same (step_body owner) (step_statement (AsBody owner)) old (λ placed places first. body_stated owner placed.token (sign_absent sign.OpenBrace old.left places placed first absent))
 
-  pub single_lacks : (refusal : ParseRefusal) → LacksStatement level old refusal → LacksBody level own old refusal
-  single_lacks refusal lacks owner same same_own = refuses_as refusal _ _ (at_single owner) (lacks (AsBody owner) same)
+  pub single_lacks : (refusal : ParseRefusal) → Lacks (statement_phrase level) old refusal → Lacks (body_phrase level own) old refusal
+  single_lacks refusal lacks owner (same, same_own) = refuses_as refusal _ _ (at_single owner) (lacks (AsBody owner) same)
 
-  pub single_reads : (new : Spot) (trees : List Stmt) → HasStatement level old new [] trees → HasOneBody level own old new trees
+  pub single_reads : (new : Spot) (trees : List Stmt) → Parses (statement_phrase level) old new ([], trees) → Parses (body_phrase level own) old new trees
   single_reads new trees read = record {
-    body = Single read.statement;
+    syntax = Single read.syntax;
     same = read.same;
     shorter = read.shorter;
-    leads = λ owner same same_own. at_single owner ∙ read.leads (AsBody owner) same;
+    leads = λ owner (same, same_own). at_single owner ∙ read.leads (AsBody owner) same;
   }

@@ -6,7 +6,7 @@ use Rattle.cilk_tree.specs.declared.token.Token.{Token}
 use Rattle.cilk_tree.specs.declared.token.Token.TheVariants.{Word}
 use Rattle.cilk_tree.specs.Syntax.{Expression, Simple, Start, Statement, IfAlone, IfElse, WhileLoop, ForLoop, Body}
 use Rattle.cilk_parser.specs.Contexts.{BodyIn, IfTaken, IfOtherwise, WhileBody, ForBody, StatementIn, InInners, AsBody}
-use Rattle.cilk_parser.specs.Parts.{Spot, from, is_keyword, is_word}
+use Rattle.cilk_parser.specs.Spots.{Spot, from, is_keyword, is_word}
 use Rattle.cilk_parser.specs.Steps.{Next, HasBody, Place, after_statement, ended_body, ended_statement, finish, otherwise_of_body, otherwise_of_statement, step, step_after_body, step_else, step_inner}
 use Rattle.cilk_parser.proofs.Bricks.Stepping.{from_steps, keyword_absent, stepping_same}
 

@@ -12,7 +12,8 @@ use Rattle.cilk_tree.specs.Syntax.{Commas, Expression}
 use Rattle.cilk_parser.specs.declared.opening.Opening.TheVariants.{Argument}
 use Rattle.cilk_parser.specs.declared.refusal.ParseRefusal.{ParseRefusal}
 use Rattle.cilk_parser.specs.Contexts.{with_last, CallIn, call_level, ArgumentOf}
-use Rattle.cilk_parser.specs.Parts.{Spot, from, Refuses, unexpected_of, is_sign, HasPassed, IsOver, HasRead, HasNamed, LacksName, stepping, stops_below, HasExpression, HasArguments, LacksArguments, HasOpened, LacksOpened, HasSpawn}
+use Rattle.cilk_parser.specs.Spots.{Spot, from, Refuses, unexpected_of, is_sign, HasPassed, IsOver, HasRead, HasNamed, LacksName, stepping}
+use Rattle.cilk_parser.specs.Phrases.{Lacks, Parses, arguments_phrase, expression_phrase, opened_phrase, spawn_phrase, stops_below}
 use Rattle.cilk_parser.specs.Steps.{AtArguments, Wants, Awaits, AwaitsName, CallOpen, SpawnedName, after_call, call_of, goes_on, is_mark, step, step_argument, step_arguments, step_only, step_wants}
 use Rattle.cilk_parser.proofs.Bricks.BehindOperand.{expression_ends}
 use Rattle.cilk_parser.proofs.Bricks.Stepping.{awaits_name, awaits_no_name, from_steps, passed_shorter, refuses_as, sign_absent, stepping_same}
@@ -46,17 +47,17 @@ unfolding step
 closes_none outer spawned name = refl
 
 -- `()`
-pub no_arguments : (level : ℕ) (old new : Spot) → IsTrue (is_sign CloseParen old.left) → HasPassed level [] old new → HasArguments level old new []
+pub no_arguments : (level : ℕ) (old new : Spot) → IsTrue (is_sign CloseParen old.left) → HasPassed level [] old new → Parses (arguments_phrase level) old new []
 no_arguments level old new there passed = record {
-  arguments = None;
+  syntax = None;
   same = refl;
   shorter = passed_shorter level [] old new passed;
-  leads = λ outer spawned name same.
+  leads = λ (outer, spawned, name) same.
       known_passed (AtArguments outer spawned name) refl (Mark CloseParen) (call_level outer) level [] (after_call outer (call_of spawned name None)) same (closes_none outer spawned name) old (stands_sign CloseParen old there) new passed;
 }
 
-pub no_arguments_over : (level : ℕ) (old : Spot) (refusal : ParseRefusal) → IsTrue (is_sign CloseParen old.left) → IsOver level [] old refusal → LacksArguments level old refusal
-no_arguments_over level old refusal there over outer spawned name same =
+pub no_arguments_over : (level : ℕ) (old : Spot) (refusal : ParseRefusal) → IsTrue (is_sign CloseParen old.left) → IsOver level [] old refusal → Lacks (arguments_phrase level) old refusal
+no_arguments_over level old refusal there over (outer, spawned, name) same =
     known_over (AtArguments outer spawned name) refl (Mark CloseParen) (call_level outer) level [] (after_call outer (call_of spawned name None)) same (closes_none outer spawned name) old (stands_sign CloseParen old there) refusal over
 
 closes_list : (outer : CallIn) (spawned : Bool) (name : List ℕ) (arguments : Commas Expression) (level : ℕ) → call_level outer ≡ level → (token : Token) → is_mark Comma token ≡ false →
@@ -72,7 +73,7 @@ arguments_listed outer spawned name arguments level same = record {
   others = closes_list outer spawned name arguments level same;
 }
 
-module _ (level : ℕ) (old now mid : Spot) (trees : List Expr) (tree : Expr) (far : ArgumentsSoFar level old now trees) (has : HasExpression 0 level Argument now mid tree) (stops : IsTrue (stops_below 0 mid.left)) where
+module _ (level : ℕ) (old now mid : Spot) (trees : List Expr) (tree : Expr) (far : ArgumentsSoFar level old now trees) (has : Parses (expression_phrase 0 level Argument) now mid tree) (stops : IsTrue (stops_below 0 mid.left)) where
   argument_read : (outer : CallIn) (spawned : Bool) (name : List ℕ) → call_level outer ≡ level → from (AtArguments outer spawned name) old ≡ stepping (step_argument outer spawned name (with_last far.before has.syntax)) mid
   argument_read outer spawned name same =
       far.leads outer spawned name same
@@ -95,12 +96,12 @@ module _ (level : ℕ) (old now mid : Spot) (trees : List Expr) (tree : Expr) (f
   }
 
   -- the parenthesis ends them
-  pub arguments_end : (new : Spot) → is_sign Comma mid.left ≡ false → HasRead CloseParen level mid new → HasArguments level old new (trees ++ tree ∷ [])
+  pub arguments_end : (new : Spot) → is_sign Comma mid.left ≡ false → HasRead CloseParen level mid new → Parses (arguments_phrase level) old new (trees ++ tree ∷ [])
   arguments_end new absent read = record {
-    arguments = Some (with_last far.before has.syntax);
+    syntax = Some (with_last far.before has.syntax);
     same = more_trees;
     shorter = let a = far.no_longer in let b = has.shorter in let c = passed_shorter level [] mid new read.passed in omega arith;
-    leads = λ outer spawned name same.
+    leads = λ (outer, spawned, name) same.
         argument_read outer spawned name same
         ∙ list_closed (step_argument outer spawned name (with_last far.before has.syntax)) level (Wants (ArgumentOf outer spawned name (Some (with_last far.before has.syntax)))) CloseParen
         (after_call outer (call_of spawned name (Some (with_last far.before has.syntax)))) (arguments_listed outer spawned name (with_last far.before has.syntax) level same) mid new absent read;
@@ -117,12 +118,12 @@ unfolding step
 opens_only outer spawned name (Mark OpenParen) other = absurd (cc)
 opens_only outer spawned name _ other = refl
 
-pub lacks_opening : (level : ℕ) (old : Spot) (refusal : ParseRefusal) → is_sign OpenParen old.left ≡ false → refusal ≡ unexpected_of old.end old.left → LacksOpened level old refusal
-lacks_opening level old refusal absent same outer spawned name _ =
+pub lacks_opening : (level : ℕ) (old : Spot) (refusal : ParseRefusal) → is_sign OpenParen old.left ≡ false → refusal ≡ unexpected_of old.end old.left → Lacks (opened_phrase level) old refusal
+lacks_opening level old refusal absent same (outer, spawned, name) _ =
     state_refuses (Awaits (CallOpen outer spawned name)) refl old refusal same (λ placed places first. opens_only outer spawned name placed.token (sign_absent OpenParen old.left places placed first absent))
 
-pub opening_over : (level : ℕ) (old : Spot) (refusal : ParseRefusal) → IsTrue (is_sign OpenParen old.left) → IsOver level (Anew Arguments ∷ []) old refusal → LacksOpened level old refusal
-opening_over level old refusal there over outer spawned name same =
+pub opening_over : (level : ℕ) (old : Spot) (refusal : ParseRefusal) → IsTrue (is_sign OpenParen old.left) → IsOver level (Anew Arguments ∷ []) old refusal → Lacks (opened_phrase level) old refusal
+opening_over level old refusal there over (outer, spawned, name) same =
     known_over (Awaits (CallOpen outer spawned name)) refl (Mark OpenParen) (call_level outer) level (Anew Arguments ∷ []) (AtArguments outer spawned name) same (opens outer spawned name) old (stands_sign OpenParen old there) refusal over
 
 module _ (level : ℕ) (old mid : Spot) (there : IsTrue (is_sign OpenParen old.left)) (passed : HasPassed level (Anew Arguments ∷ []) old mid) where
@@ -130,19 +131,19 @@ module _ (level : ℕ) (old mid : Spot) (there : IsTrue (is_sign OpenParen old.l
   opened_leads outer spawned name same =
       known_passed (Awaits (CallOpen outer spawned name)) refl (Mark OpenParen) (call_level outer) level (Anew Arguments ∷ []) (AtArguments outer spawned name) same (opens outer spawned name) old (stands_sign OpenParen old there) mid passed
 
-  opened_arguments : (new : Spot) (trees : List Expr) → HasArguments level mid new trees → HasOpened level old new trees
+  opened_arguments : (new : Spot) (trees : List Expr) → Parses (arguments_phrase level) mid new trees → Parses (opened_phrase level) old new trees
   opened_arguments new trees has = record {
-    arguments = has.arguments;
+    syntax = has.syntax;
     same = has.same;
     shorter = let a = has.shorter in let b = passed_shorter level (Anew Arguments ∷ []) old mid passed in omega arith;
-    leads = λ outer spawned name same. opened_leads outer spawned name same ∙ has.leads outer spawned name same;
+    leads = λ (outer, spawned, name) same. opened_leads outer spawned name same ∙ has.leads (outer, spawned, name) same;
   }
 
-  opened_lacks : (refusal : ParseRefusal) → LacksArguments level mid refusal → LacksOpened level old refusal
-  opened_lacks refusal lacks outer spawned name same =
-      refuses_as refusal (from (Awaits (CallOpen outer spawned name)) old) (from (AtArguments outer spawned name) mid) (opened_leads outer spawned name same) (lacks outer spawned name same)
+  opened_lacks : (refusal : ParseRefusal) → Lacks (arguments_phrase level) mid refusal → Lacks (opened_phrase level) old refusal
+  opened_lacks refusal lacks (outer, spawned, name) same =
+      refuses_as refusal (from (Awaits (CallOpen outer spawned name)) old) (from (AtArguments outer spawned name) mid) (opened_leads outer spawned name same) (lacks (outer, spawned, name) same)
 
-  pub opened_or_refused : (new : Spot) (result : Result (List Expr) ParseRefusal) → MatchResult result (HasArguments level mid new) (LacksArguments level mid) → MatchResult result (HasOpened level old new) (LacksOpened level old)
+  pub opened_or_refused : (new : Spot) (result : Result (List Expr) ParseRefusal) → MatchResult result (Parses (arguments_phrase level) mid new) (Lacks (arguments_phrase level) mid) → MatchResult result (Parses (opened_phrase level) old new) (Lacks (opened_phrase level) old)
   opened_or_refused new (Ok trees) has = opened_arguments new trees has
   opened_or_refused new (Err refusal) lacks = opened_lacks refusal lacks
 
@@ -155,13 +156,13 @@ module _ (level : ℕ) (name : List ℕ) (old mid : Spot) (named : HasNamed leve
   spawned_name : (outer : CallIn) → call_level outer ≡ level → from (AwaitsName (SpawnedName outer)) old ≡ from (Awaits (CallOpen outer true name)) mid
   spawned_name outer same = awaits_name (SpawnedName outer) level [] (λ n. ap (λ l. plain l (Name n)) same) name old mid named
 
-  pub spawns : (new : Spot) (trees : List Expr) → HasOpened level mid new trees → HasSpawn level old new (record { name = name; arguments = trees })
+  pub spawns : (new : Spot) (trees : List Expr) → Parses (opened_phrase level) mid new trees → Parses (spawn_phrase level) old new (record { name = name; arguments = trees })
   spawns new trees has = record {
-    arguments = has.arguments;
-    same = has.same;
+    syntax = (name, has.syntax);
+    same = ap (λ trees. record { name = name; arguments = trees }) has.same;
     shorter = let a = has.shorter in let b = passed_shorter level [] old mid named.passed in omega arith;
-    leads = λ outer same. spawned_name outer same ∙ has.leads outer true name same;
+    leads = λ outer same. spawned_name outer same ∙ has.leads (outer, true, name) same;
   }
 
-  pub spawn_lacks : (refusal : ParseRefusal) → LacksOpened level mid refusal → (outer : CallIn) → call_level outer ≡ level → Refuses (from (AwaitsName (SpawnedName outer)) old) refusal
-  spawn_lacks refusal lacks outer same = refuses_as refusal (from (AwaitsName (SpawnedName outer)) old) (from (Awaits (CallOpen outer true name)) mid) (spawned_name outer same) (lacks outer true name same)
+  pub spawn_lacks : (refusal : ParseRefusal) → Lacks (opened_phrase level) mid refusal → (outer : CallIn) → call_level outer ≡ level → Refuses (from (AwaitsName (SpawnedName outer)) old) refusal
+  spawn_lacks refusal lacks outer same = refuses_as refusal (from (AwaitsName (SpawnedName outer)) old) (from (Awaits (CallOpen outer true name)) mid) (spawned_name outer same) (lacks (outer, true, name) same)

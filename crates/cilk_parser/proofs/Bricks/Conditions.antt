@@ -7,7 +7,8 @@ use Rattle.cilk_tree.specs.Syntax.{Expression}
 use Rattle.cilk_parser.specs.declared.opening.Opening.TheVariants.{Whole}
 use Rattle.cilk_parser.specs.declared.refusal.ParseRefusal.{ParseRefusal}
 use Rattle.cilk_parser.specs.Contexts.{Around, StatementIn, IfTaken, WhileBody, IfCondition, WhileCondition, Printed, statement_level}
-use Rattle.cilk_parser.specs.Parts.{Spot, from, HasRead, LacksSign, HasEnclosed, LacksEnclosed, HasCondition, LacksCondition, IsCondition}
+use Rattle.cilk_parser.specs.Spots.{Spot, from, HasRead, LacksSign}
+use Rattle.cilk_parser.specs.Phrases.{IsCondition, Lacks, Parses, condition_phrase, enclosed_phrase}
 use Rattle.cilk_parser.specs.Steps.{State, Wants, Awaits, AtBody, IfOpen, WhileOpen, PrintOpen, PrintEnd, step, step_only}
 use Rattle.cilk_parser.proofs.Bricks.Stepping.{Expects, expects_only, from_steps, lacks_sign, passed_shorter, reads_sign, refuses_as}
 
@@ -16,23 +17,23 @@ opens_it level around before after is =
     let only = expects_only OpenParen level (Wants around) in
     record { here = is.opens _ ∙ only.here; only = λ token other. is.opens token ∙ only.only token other }
 
-pub condition_unopened : (level : ℕ) (old : Spot) (refusal : ParseRefusal) → LacksSign OpenParen level old refusal → LacksCondition level old refusal
-condition_unopened level old refusal lacks around before after is =
+pub condition_unopened : (level : ℕ) (old : Spot) (refusal : ParseRefusal) → LacksSign OpenParen level old refusal → Lacks (condition_phrase level) old refusal
+condition_unopened level old refusal lacks (around, before, after) is =
     refuses_as refusal _ _ (from_steps before is.unfinished old) (lacks_sign (step before) OpenParen level (Wants around) (opens_it level around before after is) old refusal lacks)
 
 module _ (level : ℕ) (old middle : Spot) (opened : HasRead OpenParen level old middle) where
   to_inner : (around : Around) (before : State) (after : Expression → State) → IsCondition level around before after → from before old ≡ from (Wants around) middle
   to_inner around before after is = from_steps before is.unfinished old ∙ reads_sign (step before) OpenParen level (Wants around) (opens_it level around before after is) old middle opened
 
-  pub condition_lacks : (refusal : ParseRefusal) → LacksEnclosed level Whole CloseParen level middle refusal → LacksCondition level old refusal
-  condition_lacks refusal lacks around before after is = refuses_as refusal _ _ (to_inner around before after is) (lacks around after is.encloses)
+  pub condition_lacks : (refusal : ParseRefusal) → Lacks (enclosed_phrase level Whole CloseParen level) middle refusal → Lacks (condition_phrase level) old refusal
+  condition_lacks refusal lacks (around, before, after) is = refuses_as refusal _ _ (to_inner around before after is) (lacks (around, after) is.encloses)
 
-  pub condition_reads : (new : Spot) (tree : Expr) → HasEnclosed level Whole CloseParen level middle new tree → HasCondition level old new tree
+  pub condition_reads : (new : Spot) (tree : Expr) → Parses (enclosed_phrase level Whole CloseParen level) middle new tree → Parses (condition_phrase level) old new tree
   condition_reads new tree read = record {
     syntax = read.syntax;
     same = read.same;
     shorter = let a = passed_shorter level [] old middle opened.passed in let b = read.shorter in omega arith;
-    leads = λ around before after is. to_inner around before after is ∙ read.leads around after is.encloses;
+    leads = λ (around, before, after) is. to_inner around before after is ∙ read.leads (around, after) is.encloses;
   }
 
 -- ---- where they stand

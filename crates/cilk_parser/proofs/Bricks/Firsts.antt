@@ -11,7 +11,7 @@ use Rattle.cilk_tree.specs.declared.token.Token.{Token}
 use Rattle.cilk_tree.specs.declared.token.Token.TheVariants.{Name, Number, Word, Mark}
 use Rattle.cilk_tree.specs.Token.{keyword_text, all_keywords}
 use Rattle.std.proofs.lemmas.Bool.{false≢true}
-use Rattle.cilk_parser.specs.Parts.{StartsAt, is_keyword, is_word}
+use Rattle.cilk_parser.specs.Spots.{StartsAt, is_keyword, is_word}
 
 pub first_there : (token : Token) (left rest : List Placed) (placed : Placed) → StartsAt token left → left ≡ placed ∷ rest → placed.token ≡ token
 first_there token left rest placed starts first = subst (StartsAt token) first starts

@@ -15,7 +15,8 @@ use Rattle.cilk_parser.specs.declared.refusal.ParseRefusal.{ParseRefusal}
 use Rattle.cilk_parser.specs.declared.starts.ItemStart.{ItemStart}
 use Rattle.cilk_parser.specs.declared.starts.ItemStart.TheVariants as item
 use Rattle.cilk_parser.specs.Contexts.{Heading, FunctionBody}
-use Rattle.cilk_parser.specs.Parts.{Spot, from, Refuses, unexpected_of, is_array_start, is_keyword, is_sign, is_word, HasPassed, IsOver, HasRead, LacksSign, HasNamed, LacksName, HasResult, LacksResult, HasParameter, LacksParameter, HasParameters, LacksParameters, HasFunctionWords, HasFunction, LacksFunction, HasInners, LacksInners, stepping}
+use Rattle.cilk_parser.specs.Spots.{Spot, from, Refuses, unexpected_of, is_array_start, is_keyword, is_sign, is_word, HasPassed, IsOver, HasRead, LacksSign, HasNamed, LacksName, stepping}
+use Rattle.cilk_parser.specs.Phrases.{HasParameter, Lacks, LacksParameter, Parses, function_kind_phrase, function_phrase, inners_phrase, parameters_phrase, result_phrase}
 use Rattle.cilk_parser.specs.Starts.{item_start, starts_item}
 use Rattle.cilk_parser.specs.Steps.{State, Items, AfterCilk, ParametersStart, AfterParameter, NextParameter, Awaits, ParametersOpen, VoidClose, BodyOpen, AwaitsName, FunctionName, ParameterName, Next, function_counts, goes_on, is_mark, step, step_cilk, step_next_parameter, step_only, step_parameter, step_parameters}
 use Rattle.cilk_parser.proofs.Bricks.Stepping.{Expects, awaits_lacks, awaits_name, awaits_no_name, awaits_sign, expects_only, from_steps, keyword_absent, lacks_sign, over_refuses, passed_shorter, passes_on, reads_sign, refuses_as, sign_absent, sign_there, stepping_same, unexpected_refuses}
@@ -30,9 +31,9 @@ no_result before (Word word.Void) no_int no_void = absurd (cc)
 no_result before _ no_int no_void = refl
 
 module _ (old : Spot) where
-  pub result_absent : is_keyword word.Int old.left ≡ false → is_keyword word.Void old.left ≡ false → LacksResult old (unexpected_of old.end old.left)
+  pub result_absent : is_keyword word.Int old.left ≡ false → is_keyword word.Void old.left ≡ false → Lacks result_phrase old (unexpected_of old.end old.left)
   unfolding step
-  result_absent no_int no_void before =
+  result_absent no_int no_void before _ =
       refuses_as (unexpected_of old.end old.left) _ _ (from_steps (AfterCilk before) refl old)
       (unexpected_refuses (step_cilk before) old
       (λ placed places first. no_result before placed.token (keyword_absent word.Int old.left places placed first no_int) (keyword_absent word.Void old.left places placed first no_void)))
@@ -46,17 +47,19 @@ module _ (old : Spot) where
         let same = keyword_there word.Void old.left rest placed first (otherwise is) in
         ap (step_cilk before) same ∙ ap (λ t. goes_on (counting 0 [] t) (AwaitsName (FunctionName before true false))) (sym same)
 
-    pub result_over : (refusal : ParseRefusal) → IsOver 0 [] old refusal → LacksResult old refusal
+    pub result_over : (refusal : ParseRefusal) → IsOver 0 [] old refusal → Lacks result_phrase old refusal
     unfolding step
-    result_over refusal over before =
+    result_over refusal over before _ =
         refuses_as refusal _ _ (from_steps (AfterCilk before) refl old)
         (over_refuses (step_cilk before) (AwaitsName (FunctionName before true gives)) 0 [] old refusal over (goes_result gives refl before over.placed over.rest over.first))
 
-    pub result_reads : (new : Spot) → HasPassed 0 [] old new → HasResult old new gives
+    pub result_reads : (new : Spot) → HasPassed 0 [] old new → Parses result_phrase old new gives
     unfolding step
     result_reads new passed = record {
+      syntax = gives;
+      same = refl;
       shorter = passed_shorter 0 [] old new passed;
-      leads = λ before.
+      leads = λ before _.
           from_steps (AfterCilk before) refl old ∙
           passes_on (step_cilk before) (AwaitsName (FunctionName before true gives)) 0 [] old new passed (goes_result gives refl before passed.placed new.left passed.first);
     }
@@ -89,53 +92,59 @@ module _ (old : Spot) (some : old.left ≢ []) (no_array : is_array_start old.le
   starts_as : (before : Source) (placed : Placed) (rest : List Placed) (start : ItemStart) → old.left ≡ placed ∷ rest → starts_item old.left ≡ start → StartsAs before placed.token start
   starts_as before placed rest start first starts = subst (StartsAs before placed.token) (sym (ap starts_item first) ∙ starts) (function_starts before placed.token)
 
-  pub function_absent : starts_item old.left ≡ item.Other → LacksFunction old (unexpected_of old.end old.left)
-  function_absent starts before =
+  pub function_absent : starts_item old.left ≡ item.Other → Lacks function_phrase old (unexpected_of old.end old.left)
+  function_absent starts before _ =
       refuses_as (unexpected_of old.end old.left) _ _ (as_function before) (unexpected_refuses (step_function before) old (λ placed places first. starts_as before placed places item.Other first starts))
 
   module _ (next : Source → State) (goes : (before : Source) (placed : Placed) (rest : List Placed) → old.left ≡ placed ∷ rest → step_function before placed.token ≡ goes_on (counting 0 function_counts placed.token) (next before)) where
-    words_over : (refusal : ParseRefusal) → IsOver 0 function_counts old refusal → LacksFunction old refusal
-    words_over refusal over before =
+    words_over : (refusal : ParseRefusal) → IsOver 0 function_counts old refusal → Lacks function_phrase old refusal
+    words_over refusal over before _ =
         refuses_as refusal _ _ (as_function before) (over_refuses (step_function before) (next before) 0 function_counts old refusal over (goes before over.placed over.rest over.first))
 
     words_passed : (new : Spot) → HasPassed 0 function_counts old new → (before : Source) → from (Items before) old ≡ from (next before) new
     words_passed new passed before = as_function before ∙ passes_on (step_function before) (next before) 0 function_counts old new passed (goes before passed.placed new.left passed.first)
 
   module _ (starts : starts_item old.left ≡ item.Cilk) where
-    pub cilk_over : (refusal : ParseRefusal) → IsOver 0 function_counts old refusal → LacksFunction old refusal
+    pub cilk_over : (refusal : ParseRefusal) → IsOver 0 function_counts old refusal → Lacks function_phrase old refusal
     cilk_over = words_over AfterCilk (λ before placed rest first. starts_as before placed rest item.Cilk first starts)
 
     module _ (middle : Spot) (passed : HasPassed 0 function_counts old middle) where
       to_cilk : (before : Source) → from (Items before) old ≡ from (AfterCilk before) middle
       to_cilk = words_passed AfterCilk (λ before placed rest first. starts_as before placed rest item.Cilk first starts) middle passed
 
-      pub cilk_lacks : (refusal : ParseRefusal) → LacksResult middle refusal → LacksFunction old refusal
-      cilk_lacks refusal lacks before = refuses_as refusal _ _ (to_cilk before) (lacks before)
+      pub cilk_lacks : (refusal : ParseRefusal) → Lacks result_phrase middle refusal → Lacks function_phrase old refusal
+      cilk_lacks refusal lacks before _ = refuses_as refusal _ _ (to_cilk before) (lacks before tt)
 
-      pub cilk_reads : (new : Spot) (gives : Bool) → HasResult middle new gives → HasFunctionWords old new true gives
+      pub cilk_reads : (new : Spot) (gives : Bool) → Parses result_phrase middle new gives → Parses function_kind_phrase old new (true, gives)
       cilk_reads new gives read = record {
+        syntax = (true, read.syntax);
+        same = ap (λ g. (true, g)) read.same;
         shorter = let a = passed_shorter 0 function_counts old middle passed in let b = read.shorter in omega arith;
-        leads = λ before. to_cilk before ∙ read.leads before;
+        leads = λ before _. to_cilk before ∙ read.leads before tt;
       }
 
   module _ (starts : starts_item old.left ≡ item.Void) where
-    pub void_over : (refusal : ParseRefusal) → IsOver 0 function_counts old refusal → LacksFunction old refusal
+    pub void_over : (refusal : ParseRefusal) → IsOver 0 function_counts old refusal → Lacks function_phrase old refusal
     void_over = words_over (λ before. AwaitsName (FunctionName before false false)) (λ before placed rest first. starts_as before placed rest item.Void first starts)
 
-    pub void_reads : (new : Spot) → HasPassed 0 function_counts old new → HasFunctionWords old new false false
+    pub void_reads : (new : Spot) → HasPassed 0 function_counts old new → Parses function_kind_phrase old new (false, false)
     void_reads new passed = record {
+      syntax = (false, false);
+      same = refl;
       shorter = passed_shorter 0 function_counts old new passed;
-      leads = words_passed (λ before. AwaitsName (FunctionName before false false)) (λ before placed rest first. starts_as before placed rest item.Void first starts) new passed;
+      leads = λ before _. words_passed (λ others. AwaitsName (FunctionName others false false)) (λ others placed rest first. starts_as others placed rest item.Void first starts) new passed before;
     }
 
   module _ (starts : starts_item old.left ≡ item.Int) where
-    pub int_over : (refusal : ParseRefusal) → IsOver 0 function_counts old refusal → LacksFunction old refusal
+    pub int_over : (refusal : ParseRefusal) → IsOver 0 function_counts old refusal → Lacks function_phrase old refusal
     int_over = words_over (λ before. AwaitsName (FunctionName before false true)) (λ before placed rest first. starts_as before placed rest item.Int first starts)
 
-    pub int_reads : (new : Spot) → HasPassed 0 function_counts old new → HasFunctionWords old new false true
+    pub int_reads : (new : Spot) → HasPassed 0 function_counts old new → Parses function_kind_phrase old new (false, true)
     int_reads new passed = record {
+      syntax = (false, true);
+      same = refl;
       shorter = passed_shorter 0 function_counts old new passed;
-      leads = words_passed (λ before. AwaitsName (FunctionName before false true)) (λ before placed rest first. starts_as before placed rest item.Int first starts) new passed;
+      leads = λ before _. words_passed (λ others. AwaitsName (FunctionName others false true)) (λ others placed rest first. starts_as others placed rest item.Int first starts) new passed before;
     }
 
 -- ---- a parameter
@@ -222,9 +231,9 @@ module _ (old : Spot) where
     goes_void heading placed rest first =
         let is = keyword_there word.Void old.left rest placed first there in ap (step_parameters heading) is ∙ ap (λ t. goes_on (counting 0 [] t) (Awaits (VoidClose heading))) (sym is)
 
-    pub no_names_over : (refusal : ParseRefusal) → IsOver 0 [] old refusal → LacksParameters old refusal
+    pub no_names_over : (refusal : ParseRefusal) → IsOver 0 [] old refusal → Lacks parameters_phrase old refusal
     unfolding step
-    no_names_over refusal over heading =
+    no_names_over refusal over heading _ =
         refuses_as refusal _ _ (from_steps (ParametersStart heading) refl old)
         (over_refuses (step_parameters heading) (Awaits (VoidClose heading)) 0 [] old refusal over (goes_void heading over.placed over.rest over.first))
 
@@ -234,15 +243,15 @@ module _ (old : Spot) where
       to_close heading =
           from_steps (ParametersStart heading) refl old ∙ passes_on (step_parameters heading) (Awaits (VoidClose heading)) 0 [] old middle passed (goes_void heading passed.placed middle.left passed.first)
 
-      pub void_unclosed : (refusal : ParseRefusal) → LacksSign sign.CloseParen 0 middle refusal → LacksParameters old refusal
-      void_unclosed refusal lacks heading = refuses_as refusal _ _ (to_close heading) (awaits_lacks (VoidClose heading) sign.CloseParen 0 refl middle refusal lacks)
+      pub void_unclosed : (refusal : ParseRefusal) → LacksSign sign.CloseParen 0 middle refusal → Lacks parameters_phrase old refusal
+      void_unclosed refusal lacks heading _ = refuses_as refusal _ _ (to_close heading) (awaits_lacks (VoidClose heading) sign.CloseParen 0 refl middle refusal lacks)
 
-      pub void_closed : (new : Spot) (names : List (List ℕ)) → names ≡ [] → HasRead sign.CloseParen 0 middle new → HasParameters old new names
+      pub void_closed : (new : Spot) (names : List (List ℕ)) → names ≡ [] → HasRead sign.CloseParen 0 middle new → Parses parameters_phrase old new names
       void_closed new names none closed = record {
-        formals = VoidParameters;
+        syntax = VoidParameters;
         same = none;
         shorter = let a = passed_shorter 0 [] old middle passed in let b = passed_shorter 0 [] middle new closed.passed in omega arith;
-        leads = λ heading. to_close heading ∙ awaits_sign (VoidClose heading) sign.CloseParen 0 refl middle new closed;
+        leads = λ heading _. to_close heading ∙ awaits_sign (VoidClose heading) sign.CloseParen 0 refl middle new closed;
       }
 
   -- nothing at all
@@ -251,19 +260,19 @@ module _ (old : Spot) where
     goes_close heading placed rest first =
         let is = sign_there sign.CloseParen old.left rest placed first there in ap (step_parameters heading) is ∙ ap (λ t. goes_on (counting 0 [] t) (Awaits (BodyOpen heading NoParameters))) (sym is)
 
-    pub nothing_over : (refusal : ParseRefusal) → IsOver 0 [] old refusal → LacksParameters old refusal
+    pub nothing_over : (refusal : ParseRefusal) → IsOver 0 [] old refusal → Lacks parameters_phrase old refusal
     unfolding step
-    nothing_over refusal over heading =
+    nothing_over refusal over heading _ =
         refuses_as refusal _ _ (from_steps (ParametersStart heading) refl old)
         (over_refuses (step_parameters heading) (Awaits (BodyOpen heading NoParameters)) 0 [] old refusal over (goes_close heading over.placed over.rest over.first))
 
-    pub nothing_reads : (new : Spot) (names : List (List ℕ)) → names ≡ [] → HasPassed 0 [] old new → HasParameters old new names
+    pub nothing_reads : (new : Spot) (names : List (List ℕ)) → names ≡ [] → HasPassed 0 [] old new → Parses parameters_phrase old new names
     unfolding step
     nothing_reads new names none passed = record {
-      formals = NoParameters;
+      syntax = NoParameters;
       same = none;
       shorter = passed_shorter 0 [] old new passed;
-      leads = λ heading.
+      leads = λ heading _.
           from_steps (ParametersStart heading) refl old ∙
           passes_on (step_parameters heading) (Awaits (BodyOpen heading NoParameters)) 0 [] old new passed (goes_close heading passed.placed new.left passed.first);
     }
@@ -276,8 +285,8 @@ pub record HasNames (old now : Spot) (trees : List (List ℕ)) : Type 0 where
   pub leads : (heading : Heading) → from (ParametersStart heading) old ≡ from (AfterParameter heading names) now
 
 module _ (old : Spot) (no_void : is_keyword word.Void old.left ≡ false) (no_close : is_sign sign.CloseParen old.left ≡ false) where
-  pub first_lacks : (refusal : ParseRefusal) → LacksParameter old refusal → LacksParameters old refusal
-  first_lacks refusal lacks heading = lacks.first heading no_close no_void
+  pub first_lacks : (refusal : ParseRefusal) → LacksParameter old refusal → Lacks parameters_phrase old refusal
+  first_lacks refusal lacks heading _ = lacks.first heading no_close no_void
 
   pub first_reads : (new : Spot) (name : List ℕ) (names : List (List ℕ)) → names ≡ name ∷ [] → HasParameter old new name → HasNames old new names
   first_reads new name names one read = record { names = One name; same = one; shorter = read.shorter; leads = λ heading. read.leads_first heading no_close no_void }
@@ -292,9 +301,9 @@ module _ (old now : Spot) (trees : List (List ℕ)) (read : HasNames old now tre
     goes_comma heading placed rest first =
         let is = sign_there sign.Comma now.left rest placed first comma in ap (step_parameter heading read.names) is ∙ ap (λ t. goes_on (counting 0 [] t) (NextParameter heading read.names)) (sym is)
 
-    pub comma_over : (refusal : ParseRefusal) → IsOver 0 [] now refusal → LacksParameters old refusal
+    pub comma_over : (refusal : ParseRefusal) → IsOver 0 [] now refusal → Lacks parameters_phrase old refusal
     unfolding step
-    comma_over refusal over heading =
+    comma_over refusal over heading _ =
         refuses_as refusal _ _ (read.leads heading ∙ from_steps (AfterParameter heading read.names) refl now)
         (over_refuses (step_parameter heading read.names) (NextParameter heading read.names) 0 [] now refusal over (goes_comma heading over.placed over.rest over.first))
 
@@ -305,8 +314,8 @@ module _ (old now : Spot) (trees : List (List ℕ)) (read : HasNames old now tre
           read.leads heading ∙ from_steps (AfterParameter heading read.names) refl now ∙
           passes_on (step_parameter heading read.names) (NextParameter heading read.names) 0 [] now start passed (goes_comma heading passed.placed start.left passed.first)
 
-      pub next_lacks : (refusal : ParseRefusal) → LacksParameter start refusal → LacksParameters old refusal
-      next_lacks refusal lacks heading = refuses_as refusal _ _ (to_next heading) (lacks.next heading read.names)
+      pub next_lacks : (refusal : ParseRefusal) → LacksParameter start refusal → Lacks parameters_phrase old refusal
+      next_lacks refusal lacks heading _ = refuses_as refusal _ _ (to_next heading) (lacks.next heading read.names)
 
       module _ (new : Spot) (name : List ℕ) (next : HasParameter start new name) where
         pub next_reads : (pushed : List (List ℕ)) → pushed ≡ trees ++ name ∷ [] → HasNames old new pushed
@@ -331,60 +340,63 @@ module _ (old now : Spot) (trees : List (List ℕ)) (read : HasNames old now tre
     ends : (heading : Heading) → Expects (step_only (mark 0 sign.CloseParen) (Awaits (BodyOpen heading (Named read.names)))) sign.CloseParen 0 (Awaits (BodyOpen heading (Named read.names)))
     ends heading = expects_only sign.CloseParen 0 (Awaits (BodyOpen heading (Named read.names)))
 
-    pub names_unclosed : (refusal : ParseRefusal) → LacksSign sign.CloseParen 0 now refusal → LacksParameters old refusal
-    names_unclosed refusal lacks heading = refuses_as refusal _ _ (to_end heading) (lacks_sign _ sign.CloseParen 0 (Awaits (BodyOpen heading (Named read.names))) (ends heading) now refusal lacks)
+    pub names_unclosed : (refusal : ParseRefusal) → LacksSign sign.CloseParen 0 now refusal → Lacks parameters_phrase old refusal
+    names_unclosed refusal lacks heading _ = refuses_as refusal _ _ (to_end heading) (lacks_sign _ sign.CloseParen 0 (Awaits (BodyOpen heading (Named read.names))) (ends heading) now refusal lacks)
 
-    pub names_closed : (new : Spot) → HasRead sign.CloseParen 0 now new → HasParameters old new trees
+    pub names_closed : (new : Spot) → HasRead sign.CloseParen 0 now new → Parses parameters_phrase old new trees
     names_closed new closed = record {
-      formals = Named read.names;
+      syntax = Named read.names;
       same = read.same;
       shorter = let a = read.shorter in let b = passed_shorter 0 [] now new closed.passed in omega arith;
-      leads = λ heading. to_end heading ∙ reads_sign _ sign.CloseParen 0 (Awaits (BodyOpen heading (Named read.names))) (ends heading) now new closed;
+      leads = λ heading _. to_end heading ∙ reads_sign _ sign.CloseParen 0 (Awaits (BodyOpen heading (Named read.names))) (ends heading) now new closed;
     }
 
 -- ---- the function
 
-module _ (old named : Spot) («cilk» gives : Bool) (words : HasFunctionWords old named «cilk» gives) where
-  pub function_unnamed : (refusal : ParseRefusal) → LacksName 0 [] named refusal → LacksFunction old refusal
-  function_unnamed refusal lacks before = refuses_as refusal _ _ (words.leads before) (awaits_no_name (FunctionName before «cilk» gives) 0 [] (λ n. refl) named refusal lacks)
+module _ (old named : Spot) («cilk» gives : Bool) (words : Parses function_kind_phrase old named («cilk», gives)) where
+  to_kind : (before : Source) → from (Items before) old ≡ from (AwaitsName (FunctionName before «cilk» gives)) named
+  to_kind before = words.leads before tt ∙ ap (λ kind. from (AwaitsName (FunctionName before kind.0 kind.1)) named) (sym words.same)
+
+  pub function_unnamed : (refusal : ParseRefusal) → LacksName 0 [] named refusal → Lacks function_phrase old refusal
+  function_unnamed refusal lacks before _ = refuses_as refusal _ _ (to_kind before) (awaits_no_name (FunctionName before «cilk» gives) 0 [] (λ n. refl) named refusal lacks)
 
   module _ (name : List ℕ) (open_at : Spot) (read : HasNamed 0 [] name named open_at) where
     abbrev heading : Source → Heading
     heading before = record { before = before; «cilk» = «cilk»; gives = gives; name = name }
 
     to_open : (before : Source) → from (Items before) old ≡ from (Awaits (ParametersOpen (heading before))) open_at
-    to_open before = words.leads before ∙ awaits_name (FunctionName before «cilk» gives) 0 [] (λ n. refl) name named open_at read
+    to_open before = to_kind before ∙ awaits_name (FunctionName before «cilk» gives) 0 [] (λ n. refl) name named open_at read
 
-    pub parenthesis_lacks : (refusal : ParseRefusal) → LacksSign sign.OpenParen 0 open_at refusal → LacksFunction old refusal
-    parenthesis_lacks refusal lacks before = refuses_as refusal _ _ (to_open before) (awaits_lacks (ParametersOpen (heading before)) sign.OpenParen 0 refl open_at refusal lacks)
+    pub parenthesis_lacks : (refusal : ParseRefusal) → LacksSign sign.OpenParen 0 open_at refusal → Lacks function_phrase old refusal
+    parenthesis_lacks refusal lacks before _ = refuses_as refusal _ _ (to_open before) (awaits_lacks (ParametersOpen (heading before)) sign.OpenParen 0 refl open_at refusal lacks)
 
     module _ (start : Spot) (opened : HasRead sign.OpenParen 0 open_at start) where
       to_parameters : (before : Source) → from (Items before) old ≡ from (ParametersStart (heading before)) start
       to_parameters before = to_open before ∙ awaits_sign (ParametersOpen (heading before)) sign.OpenParen 0 refl open_at start opened
 
-      pub parameters_lack : (refusal : ParseRefusal) → LacksParameters start refusal → LacksFunction old refusal
-      parameters_lack refusal lacks before = refuses_as refusal _ _ (to_parameters before) (lacks (heading before))
+      pub parameters_lack : (refusal : ParseRefusal) → Lacks parameters_phrase start refusal → Lacks function_phrase old refusal
+      parameters_lack refusal lacks before _ = refuses_as refusal _ _ (to_parameters before) (lacks (heading before) tt)
 
-      module _ (body_at : Spot) (names : List (List ℕ)) (formals : HasParameters start body_at names) where
-        to_brace : (before : Source) → from (Items before) old ≡ from (Awaits (BodyOpen (heading before) formals.formals)) body_at
-        to_brace before = to_parameters before ∙ formals.leads (heading before)
+      module _ (body_at : Spot) (names : List (List ℕ)) (formals : Parses parameters_phrase start body_at names) where
+        to_brace : (before : Source) → from (Items before) old ≡ from (Awaits (BodyOpen (heading before) formals.syntax)) body_at
+        to_brace before = to_parameters before ∙ formals.leads (heading before) tt
 
-        pub brace_lacks : (refusal : ParseRefusal) → LacksSign sign.OpenBrace 0 body_at refusal → LacksFunction old refusal
-        brace_lacks refusal lacks before = refuses_as refusal _ _ (to_brace before) (awaits_lacks (BodyOpen (heading before) formals.formals) sign.OpenBrace 0 refl body_at refusal lacks)
+        pub brace_lacks : (refusal : ParseRefusal) → LacksSign sign.OpenBrace 0 body_at refusal → Lacks function_phrase old refusal
+        brace_lacks refusal lacks before _ = refuses_as refusal _ _ (to_brace before) (awaits_lacks (BodyOpen (heading before) formals.syntax) sign.OpenBrace 0 refl body_at refusal lacks)
 
         module _ (inside : Spot) (brace : HasRead sign.OpenBrace 0 body_at inside) where
-          pub body_lacks : (refusal : ParseRefusal) → LacksInners 1 0 inside refusal → LacksFunction old refusal
-          body_lacks refusal lacks before =
-              refuses_as refusal _ _ (to_brace before ∙ awaits_sign (BodyOpen (heading before) formals.formals) sign.OpenBrace 0 refl body_at inside brace)
-              (lacks (FunctionBody (heading before) formals.formals) refl refl)
+          pub body_lacks : (refusal : ParseRefusal) → Lacks (inners_phrase 1 0) inside refusal → Lacks function_phrase old refusal
+          body_lacks refusal lacks before _ =
+              refuses_as refusal _ _ (to_brace before ∙ awaits_sign (BodyOpen (heading before) formals.syntax) sign.OpenBrace 0 refl body_at inside brace)
+              (lacks (FunctionBody (heading before) formals.syntax) (refl, refl))
 
-          pub function_reads : (new : Spot) (trees : List Stmt) → HasInners 1 0 inside new trees → HasFunction old new (record { «cilk» = «cilk»; gives = gives; name = name; params = names; body = trees })
+          pub function_reads : (new : Spot) (trees : List Stmt) → Parses (inners_phrase 1 0) inside new trees → Parses function_phrase old new (record { «cilk» = «cilk»; gives = gives; name = name; params = names; body = trees })
           function_reads new trees body = record {
-            syntax = record { «cilk» = «cilk»; gives = gives; name = name; parameters = formals.formals; body = body.inners };
-            same = ap (λ l. record { «cilk» = «cilk»; gives = gives; name = name; params = l; body = trees }) formals.same ∙ ap (λ l. record { «cilk» = «cilk»; gives = gives; name = name; params = parameter_names formals.formals; body = l }) body.same;
+            syntax = record { «cilk» = «cilk»; gives = gives; name = name; parameters = formals.syntax; body = body.syntax };
+            same = ap (λ l. record { «cilk» = «cilk»; gives = gives; name = name; params = l; body = trees }) formals.same ∙ ap (λ l. record { «cilk» = «cilk»; gives = gives; name = name; params = parameter_names formals.syntax; body = l }) body.same;
             shorter = let a = words.shorter in let b = passed_shorter 0 [] named open_at read.passed in let d = passed_shorter 0 [] open_at start opened.passed in let e = formals.shorter in
                 let f = passed_shorter 0 [] body_at inside brace.passed in let g = body.shorter in omega arith;
-            leads = λ before.
-                to_brace before ∙ awaits_sign (BodyOpen (heading before) formals.formals) sign.OpenBrace 0 refl body_at inside brace ∙
-                body.leads (FunctionBody (heading before) formals.formals) refl refl;
+            leads = λ before _.
+                to_brace before ∙ awaits_sign (BodyOpen (heading before) formals.syntax) sign.OpenBrace 0 refl body_at inside brace ∙
+                body.leads (FunctionBody (heading before) formals.syntax) (refl, refl);
           }

@@ -14,7 +14,8 @@ use Rattle.cilk_tree.specs.Syntax.{Expression, Simple, Start, NoStart, SimpleSta
 use Rattle.cilk_parser.specs.declared.opening.Opening.TheVariants.{Whole}
 use Rattle.cilk_parser.specs.declared.refusal.ParseRefusal.{ParseRefusal}
 use Rattle.cilk_parser.specs.Contexts.{StatementIn, SimpleIn, AsForStart, AsForLast, AsForDeclaration, ForBody, ForCondition, simple_level, statement_level}
-use Rattle.cilk_parser.specs.Parts.{Spot, from, Refuses, HasPassed, IsOver, HasRead, LacksSign, HasNamed, LacksName, HasSimple, LacksSimple, HasDeclaration, LacksDeclaration, HasForStart, LacksForStart, HasForCondition, LacksForCondition, HasForLast, LacksForLast, is_sign, is_keyword, is_word, stepping, Encloses, HasEnclosed, LacksEnclosed}
+use Rattle.cilk_parser.specs.Spots.{Spot, from, Refuses, HasPassed, IsOver, HasRead, LacksSign, HasNamed, LacksName, is_sign, is_keyword, is_word, stepping}
+use Rattle.cilk_parser.specs.Phrases.{Encloses, Lacks, LacksSimple, Parses, declaration_phrase, enclosed_phrase, for_condition_phrase, for_last_phrase, for_start_phrase, simple_phrase}
 use Rattle.cilk_parser.specs.Steps.{State, Wants, AwaitsName, AfterName, AtBody, AtForStart, AtForCondition, AtForLast, DeclaratorName, SimpleEnd, awaited_state, awaited_token, finish, goes_on, is_mark, step, step_for_condition, step_for_last, step_for_start, step_only, step_wants}
 use Rattle.cilk_parser.proofs.Bricks.Beginnings.{Begins, expects_step_named, keyword_begins, sign_begins, step_named, token_over, token_passed}
 use Rattle.cilk_parser.proofs.Bricks.Stepping.{awaits_lacks, awaits_sign, from_steps, keyword_absent, lacks_name, passed_shorter, reads_name, refuses_as, sign_absent, stepping_same}
@@ -31,12 +32,12 @@ module _ (state next : State) (unfinished : finish state ≡ None) (level : ℕ)
 -- ---- an assignment, a step or a store, and the sign behind it
 
 module _ (outer : SimpleIn) (closing : Sign) (own : ℕ) (closes : (simple : Simple) → awaited_token (SimpleEnd outer simple) ≡ mark own closing) (level : ℕ) (same : simple_level outer ≡ level)
-    (name : List ℕ) (old middle : Spot) (tree : Stmt) (read : HasSimple level name old middle tree) where
-  pub simple_ends : (new : Spot) → HasRead closing own middle new → from (AfterName outer name) old ≡ from (awaited_state (SimpleEnd outer read.simple)) new
-  simple_ends new closed = read.leads outer same ∙ awaits_sign (SimpleEnd outer read.simple) closing own (closes read.simple) middle new closed
+    (name : List ℕ) (old middle : Spot) (tree : Stmt) (read : Parses (simple_phrase level name) old middle tree) where
+  pub simple_ends : (new : Spot) → HasRead closing own middle new → from (AfterName outer name) old ≡ from (awaited_state (SimpleEnd outer read.syntax)) new
+  simple_ends new closed = read.leads outer same ∙ awaits_sign (SimpleEnd outer read.syntax) closing own (closes read.syntax) middle new closed
 
   pub simple_open : (refusal : ParseRefusal) → LacksSign closing own middle refusal → Refuses (from (AfterName outer name) old) refusal
-  simple_open refusal lacks = refuses_as refusal _ _ (read.leads outer same) (awaits_lacks (SimpleEnd outer read.simple) closing own (closes read.simple) middle refusal lacks)
+  simple_open refusal lacks = refuses_as refusal _ _ (read.leads outer same) (awaits_lacks (SimpleEnd outer read.syntax) closing own (closes read.syntax) middle refusal lacks)
 
 -- ---- the first part
 
@@ -51,15 +52,15 @@ module _ (level : ℕ) (old : Spot) (there : IsTrue (is_sign sign.Semicolon old.
   unfolding step
   goes_past outer same = ap (λ l. goes_on (mark l sign.Semicolon) (AtForCondition outer NoStart)) same
 
-  pub no_start_reads : (new : Spot) (before : List Stmt) → HasPassed level [] old new → HasForStart level old new before before
+  pub no_start_reads : (new : Spot) (before : List Stmt) → HasPassed level [] old new → Parses (for_start_phrase level) old new (before, before)
   no_start_reads new before passed = record {
-    start = NoStart;
+    syntax = NoStart;
     same = sym (append-nil before);
     shorter = passed_shorter level [] old new passed;
     leads = λ outer same. state_passed (AtForStart outer) (AtForCondition outer NoStart) refl level (Mark sign.Semicolon) (goes_past outer same) old (sign_begins sign.Semicolon old.left there) new passed;
   }
 
-  pub no_start_over : (refusal : ParseRefusal) → IsOver level [] old refusal → LacksForStart level old refusal
+  pub no_start_over : (refusal : ParseRefusal) → IsOver level [] old refusal → Lacks (for_start_phrase level) old refusal
   no_start_over refusal over outer same = state_over (AtForStart outer) (AtForCondition outer NoStart) refl level (Mark sign.Semicolon) (goes_past outer same) old (sign_begins sign.Semicolon old.left there) refusal over
 
 module _ (level : ℕ) (old : Spot) (there : IsTrue (is_keyword word.Int old.left)) where
@@ -67,7 +68,7 @@ module _ (level : ℕ) (old : Spot) (there : IsTrue (is_keyword word.Int old.lef
   unfolding step
   goes_declaring outer same = ap (λ l. goes_on (plain l (Word word.Int)) (AwaitsName (DeclaratorName (AsForDeclaration outer) None))) same
 
-  pub declaring_over : (refusal : ParseRefusal) → IsOver level [] old refusal → LacksForStart level old refusal
+  pub declaring_over : (refusal : ParseRefusal) → IsOver level [] old refusal → Lacks (for_start_phrase level) old refusal
   declaring_over refusal over outer same =
       state_over (AtForStart outer) (AwaitsName (DeclaratorName (AsForDeclaration outer) None)) refl level (Word word.Int) (goes_declaring outer same) old (keyword_begins word.Int old.left there) refusal over
 
@@ -76,15 +77,15 @@ module _ (level : ℕ) (old : Spot) (there : IsTrue (is_keyword word.Int old.lef
     to_declaration outer same =
         state_passed (AtForStart outer) (AwaitsName (DeclaratorName (AsForDeclaration outer) None)) refl level (Word word.Int) (goes_declaring outer same) old (keyword_begins word.Int old.left there) middle passed
 
-    pub declaring_reads : (new : Spot) (before now : List Stmt) → HasDeclaration level middle new before now → HasForStart level old new before now
+    pub declaring_reads : (new : Spot) (before now : List Stmt) → Parses (declaration_phrase level) middle new (before, now) → Parses (for_start_phrase level) old new (before, now)
     declaring_reads new before now read = record {
-      start = DeclaringStart read.declarators;
+      syntax = DeclaringStart read.syntax;
       same = read.same;
       shorter = let a = passed_shorter level [] old middle passed in let b = read.shorter in omega arith;
       leads = λ outer same. to_declaration outer same ∙ read.leads (AsForDeclaration outer) same;
     }
 
-    pub declaring_lacks : (refusal : ParseRefusal) → LacksDeclaration level middle refusal → LacksForStart level old refusal
+    pub declaring_lacks : (refusal : ParseRefusal) → Lacks (declaration_phrase level) middle refusal → Lacks (for_start_phrase level) old refusal
     declaring_lacks refusal lacks outer same = refuses_as refusal _ _ (to_declaration outer same) (lacks (AsForDeclaration outer) same)
 
 module _ (level : ℕ) (old : Spot) (no_end : is_sign sign.Semicolon old.left ≡ false) (no_int : is_keyword word.Int old.left ≡ false) where
@@ -95,7 +96,7 @@ module _ (level : ℕ) (old : Spot) (no_end : is_sign sign.Semicolon old.left �
       stepping_same (step_for_start outer) (step_named (statement_level outer + 1) (AfterName (AsForStart outer))) old
       (λ placed places first. start_named outer placed.token (sign_absent sign.Semicolon old.left places placed first no_end) (keyword_absent word.Int old.left places placed first no_int))
 
-  pub start_unnamed : (refusal : ParseRefusal) → LacksName level [] old refusal → LacksForStart level old refusal
+  pub start_unnamed : (refusal : ParseRefusal) → LacksName level [] old refusal → Lacks (for_start_phrase level) old refusal
   start_unnamed refusal lacks outer same =
       refuses_as refusal _ _ (at_start_name outer) (lacks_name (step_named (statement_level outer + 1) (AfterName (AsForStart outer))) level [] (AfterName (AsForStart outer)) (expects_step_named (statement_level outer + 1) level (AfterName (AsForStart outer)) same) old refusal lacks)
 
@@ -104,18 +105,18 @@ module _ (level : ℕ) (old : Spot) (no_end : is_sign sign.Semicolon old.left �
     to_start_simple outer same =
         at_start_name outer ∙ reads_name (step_named (statement_level outer + 1) (AfterName (AsForStart outer))) level [] (AfterName (AsForStart outer)) (expects_step_named (statement_level outer + 1) level (AfterName (AsForStart outer)) same) name old middle named
 
-    pub start_lacks : (refusal : ParseRefusal) → LacksSimple level name middle refusal → LacksForStart level old refusal
+    pub start_lacks : (refusal : ParseRefusal) → LacksSimple level name middle refusal → Lacks (for_start_phrase level) old refusal
     start_lacks refusal lacks outer same = refuses_as refusal _ _ (to_start_simple outer same) (lacks (AsForStart outer) same refl)
 
-    module _ (later : Spot) (tree : Stmt) (read : HasSimple level name middle later tree) where
-      pub start_unended : (refusal : ParseRefusal) → LacksSign sign.Semicolon level later refusal → LacksForStart level old refusal
+    module _ (later : Spot) (tree : Stmt) (read : Parses (simple_phrase level name) middle later tree) where
+      pub start_unended : (refusal : ParseRefusal) → LacksSign sign.Semicolon level later refusal → Lacks (for_start_phrase level) old refusal
       start_unended refusal lacks outer same =
           refuses_as refusal _ _ (to_start_simple outer same)
           (simple_open (AsForStart outer) sign.Semicolon level (λ simple. ap (λ l. mark l sign.Semicolon) same) level same name middle later tree read refusal lacks)
 
-      pub start_reads : (new : Spot) (before now : List Stmt) → HasRead sign.Semicolon level later new → now ≡ before ++ tree ∷ [] → HasForStart level old new before now
+      pub start_reads : (new : Spot) (before now : List Stmt) → HasRead sign.Semicolon level later new → now ≡ before ++ tree ∷ [] → Parses (for_start_phrase level) old new (before, now)
       start_reads new before now ended added = record {
-        start = SimpleStart read.simple;
+        syntax = SimpleStart read.syntax;
         same = added ∙ ap (λ t. before ++ t ∷ []) read.same;
         shorter = let a = passed_shorter level [] old middle named.passed in let b = passed_shorter level [] later new ended.passed in let d = read.shorter in omega arith;
         leads = λ outer same.
@@ -133,16 +134,16 @@ module _ (level : ℕ) (old : Spot) (there : IsTrue (is_sign sign.Semicolon old.
   unfolding step
   goes_without outer start same = ap (λ l. goes_on (mark l sign.Semicolon) (AtForLast outer start None)) same
 
-  pub no_condition_reads : (new : Spot) → HasPassed level [] old new → HasForCondition level old new (expr.Number (pos 1))
+  pub no_condition_reads : (new : Spot) → HasPassed level [] old new → Parses (for_condition_phrase level) old new (expr.Number (pos 1))
   no_condition_reads new passed = record {
-    condition = None;
+    syntax = None;
     same = refl;
     shorter = passed_shorter level [] old new passed;
-    leads = λ outer start same. state_passed (AtForCondition outer start) (AtForLast outer start None) refl level (Mark sign.Semicolon) (goes_without outer start same) old (sign_begins sign.Semicolon old.left there) new passed;
+    leads = λ (outer, start) same. state_passed (AtForCondition outer start) (AtForLast outer start None) refl level (Mark sign.Semicolon) (goes_without outer start same) old (sign_begins sign.Semicolon old.left there) new passed;
   }
 
-  pub no_condition_over : (refusal : ParseRefusal) → IsOver level [] old refusal → LacksForCondition level old refusal
-  no_condition_over refusal over outer start same =
+  pub no_condition_over : (refusal : ParseRefusal) → IsOver level [] old refusal → Lacks (for_condition_phrase level) old refusal
+  no_condition_over refusal over (outer, start) same =
       state_over (AtForCondition outer start) (AtForLast outer start None) refl level (Mark sign.Semicolon) (goes_without outer start same) old (sign_begins sign.Semicolon old.left there) refusal over
 
 for_encloses : (level : ℕ) (outer : StatementIn) (start : Start) → statement_level outer + 1 ≡ level → Encloses level Whole (ForCondition outer start) level sign.Semicolon (λ syntax. AtForLast outer start (Some syntax))
@@ -159,15 +160,15 @@ module _ (level : ℕ) (old : Spot) (absent : is_sign sign.Semicolon old.left �
       ∙ stepping_same (step_for_condition outer start) (step_wants (ForCondition outer start)) old (λ placed places first. condition_wanted outer start placed.token (sign_absent sign.Semicolon old.left places placed first absent))
       ∙ sym (from_steps (Wants (ForCondition outer start)) refl old)
 
-  pub for_condition_lacks : (refusal : ParseRefusal) → LacksEnclosed level Whole sign.Semicolon level old refusal → LacksForCondition level old refusal
-  for_condition_lacks refusal lacks outer start same = refuses_as refusal _ _ (at_condition outer start) (lacks (ForCondition outer start) _ (for_encloses level outer start same))
+  pub for_condition_lacks : (refusal : ParseRefusal) → Lacks (enclosed_phrase level Whole sign.Semicolon level) old refusal → Lacks (for_condition_phrase level) old refusal
+  for_condition_lacks refusal lacks (outer, start) same = refuses_as refusal _ _ (at_condition outer start) (lacks (ForCondition outer start, _) (for_encloses level outer start same))
 
-  pub for_condition_reads : (new : Spot) (tree : Expr) → HasEnclosed level Whole sign.Semicolon level old new tree → HasForCondition level old new tree
+  pub for_condition_reads : (new : Spot) (tree : Expr) → Parses (enclosed_phrase level Whole sign.Semicolon level) old new tree → Parses (for_condition_phrase level) old new tree
   for_condition_reads new tree read = record {
-    condition = Some read.syntax;
+    syntax = Some read.syntax;
     same = read.same;
     shorter = read.shorter;
-    leads = λ outer start same. at_condition outer start ∙ read.leads (ForCondition outer start) _ (for_encloses level outer start same);
+    leads = λ (outer, start) same. at_condition outer start ∙ read.leads (ForCondition outer start, _) (for_encloses level outer start same);
   }
 
 -- ---- the last part
@@ -183,17 +184,17 @@ module _ (level own : ℕ) (old : Spot) (there : IsTrue (is_sign sign.CloseParen
   unfolding step
   goes_inside outer start condition same = ap (λ l. goes_on (mark l sign.CloseParen) (AtBody (ForBody outer start condition None))) same
 
-  pub no_last_reads : (new : Spot) (before : List Stmt) → HasPassed own [] old new → HasForLast level own old new before before
+  pub no_last_reads : (new : Spot) (before : List Stmt) → HasPassed own [] old new → Parses (for_last_phrase level own) old new (before, before)
   no_last_reads new before passed = record {
-    last = None;
+    syntax = None;
     same = sym (append-nil before);
     shorter = passed_shorter own [] old new passed;
-    leads = λ outer start condition same same_own.
+    leads = λ (outer, start, condition) (same, same_own).
         state_passed (AtForLast outer start condition) (AtBody (ForBody outer start condition None)) refl own (Mark sign.CloseParen) (goes_inside outer start condition same_own) old (sign_begins sign.CloseParen old.left there) new passed;
   }
 
-  pub no_last_over : (refusal : ParseRefusal) → IsOver own [] old refusal → LacksForLast level own old refusal
-  no_last_over refusal over outer start condition same same_own =
+  pub no_last_over : (refusal : ParseRefusal) → IsOver own [] old refusal → Lacks (for_last_phrase level own) old refusal
+  no_last_over refusal over (outer, start, condition) (same, same_own) =
       state_over (AtForLast outer start condition) (AtBody (ForBody outer start condition None)) refl own (Mark sign.CloseParen) (goes_inside outer start condition same_own) old (sign_begins sign.CloseParen old.left there) refusal over
 
 module _ (level own : ℕ) (old : Spot) (absent : is_sign sign.CloseParen old.left ≡ false) where
@@ -204,8 +205,8 @@ module _ (level own : ℕ) (old : Spot) (absent : is_sign sign.CloseParen old.le
       stepping_same (step_for_last outer start condition) (step_named (statement_level outer + 2) (AfterName (AsForLast outer start condition))) old
       (λ placed places first. last_named outer start condition placed.token (sign_absent sign.CloseParen old.left places placed first absent))
 
-  pub last_unnamed : (refusal : ParseRefusal) → LacksName level [] old refusal → LacksForLast level own old refusal
-  last_unnamed refusal lacks outer start condition same same_own =
+  pub last_unnamed : (refusal : ParseRefusal) → LacksName level [] old refusal → Lacks (for_last_phrase level own) old refusal
+  last_unnamed refusal lacks (outer, start, condition) (same, same_own) =
       refuses_as refusal _ _ (at_last_name outer start condition)
       (lacks_name (step_named (statement_level outer + 2) (AfterName (AsForLast outer start condition))) level [] (AfterName (AsForLast outer start condition)) (expects_step_named (statement_level outer + 2) level (AfterName (AsForLast outer start condition)) same) old refusal lacks)
 
@@ -215,21 +216,21 @@ module _ (level own : ℕ) (old : Spot) (absent : is_sign sign.CloseParen old.le
         at_last_name outer start condition ∙
         reads_name (step_named (statement_level outer + 2) (AfterName (AsForLast outer start condition))) level [] (AfterName (AsForLast outer start condition)) (expects_step_named (statement_level outer + 2) level (AfterName (AsForLast outer start condition)) same) name old middle named
 
-    pub last_lacks : (refusal : ParseRefusal) → LacksSimple level name middle refusal → LacksForLast level own old refusal
-    last_lacks refusal lacks outer start condition same same_own = refuses_as refusal _ _ (to_last_simple outer start condition same) (lacks (AsForLast outer start condition) same refl)
+    pub last_lacks : (refusal : ParseRefusal) → LacksSimple level name middle refusal → Lacks (for_last_phrase level own) old refusal
+    last_lacks refusal lacks (outer, start, condition) (same, same_own) = refuses_as refusal _ _ (to_last_simple outer start condition same) (lacks (AsForLast outer start condition) same refl)
 
-    module _ (later : Spot) (tree : Stmt) (read : HasSimple level name middle later tree) where
-      pub last_unended : (refusal : ParseRefusal) → LacksSign sign.CloseParen own later refusal → LacksForLast level own old refusal
-      last_unended refusal lacks outer start condition same same_own =
+    module _ (later : Spot) (tree : Stmt) (read : Parses (simple_phrase level name) middle later tree) where
+      pub last_unended : (refusal : ParseRefusal) → LacksSign sign.CloseParen own later refusal → Lacks (for_last_phrase level own) old refusal
+      last_unended refusal lacks (outer, start, condition) (same, same_own) =
           refuses_as refusal _ _ (to_last_simple outer start condition same)
           (simple_open (AsForLast outer start condition) sign.CloseParen own (λ simple. ap (λ l. mark l sign.CloseParen) same_own) level same name middle later tree read refusal lacks)
 
-      pub last_reads : (new : Spot) (before now : List Stmt) → HasRead sign.CloseParen own later new → now ≡ before ++ tree ∷ [] → HasForLast level own old new before now
+      pub last_reads : (new : Spot) (before now : List Stmt) → HasRead sign.CloseParen own later new → now ≡ before ++ tree ∷ [] → Parses (for_last_phrase level own) old new (before, now)
       last_reads new before now ended added = record {
-        last = Some read.simple;
+        syntax = Some read.syntax;
         same = added ∙ ap (λ t. before ++ t ∷ []) read.same;
         shorter = let a = passed_shorter level [] old middle named.passed in let b = passed_shorter own [] later new ended.passed in let d = read.shorter in omega arith;
-        leads = λ outer start condition same same_own.
+        leads = λ (outer, start, condition) (same, same_own).
             to_last_simple outer start condition same ∙
             simple_ends (AsForLast outer start condition) sign.CloseParen own (λ simple. ap (λ l. mark l sign.CloseParen) same_own) level same name middle later tree read new ended;
       }

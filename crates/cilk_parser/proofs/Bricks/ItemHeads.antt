@@ -19,7 +19,7 @@ use Rattle.cilk_parser.proofs.Bricks.Stepping.{ExpectsName, expects_awaited, fro
 use Rattle.cilk_parser.specs.declared.parser.End.{End}
 use Rattle.cilk_parser.specs.declared.tallies.Tallies.{Tallies}
 use Rattle.cilk_parser.specs.Contexts.{Heading}
-use Rattle.cilk_parser.specs.Parts.{from, is_array_start, is_name_before, is_name_token, is_word, stepping}
+use Rattle.cilk_parser.specs.Spots.{from, is_array_start, is_name_before, is_name_token, is_word, stepping}
 use Rattle.cilk_parser.specs.Run.{Answer, Refused, Judged, Within, Over, at_end, if_within, judge, judge_token, judge_on, run, run_step, run_judged}
 use Rattle.cilk_parser.specs.Steps.{State, Items, AfterCilk, AfterInt, AfterIntName, ArraySize, ParametersStart, Awaits, ArrayOpen, ParametersOpen, AwaitsName, FunctionName, Next, function_counts, goes_on, is_mark, step, step_int, step_int_name, step_items}
 

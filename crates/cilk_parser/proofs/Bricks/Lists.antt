@@ -11,7 +11,7 @@ use Rattle.cilk_tree.specs.Sugar.{commas_list, if_there}
 use Rattle.cilk_tree.specs.Syntax.{Commas}
 use Rattle.cilk_parser.specs.declared.refusal.ParseRefusal.{ParseRefusal}
 use Rattle.cilk_parser.specs.Contexts.{with_last}
-use Rattle.cilk_parser.specs.Parts.{Spot, from, Refuses, unexpected_of, is_sign, HasPassed, IsOver, HasRead, LacksSign, stepping}
+use Rattle.cilk_parser.specs.Spots.{Spot, from, Refuses, unexpected_of, is_sign, HasPassed, IsOver, HasRead, LacksSign, stepping}
 use Rattle.cilk_parser.specs.Steps.{State, Next, finish, goes_on, is_mark, step, step_only}
 use Rattle.cilk_parser.proofs.Bricks.Stepping.{expects_only, from_steps, lacks_sign, over_refuses, passes_on, reads_sign, sign_absent, sign_there, stepping_same, unexpected_refuses}
 

@@ -19,7 +19,8 @@ use Rattle.cilk_parser.specs.declared.refusal.ParseRefusal.{ParseRefusal}
 use Rattle.cilk_parser.specs.declared.starts.OperandStart.{OperandStart}
 use Rattle.cilk_parser.specs.declared.starts.OperandStart.TheVariants as operand
 use Rattle.cilk_parser.specs.Contexts.{Around, Under, InIndex, InGroup, level_of, first_counts}
-use Rattle.cilk_parser.specs.Parts.{Spot, Fits, from, Refuses, unexpected_of, is_sign, is_named, is_name_token, HasPassed, IsOver, HasNamed, LacksName, HasExpression, LacksExpression, HasVariable, LacksVariable, opening_counts, Encloses, HasEnclosed, LacksEnclosed}
+use Rattle.cilk_parser.specs.Spots.{Spot, from, Refuses, unexpected_of, is_sign, is_named, is_name_token, HasPassed, IsOver, HasNamed, LacksName}
+use Rattle.cilk_parser.specs.Phrases.{Encloses, Fits, HasVariable, Lacks, LacksVariable, Parses, enclosed_phrase, expression_phrase, opening_counts}
 use Rattle.cilk_parser.specs.Starts.{operand_start, starts_operand}
 use Rattle.cilk_parser.specs.Steps.{Wants, Has, goes_on, step, step_has, step_only, step_wants}
 use Rattle.cilk_parser.proofs.Bricks.BehindOperand.{name_is_whole, operand_is_whole}
@@ -63,7 +64,7 @@ module _ (least level : ℕ) (opening : Opening) (counts : List Count) (counted 
 
   -- a number
   module _ (value : ℤ) (starts : starts_operand old.left ≡ operand.Number value) where
-    pub number_reads : (new : Spot) → HasPassed level counts old new → HasExpression least level opening old new (expr.Number value)
+    pub number_reads : (new : Spot) → HasPassed level counts old new → Parses (expression_phrase least level opening) old new (expr.Number value)
     unfolding step
     number_reads new passed = record {
       syntax = Numeral value;
@@ -75,7 +76,7 @@ module _ (least level : ℕ) (opening : Opening) (counts : List Count) (counted 
           from_steps (Has around (Numeral value)) refl new;
     }
 
-    pub number_lacks : (refusal : ParseRefusal) → IsOver level counts old refusal → LacksExpression least level opening old refusal
+    pub number_lacks : (refusal : ParseRefusal) → IsOver level counts old refusal → Lacks (expression_phrase least level opening) old refusal
     unfolding step
     number_lacks refusal over around fits =
         refuses_as refusal _ _ (from_steps (Wants around) refl old)
@@ -89,7 +90,7 @@ module _ (least level : ℕ) (opening : Opening) (counts : List Count) (counted 
         from_steps (Wants around) refl old ∙
         passes_on (step_wants around) (Has around (Variable name)) level counts old middle read.passed (starts_named around fits read.passed.placed name read.named)
 
-    name_reads : (new : Spot) (tree : Expr) → HasVariable level name middle new tree → HasExpression least level opening old new tree
+    name_reads : (new : Spot) (tree : Expr) → HasVariable level name middle new tree → Parses (expression_phrase least level opening) old new tree
     name_reads new tree then = record {
       syntax = then.syntax;
       same = then.same;
@@ -97,16 +98,16 @@ module _ (least level : ℕ) (opening : Opening) (counts : List Count) (counted 
       leads = λ around fits. to_name around fits ∙ then.leads around fits.same_level;
     }
 
-    name_then_lacks : (refusal : ParseRefusal) → LacksVariable level name middle refusal → LacksExpression least level opening old refusal
+    name_then_lacks : (refusal : ParseRefusal) → LacksVariable level name middle refusal → Lacks (expression_phrase least level opening) old refusal
     name_then_lacks refusal lacks around fits = refuses_as refusal _ _ (to_name around fits) (lacks around fits.same_level)
 
     -- what was read or refused behind the name
     pub name_answers : (new : Spot) (result : Result Expr ParseRefusal) → MatchResult result (λ tree. HasVariable level name middle new tree) (λ refusal. LacksVariable level name middle refusal) →
-        MatchResult result (λ tree. HasExpression least level opening old new tree) (λ refusal. LacksExpression least level opening old refusal)
+        MatchResult result (λ tree. Parses (expression_phrase least level opening) old new tree) (λ refusal. Lacks (expression_phrase least level opening) old refusal)
     name_answers new (Ok tree) answer = name_reads new tree answer
     name_answers new (Err refusal) answer = name_then_lacks refusal answer
 
-  pub name_lacks : starts_operand old.left ≡ operand.Name → (refusal : ParseRefusal) → LacksName level counts old refusal → LacksExpression least level opening old refusal
+  pub name_lacks : starts_operand old.left ≡ operand.Name → (refusal : ParseRefusal) → LacksName level counts old refusal → Lacks (expression_phrase least level opening) old refusal
   unfolding step
   name_lacks starts refusal lacks around fits = elim lacks [
     | inl memory ↦ subst (Refuses (from (Wants around) old)) (sym memory) tt
@@ -121,7 +122,7 @@ module _ (least level : ℕ) (opening : Opening) (counts : List Count) (counted 
 
   -- an expression in parentheses
   module _ (starts : starts_operand old.left ≡ operand.Group) where
-    pub group_over : (refusal : ParseRefusal) → IsOver level counts old refusal → LacksExpression least level opening old refusal
+    pub group_over : (refusal : ParseRefusal) → IsOver level counts old refusal → Lacks (expression_phrase least level opening) old refusal
     unfolding step
     group_over refusal over around fits =
         refuses_as refusal _ _ (from_steps (Wants around) refl old)
@@ -140,20 +141,20 @@ module _ (least level : ℕ) (opening : Opening) (counts : List Count) (counted 
         closes = λ syntax token. ap (λ l. step_only (mark l sign.CloseParen) (Has around (Group syntax)) token) fits.same_level;
       }
 
-      pub inner_lacks : (refusal : ParseRefusal) → LacksEnclosed (level + 1) Part sign.CloseParen level start refusal → LacksExpression least level opening old refusal
-      inner_lacks refusal lacks around fits = refuses_as refusal _ _ (to_group around fits) (lacks (InGroup around) _ (in_group around fits))
+      pub inner_lacks : (refusal : ParseRefusal) → Lacks (enclosed_phrase (level + 1) Part sign.CloseParen level) start refusal → Lacks (expression_phrase least level opening) old refusal
+      inner_lacks refusal lacks around fits = refuses_as refusal _ _ (to_group around fits) (lacks (InGroup around, _) (in_group around fits))
 
-      pub group_reads : (new : Spot) (tree : Expr) → HasEnclosed (level + 1) Part sign.CloseParen level start new tree → HasExpression least level opening old new tree
+      pub group_reads : (new : Spot) (tree : Expr) → Parses (enclosed_phrase (level + 1) Part sign.CloseParen level) start new tree → Parses (expression_phrase least level opening) old new tree
       unfolding step
       group_reads new tree read = record {
         syntax = Group read.syntax;
         same = read.same;
         shorter = let a = passed_shorter level counts old start passed in let b = read.shorter in omega arith;
-        leads = λ around fits. to_group around fits ∙ read.leads (InGroup around) _ (in_group around fits) ∙ from_steps (Has around (Group read.syntax)) refl new;
+        leads = λ around fits. to_group around fits ∙ read.leads (InGroup around, _) (in_group around fits) ∙ from_steps (Has around (Group read.syntax)) refl new;
       }
 
   -- nothing that begins one
-  pub other_lacks : starts_operand old.left ≡ operand.Other → LacksExpression least level opening old (unexpected_of old.end old.left)
+  pub other_lacks : starts_operand old.left ≡ operand.Other → Lacks (expression_phrase least level opening) old (unexpected_of old.end old.left)
   unfolding step
   other_lacks starts around fits =
       refuses_as (unexpected_of old.end old.left) _ _ (from_steps (Wants around) refl old)
@@ -166,7 +167,7 @@ module _ (least level : ℕ) (opening : Opening) (operator : UnaryOp) (old : Spo
       starts_as least level opening (opening_counts opening) refl old around fits placed rest (operand.Prefix operator) first starts ∙
       ap (λ cs. goes_on (counting level cs placed.token) (Wants (Under around operator))) (sym counted)
 
-  pub prefix_over : (refusal : ParseRefusal) → IsOver level counts old refusal → LacksExpression least level opening old refusal
+  pub prefix_over : (refusal : ParseRefusal) → IsOver level counts old refusal → Lacks (expression_phrase least level opening) old refusal
   unfolding step
   prefix_over refusal over around fits =
       refuses_as refusal _ _ (from_steps (Wants around) refl old)
@@ -181,10 +182,10 @@ module _ (least level : ℕ) (opening : Opening) (operator : UnaryOp) (old : Spo
     under_fits : (around : Around) → Fits least level opening around → Fits 7 (level + 1) Part (Under around operator)
     under_fits around fits = record { strong = refl; same_level = ap (λ l. l + 1) fits.same_level; counted = refl }
 
-    pub prefix_lacks : (refusal : ParseRefusal) → LacksExpression 7 (level + 1) Part start refusal → LacksExpression least level opening old refusal
+    pub prefix_lacks : (refusal : ParseRefusal) → Lacks (expression_phrase 7 (level + 1) Part) start refusal → Lacks (expression_phrase least level opening) old refusal
     prefix_lacks refusal lacks around fits = refuses_as refusal _ _ (to_under around fits) (lacks (Under around operator) (under_fits around fits))
 
-    pub prefix_reads : (new : Spot) (inner tree : Expr) → HasExpression 7 (level + 1) Part start new inner → tree ≡ expr.Unary operator inner → HasExpression least level opening old new tree
+    pub prefix_reads : (new : Spot) (inner tree : Expr) → Parses (expression_phrase 7 (level + 1) Part) start new inner → tree ≡ expr.Unary operator inner → Parses (expression_phrase least level opening) old new tree
     prefix_reads new inner tree read same = record {
       syntax = Prefix operator read.syntax;
       same = same ∙ ap (expr.Unary operator) read.same;
@@ -223,14 +224,14 @@ module _ (level : ℕ) (name : List ℕ) (old : Spot) (there : IsTrue (is_sign s
       closes = λ syntax token. ap (λ l. step_only (mark l sign.CloseBracket) (Has around (Element name syntax)) token) same;
     }
 
-    pub index_lacks : (refusal : ParseRefusal) → LacksEnclosed (level + 1) Part sign.CloseBracket level start refusal → LacksVariable level name old refusal
-    index_lacks refusal lacks around same = refuses_as refusal _ _ (to_index around same) (lacks (InIndex around name) _ (in_index around same))
+    pub index_lacks : (refusal : ParseRefusal) → Lacks (enclosed_phrase (level + 1) Part sign.CloseBracket level) start refusal → LacksVariable level name old refusal
+    index_lacks refusal lacks around same = refuses_as refusal _ _ (to_index around same) (lacks (InIndex around name, _) (in_index around same))
 
-    pub index_reads : (new : Spot) (index tree : Expr) → HasEnclosed (level + 1) Part sign.CloseBracket level start new index → tree ≡ expr.Get name index → HasVariable level name old new tree
+    pub index_reads : (new : Spot) (index tree : Expr) → Parses (enclosed_phrase (level + 1) Part sign.CloseBracket level) start new index → tree ≡ expr.Get name index → HasVariable level name old new tree
     unfolding step
     index_reads new index tree read same_tree = record {
       syntax = Element name read.syntax;
       same = same_tree ∙ ap (expr.Get name) read.same;
       no_longer = let a = passed_shorter level [] old start passed in let b = read.shorter in omega arith;
-      leads = λ around same. to_index around same ∙ read.leads (InIndex around name) _ (in_index around same) ∙ from_steps (Has around (Element name read.syntax)) refl new;
+      leads = λ around same. to_index around same ∙ read.leads (InIndex around name, _) (in_index around same) ∙ from_steps (Has around (Element name read.syntax)) refl new;
     }

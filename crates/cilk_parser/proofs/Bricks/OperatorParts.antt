@@ -13,12 +13,13 @@ use Rattle.cilk_parser.specs.declared.opening.Opening.{Opening}
 use Rattle.cilk_parser.specs.declared.opening.Opening.TheVariants.{Part}
 use Rattle.cilk_parser.specs.declared.refusal.ParseRefusal.{ParseRefusal}
 use Rattle.cilk_parser.specs.Contexts.{Around, RightOf}
-use Rattle.cilk_parser.specs.Parts.{Spot, Fits, from, HasPassed, IsOver, HasExpression, LacksExpression, HasOperator, stops_below}
+use Rattle.cilk_parser.specs.Spots.{Spot, from, HasPassed, IsOver}
+use Rattle.cilk_parser.specs.Phrases.{Fits, HasOperator, Lacks, Parses, expression_phrase, stops_below}
 use Rattle.cilk_parser.specs.Steps.{Wants, goes_on, step_operand, token_operator}
 use Rattle.cilk_parser.proofs.Bricks.BehindOperand.{operator_taken, right_is_whole}
 use Rattle.cilk_parser.proofs.Bricks.Stepping.{over_refuses, passed_shorter, passes_on, refuses_as}
 
-module _ (least level : ℕ) (opening : Opening) (old middle : Spot) (left : Expr) (read : HasExpression least level opening old middle left) (operator : BinaryOp) (on : HasOperator least middle.left operator) where
+module _ (least level : ℕ) (opening : Opening) (old middle : Spot) (left : Expr) (read : Parses (expression_phrase least level opening) old middle left) (operator : BinaryOp) (on : HasOperator least middle.left operator) where
   known_first : (placed : Placed) (rest : List Placed) → middle.left ≡ placed ∷ rest → token_operator placed.token ≡ Some operator
   known_first placed rest first = let same : placed ≡ on.placed = cc (first, on.same) in ap (λ p. token_operator p.token) same ∙ on.known
 
@@ -28,7 +29,7 @@ module _ (least level : ℕ) (opening : Opening) (old middle : Spot) (left : Exp
       operator_taken around read.syntax placed.token operator (known_first placed rest first) (subst (λ n. n ≤ operator_strength operator) (sym fits.strong) on.strong) ∙
       ap (λ l. goes_on (counting l (OneMore Operators ∷ []) placed.token) (Wants (RightOf around read.syntax operator))) fits.same_level
 
-  pub operator_over : (refusal : ParseRefusal) → IsOver level (OneMore Operators ∷ []) middle refusal → LacksExpression least level opening old refusal
+  pub operator_over : (refusal : ParseRefusal) → IsOver level (OneMore Operators ∷ []) middle refusal → Lacks (expression_phrase least level opening) old refusal
   operator_over refusal over around fits =
       refuses_as refusal _ _ (read.leads around fits)
       (over_refuses (step_operand around read.syntax) (Wants (RightOf around read.syntax operator)) level (OneMore Operators ∷ []) middle refusal over (goes_right around fits over.placed over.rest over.first))
@@ -42,10 +43,10 @@ module _ (least level : ℕ) (opening : Opening) (old middle : Spot) (left : Exp
     right_fits : (around : Around) → Fits least level opening around → Fits (bound + 1) level Part (RightOf around read.syntax operator)
     right_fits around fits = record { strong = ap (λ n. n + 1) (sym strong); same_level = fits.same_level; counted = refl }
 
-    pub right_lacks : (refusal : ParseRefusal) → LacksExpression (bound + 1) level Part start refusal → LacksExpression least level opening old refusal
+    pub right_lacks : (refusal : ParseRefusal) → Lacks (expression_phrase (bound + 1) level Part) start refusal → Lacks (expression_phrase least level opening) old refusal
     right_lacks refusal lacks around fits = refuses_as refusal _ _ (to_right around fits) (lacks (RightOf around read.syntax operator) (right_fits around fits))
 
-    pub right_reads : (new : Spot) (right tree : Expr) → HasExpression (bound + 1) level Part start new right → IsTrue (stops_below (bound + 1) new.left) → tree ≡ expr.Binary operator left right → HasExpression least level opening old new tree
+    pub right_reads : (new : Spot) (right tree : Expr) → Parses (expression_phrase (bound + 1) level Part) start new right → IsTrue (stops_below (bound + 1) new.left) → tree ≡ expr.Binary operator left right → Parses (expression_phrase least level opening) old new tree
     right_reads new right tree then stops same = record {
       syntax = Infix read.syntax operator then.syntax;
       same = same ∙ ap (λ e. expr.Binary operator e right) read.same ∙ ap (expr.Binary operator (expression_tree read.syntax)) then.same;

@@ -14,7 +14,8 @@ use Rattle.cilk_parser.specs.declared.statement.ForHead.{ForHead}
 use Rattle.cilk_parser.specs.declared.starts.StatementStart.{StatementStart}
 use Rattle.cilk_parser.specs.declared.starts.StatementStart.TheVariants as statement
 use Rattle.cilk_parser.specs.Contexts.{Around, BodyIn, IfTaken, IfOtherwise, WhileBody, ForBody, IfCondition, WhileCondition, StatementIn, body_level, owner_level, statement_level}
-use Rattle.cilk_parser.specs.Parts.{Spot, from, HasPassed, IsOver, HasRead, LacksSign, HasCondition, LacksCondition, HasForStart, LacksForStart, HasForCondition, LacksForCondition, HasForHead, HasForLast, LacksForLast, HasOneBody, LacksBody, HasStatement, LacksStatement, IsCondition, is_keyword, stepping}
+use Rattle.cilk_parser.specs.Spots.{Spot, from, HasPassed, IsOver, HasRead, LacksSign, is_keyword, stepping}
+use Rattle.cilk_parser.specs.Phrases.{IsCondition, Lacks, Parses, body_phrase, condition_phrase, for_condition_phrase, for_head_phrase, for_last_phrase, for_start_phrase, statement_phrase}
 use Rattle.cilk_parser.specs.Starts.{starts_statement}
 use Rattle.cilk_parser.specs.Steps.{Awaited, Awaits, AtBody, AtForCondition, AtForLast, AtForStart, ForOpen, HasBody, IfOpen, WhileOpen, goes_on, step, step_statement}
 use Rattle.cilk_parser.proofs.Bricks.Beginnings.{IsBegun, begun_for, begun_if, begun_over, begun_passed, begun_while, keyword_begins}
@@ -40,80 +41,80 @@ head_of_while = record { begun = begun_while; condition = condition_of_while; in
 
 module _ (start : StatementStart) (token : Token) (opening : StatementIn → Awaited) (around : StatementIn → Around) (owner : StatementIn → Expression → BodyIn) (head : HasHead start token opening around owner)
     (level : ℕ) (old : Spot) (there : starts_statement old.left ≡ start) where
-  pub head_over : (refusal : ParseRefusal) → IsOver level [] old refusal → LacksStatement level old refusal
+  pub head_over : (refusal : ParseRefusal) → IsOver level [] old refusal → Lacks (statement_phrase level) old refusal
   head_over refusal over = begun_over start token (λ outer. Awaits (opening outer)) head.begun level old there refusal over
 
   module _ (middle : Spot) (passed : HasPassed level [] old middle) where
     to_condition : (outer : StatementIn) → statement_level outer ≡ level → stepping (step_statement outer) old ≡ from (Awaits (opening outer)) middle
     to_condition = begun_passed start token (λ outer. Awaits (opening outer)) head.begun level old there middle passed
 
-    pub head_lacks : (refusal : ParseRefusal) → LacksCondition level middle refusal → LacksStatement level old refusal
-    head_lacks refusal lacks outer same = refuses_as refusal _ _ (to_condition outer same) (lacks (around outer) (Awaits (opening outer)) (λ syntax. AtBody (owner outer syntax)) (head.condition level outer same))
+    pub head_lacks : (refusal : ParseRefusal) → Lacks (condition_phrase level) middle refusal → Lacks (statement_phrase level) old refusal
+    head_lacks refusal lacks outer same = refuses_as refusal _ _ (to_condition outer same) (lacks (around outer, Awaits (opening outer), λ syntax. AtBody (owner outer syntax)) (head.condition level outer same))
 
-    module _ (later : Spot) (tree : Expr) (condition : HasCondition level middle later tree) where
+    module _ (later : Spot) (tree : Expr) (condition : Parses (condition_phrase level) middle later tree) where
       to_body : (outer : StatementIn) → statement_level outer ≡ level → stepping (step_statement outer) old ≡ from (AtBody (owner outer condition.syntax)) later
-      to_body outer same = to_condition outer same ∙ condition.leads (around outer) (Awaits (opening outer)) (λ syntax. AtBody (owner outer syntax)) (head.condition level outer same)
+      to_body outer same = to_condition outer same ∙ condition.leads (around outer, Awaits (opening outer), λ syntax. AtBody (owner outer syntax)) (head.condition level outer same)
 
-      pub head_without : (refusal : ParseRefusal) → LacksBody (level + 1) level later refusal → LacksStatement level old refusal
+      pub head_without : (refusal : ParseRefusal) → Lacks (body_phrase (level + 1) level) later refusal → Lacks (statement_phrase level) old refusal
       head_without refusal lacks outer same =
-          refuses_as refusal _ _ (to_body outer same) (lacks (owner outer condition.syntax) (head.inner outer condition.syntax ∙ ap (λ l. l + 1) same) (head.own outer condition.syntax ∙ same))
+          refuses_as refusal _ _ (to_body outer same) (lacks (owner outer condition.syntax) (head.inner outer condition.syntax ∙ ap (λ l. l + 1) same, head.own outer condition.syntax ∙ same))
 
-      module _ (new : Spot) (trees : List Stmt) (body : HasOneBody (level + 1) level later new trees) where
-        pub behind_head : (outer : StatementIn) → statement_level outer ≡ level → stepping (step_statement outer) old ≡ from (HasBody (owner outer condition.syntax) body.body) new
-        behind_head outer same = to_body outer same ∙ body.leads (owner outer condition.syntax) (head.inner outer condition.syntax ∙ ap (λ l. l + 1) same) (head.own outer condition.syntax ∙ same)
+      module _ (new : Spot) (trees : List Stmt) (body : Parses (body_phrase (level + 1) level) later new trees) where
+        pub behind_head : (outer : StatementIn) → statement_level outer ≡ level → stepping (step_statement outer) old ≡ from (HasBody (owner outer condition.syntax) body.syntax) new
+        behind_head outer same = to_body outer same ∙ body.leads (owner outer condition.syntax) (head.inner outer condition.syntax ∙ ap (λ l. l + 1) same, head.own outer condition.syntax ∙ same)
 
 -- ---- `while`
 
-module _ (level : ℕ) (old : Spot) (there : starts_statement old.left ≡ statement.While) (middle : Spot) (passed : HasPassed level [] old middle) (later : Spot) (tree : Expr) (condition : HasCondition level middle later tree)
-    (new : Spot) (trees : List Stmt) (body : HasOneBody (level + 1) level later new trees) where
-  pub while_reads : (before now : List Stmt) → now ≡ before ++ stmt.While tree trees ∷ [] → HasStatement level old new before now
+module _ (level : ℕ) (old : Spot) (there : starts_statement old.left ≡ statement.While) (middle : Spot) (passed : HasPassed level [] old middle) (later : Spot) (tree : Expr) (condition : Parses (condition_phrase level) middle later tree)
+    (new : Spot) (trees : List Stmt) (body : Parses (body_phrase (level + 1) level) later new trees) where
+  pub while_reads : (before now : List Stmt) → now ≡ before ++ stmt.While tree trees ∷ [] → Parses (statement_phrase level) old new (before, now)
   while_reads before now added = record {
-    statement = WhileLoop condition.syntax body.body;
+    syntax = WhileLoop condition.syntax body.syntax;
     same = added ∙ rw (condition.same, body.same) refl;
     shorter = let a = passed_shorter level [] old middle passed in let b = condition.shorter in let d = body.shorter in omega arith;
     leads = λ outer same.
-        behind_head statement.While (Word word.While) WhileOpen WhileCondition WhileBody head_of_while level old there middle passed later tree condition new trees body outer same ∙ while_ends outer condition.syntax body.body new;
+        behind_head statement.While (Word word.While) WhileOpen WhileCondition WhileBody head_of_while level old there middle passed later tree condition new trees body outer same ∙ while_ends outer condition.syntax body.syntax new;
   }
 
 -- ---- `if`
 
-module _ (level : ℕ) (old : Spot) (there : starts_statement old.left ≡ statement.If) (middle : Spot) (passed : HasPassed level [] old middle) (later : Spot) (tree : Expr) (condition : HasCondition level middle later tree)
-    (third : Spot) (trees : List Stmt) (taken : HasOneBody (level + 1) level later third trees) where
-  behind_taken : (outer : StatementIn) → statement_level outer ≡ level → stepping (step_statement outer) old ≡ from (HasBody (IfTaken outer condition.syntax) taken.body) third
+module _ (level : ℕ) (old : Spot) (there : starts_statement old.left ≡ statement.If) (middle : Spot) (passed : HasPassed level [] old middle) (later : Spot) (tree : Expr) (condition : Parses (condition_phrase level) middle later tree)
+    (third : Spot) (trees : List Stmt) (taken : Parses (body_phrase (level + 1) level) later third trees) where
+  behind_taken : (outer : StatementIn) → statement_level outer ≡ level → stepping (step_statement outer) old ≡ from (HasBody (IfTaken outer condition.syntax) taken.syntax) third
   behind_taken = behind_head statement.If (Word word.If) IfOpen IfCondition IfTaken head_of_if level old there middle passed later tree condition third trees taken
 
   -- No `else` follows.
-  pub if_reads : is_keyword word.Else third.left ≡ false → (before now : List Stmt) → now ≡ before ++ stmt.If tree trees [] ∷ [] → HasStatement level old third before now
+  pub if_reads : is_keyword word.Else third.left ≡ false → (before now : List Stmt) → now ≡ before ++ stmt.If tree trees [] ∷ [] → Parses (statement_phrase level) old third (before, now)
   if_reads absent before now added = record {
-    statement = IfAlone condition.syntax taken.body;
+    syntax = IfAlone condition.syntax taken.syntax;
     same = added ∙ rw (condition.same, taken.same) refl;
     shorter = let a = passed_shorter level [] old middle passed in let b = condition.shorter in let d = taken.shorter in omega arith;
-    leads = λ outer same. behind_taken outer same ∙ if_ends outer condition.syntax taken.body third absent;
+    leads = λ outer same. behind_taken outer same ∙ if_ends outer condition.syntax taken.syntax third absent;
   }
 
   module _ (otherwise : IsTrue (is_keyword word.Else third.left)) where
     goes_otherwise : (outer : StatementIn) → statement_level outer ≡ level →
-        step (HasBody (IfTaken outer condition.syntax) taken.body) (Word word.Else) ≡ goes_on (plain level (Word word.Else)) (AtBody (IfOtherwise outer condition.syntax taken.body))
+        step (HasBody (IfTaken outer condition.syntax) taken.syntax) (Word word.Else) ≡ goes_on (plain level (Word word.Else)) (AtBody (IfOtherwise outer condition.syntax taken.syntax))
     unfolding step
-    goes_otherwise outer same = ap (λ l. goes_on (plain l (Word word.Else)) (AtBody (IfOtherwise outer condition.syntax taken.body))) same
+    goes_otherwise outer same = ap (λ l. goes_on (plain l (Word word.Else)) (AtBody (IfOtherwise outer condition.syntax taken.syntax))) same
 
-    pub else_over : (refusal : ParseRefusal) → IsOver level [] third refusal → LacksStatement level old refusal
+    pub else_over : (refusal : ParseRefusal) → IsOver level [] third refusal → Lacks (statement_phrase level) old refusal
     else_over refusal over outer same =
         refuses_as refusal _ _ (behind_taken outer same)
-        (state_over (HasBody (IfTaken outer condition.syntax) taken.body) (AtBody (IfOtherwise outer condition.syntax taken.body)) refl level (Word word.Else) (goes_otherwise outer same) third (keyword_begins word.Else third.left otherwise) refusal over)
+        (state_over (HasBody (IfTaken outer condition.syntax) taken.syntax) (AtBody (IfOtherwise outer condition.syntax taken.syntax)) refl level (Word word.Else) (goes_otherwise outer same) third (keyword_begins word.Else third.left otherwise) refusal over)
 
     module _ (fourth : Spot) (beyond : HasPassed level [] third fourth) where
-      to_otherwise : (outer : StatementIn) → statement_level outer ≡ level → stepping (step_statement outer) old ≡ from (AtBody (IfOtherwise outer condition.syntax taken.body)) fourth
+      to_otherwise : (outer : StatementIn) → statement_level outer ≡ level → stepping (step_statement outer) old ≡ from (AtBody (IfOtherwise outer condition.syntax taken.syntax)) fourth
       to_otherwise outer same =
           behind_taken outer same ∙
-          state_passed (HasBody (IfTaken outer condition.syntax) taken.body) (AtBody (IfOtherwise outer condition.syntax taken.body)) refl level (Word word.Else) (goes_otherwise outer same) third (keyword_begins word.Else third.left otherwise) fourth beyond
+          state_passed (HasBody (IfTaken outer condition.syntax) taken.syntax) (AtBody (IfOtherwise outer condition.syntax taken.syntax)) refl level (Word word.Else) (goes_otherwise outer same) third (keyword_begins word.Else third.left otherwise) fourth beyond
 
-      pub else_lacks : (refusal : ParseRefusal) → LacksBody (level + 1) level fourth refusal → LacksStatement level old refusal
-      else_lacks refusal lacks outer same = refuses_as refusal _ _ (to_otherwise outer same) (lacks (IfOtherwise outer condition.syntax taken.body) (ap (λ l. l + 1) same) same)
+      pub else_lacks : (refusal : ParseRefusal) → Lacks (body_phrase (level + 1) level) fourth refusal → Lacks (statement_phrase level) old refusal
+      else_lacks refusal lacks outer same = refuses_as refusal _ _ (to_otherwise outer same) (lacks (IfOtherwise outer condition.syntax taken.syntax) (ap (λ l. l + 1) same, same))
 
-      pub else_reads : (new : Spot) (others : List Stmt) → HasOneBody (level + 1) level fourth new others → (before now : List Stmt) → now ≡ before ++ stmt.If tree trees others ∷ [] → HasStatement level old new before now
+      pub else_reads : (new : Spot) (others : List Stmt) → Parses (body_phrase (level + 1) level) fourth new others → (before now : List Stmt) → now ≡ before ++ stmt.If tree trees others ∷ [] → Parses (statement_phrase level) old new (before, now)
       else_reads new others body before now added = record {
-        statement = IfElse condition.syntax taken.body body.body;
+        syntax = IfElse condition.syntax taken.syntax body.syntax;
         same = added ∙ rw (condition.same, taken.same, body.same) refl;
         shorter =
             let a = passed_shorter level [] old middle passed in
@@ -122,12 +123,12 @@ module _ (level : ℕ) (old : Spot) (there : starts_statement old.left ≡ state
             let e = taken.shorter in
             let f = body.shorter in
             omega arith;
-        leads = λ outer same. to_otherwise outer same ∙ body.leads (IfOtherwise outer condition.syntax taken.body) (ap (λ l. l + 1) same) same ∙ else_ends outer condition.syntax taken.body body.body new;
+        leads = λ outer same. to_otherwise outer same ∙ body.leads (IfOtherwise outer condition.syntax taken.syntax) (ap (λ l. l + 1) same, same) ∙ else_ends outer condition.syntax taken.syntax body.syntax new;
       }
 
 -- ---- `for`
 
-pub for_over : (level : ℕ) (old : Spot) (refusal : ParseRefusal) → starts_statement old.left ≡ statement.For → IsOver level [] old refusal → LacksStatement level old refusal
+pub for_over : (level : ℕ) (old : Spot) (refusal : ParseRefusal) → starts_statement old.left ≡ statement.For → IsOver level [] old refusal → Lacks (statement_phrase level) old refusal
 for_over level old refusal there over = begun_over statement.For (Word word.For) (λ outer. Awaits (ForOpen outer)) begun_for level old there refusal over
 
 module _ (level : ℕ) (old : Spot) (there : starts_statement old.left ≡ statement.For) (middle : Spot) (passed : HasPassed level [] old middle) where
@@ -137,39 +138,34 @@ module _ (level : ℕ) (old : Spot) (there : starts_statement old.left ≡ state
   opens : (outer : StatementIn) → statement_level outer ≡ level → mark (statement_level outer) sign.OpenParen ≡ mark level sign.OpenParen
   opens outer same = ap (λ l. mark l sign.OpenParen) same
 
-  pub for_unopened : (refusal : ParseRefusal) → LacksSign sign.OpenParen level middle refusal → LacksStatement level old refusal
+  pub for_unopened : (refusal : ParseRefusal) → LacksSign sign.OpenParen level middle refusal → Lacks (statement_phrase level) old refusal
   for_unopened refusal lacks outer same = refuses_as refusal _ _ (to_open outer same) (awaits_lacks (ForOpen outer) sign.OpenParen level (opens outer same) middle refusal lacks)
 
   module _ (second : Spot) (opened : HasRead sign.OpenParen level middle second) where
     to_start : (outer : StatementIn) → statement_level outer ≡ level → stepping (step_statement outer) old ≡ from (AtForStart outer) second
     to_start outer same = to_open outer same ∙ awaits_sign (ForOpen outer) sign.OpenParen level (opens outer same) middle second opened
 
-    pub for_lacks_start : (refusal : ParseRefusal) → LacksForStart (level + 1) second refusal → LacksStatement level old refusal
+    pub for_lacks_start : (refusal : ParseRefusal) → Lacks (for_start_phrase (level + 1)) second refusal → Lacks (statement_phrase level) old refusal
     for_lacks_start refusal lacks outer same = refuses_as refusal _ _ (to_start outer same) (lacks outer (ap (λ l. l + 1) same))
 
-    module _ (third : Spot) (starts : List Stmt) (start : HasForStart (level + 1) second third [] starts) where
-      to_for_condition : (outer : StatementIn) → statement_level outer ≡ level → stepping (step_statement outer) old ≡ from (AtForCondition outer start.start) third
+    module _ (third : Spot) (starts : List Stmt) (start : Parses (for_start_phrase (level + 1)) second third ([], starts)) where
+      to_for_condition : (outer : StatementIn) → statement_level outer ≡ level → stepping (step_statement outer) old ≡ from (AtForCondition outer start.syntax) third
       to_for_condition outer same = to_start outer same ∙ start.leads outer (ap (λ l. l + 1) same)
 
-      pub for_lacks_condition : (refusal : ParseRefusal) → LacksForCondition (level + 1) third refusal → LacksStatement level old refusal
-      for_lacks_condition refusal lacks outer same = refuses_as refusal _ _ (to_for_condition outer same) (lacks outer start.start (ap (λ l. l + 1) same))
+      pub for_lacks_condition : (refusal : ParseRefusal) → Lacks (for_condition_phrase (level + 1)) third refusal → Lacks (statement_phrase level) old refusal
+      for_lacks_condition refusal lacks outer same = refuses_as refusal _ _ (to_for_condition outer same) (lacks (outer, start.syntax) (ap (λ l. l + 1) same))
 
-      module _ (fourth : Spot) (tree : Expr) (condition : HasForCondition (level + 1) third fourth tree) where
-        to_for_last : (outer : StatementIn) → statement_level outer ≡ level → stepping (step_statement outer) old ≡ from (AtForLast outer start.start condition.condition) fourth
-        to_for_last outer same = to_for_condition outer same ∙ condition.leads outer start.start (ap (λ l. l + 1) same)
+      module _ (fourth : Spot) (tree : Expr) (condition : Parses (for_condition_phrase (level + 1)) third fourth tree) where
+        to_for_last : (outer : StatementIn) → statement_level outer ≡ level → stepping (step_statement outer) old ≡ from (AtForLast outer start.syntax condition.syntax) fourth
+        to_for_last outer same = to_for_condition outer same ∙ condition.leads (outer, start.syntax) (ap (λ l. l + 1) same)
 
-        pub for_lacks_last : (refusal : ParseRefusal) → LacksForLast (level + 2) level fourth refusal → LacksStatement level old refusal
-        for_lacks_last refusal lacks outer same = refuses_as refusal _ _ (to_for_last outer same) (lacks outer start.start condition.condition (ap (λ l. l + 2) same) same)
+        pub for_lacks_last : (refusal : ParseRefusal) → Lacks (for_last_phrase (level + 2) level) fourth refusal → Lacks (statement_phrase level) old refusal
+        for_lacks_last refusal lacks outer same = refuses_as refusal _ _ (to_for_last outer same) (lacks (outer, start.syntax, condition.syntax) (ap (λ l. l + 2) same, same))
 
-        pub for_head_reads : (new : Spot) (lasts : List Stmt) → HasForLast (level + 2) level fourth new [] lasts → HasForHead level old new (record { start = starts; condition = tree; last = lasts })
+        pub for_head_reads : (new : Spot) (lasts : List Stmt) → Parses (for_last_phrase (level + 2) level) fourth new ([], lasts) → Parses (for_head_phrase level) old new (record { start = starts; condition = tree; last = lasts })
         for_head_reads new lasts last = record {
-          start = start.start;
-          condition = condition.condition;
-          last = last.last;
-          same_start = start.same;
-          same_condition = condition.same;
-          same_last = last.same;
-          shallow = passed.shallow;
+          syntax = (start.syntax, condition.syntax, last.syntax);
+          same = (rw (start.same, condition.same, last.same) refl, passed.shallow);
           shorter =
               let a = passed_shorter level [] old middle passed in
               let b = passed_shorter level [] middle second opened.passed in
@@ -177,21 +173,21 @@ module _ (level : ℕ) (old : Spot) (there : starts_statement old.left ≡ state
               let e = condition.shorter in
               let f = last.shorter in
               omega arith;
-          leads = λ outer same. to_for_last outer same ∙ last.leads outer start.start condition.condition (ap (λ l. l + 2) same) same;
+          leads = λ outer same. to_for_last outer same ∙ last.leads (outer, start.syntax, condition.syntax) (ap (λ l. l + 2) same, same);
         }
 
-module _ (level : ℕ) (old middle : Spot) (head : ForHead) (read : HasForHead level old middle head) where
-  pub for_lacks_body : (refusal : ParseRefusal) → LacksBody (level + 2) level middle refusal → LacksStatement level old refusal
-  for_lacks_body refusal lacks outer same = refuses_as refusal _ _ (read.leads outer same) (lacks (ForBody outer read.start read.condition read.last) (ap (λ l. l + 2) same) same)
+module _ (level : ℕ) (old middle : Spot) (head : ForHead) (read : Parses (for_head_phrase level) old middle head) where
+  pub for_lacks_body : (refusal : ParseRefusal) → Lacks (body_phrase (level + 2) level) middle refusal → Lacks (statement_phrase level) old refusal
+  for_lacks_body refusal lacks outer same = refuses_as refusal _ _ (read.leads outer same) (lacks (ForBody outer read.syntax.0 read.syntax.1 read.syntax.2) (ap (λ l. l + 2) same, same))
 
-  pub for_reads : (new : Spot) (trees : List Stmt) → HasOneBody (level + 2) level middle new trees → (before now : List Stmt) →
-      now ≡ before ++ stmt.Block (head.start ++ stmt.While head.condition (trees ++ head.last) ∷ []) ∷ [] → HasStatement level old new before now
+  pub for_reads : (new : Spot) (trees : List Stmt) → Parses (body_phrase (level + 2) level) middle new trees → (before now : List Stmt) →
+      now ≡ before ++ stmt.Block (head.start ++ stmt.While head.condition (trees ++ head.last) ∷ []) ∷ [] → Parses (statement_phrase level) old new (before, now)
   for_reads new trees body before now added = record {
-    statement = ForLoop read.start read.condition read.last body.body;
-    same = added ∙ rw (read.same_start, read.same_condition, body.same, read.same_last) refl;
+    syntax = ForLoop read.syntax.0 read.syntax.1 read.syntax.2 body.syntax;
+    same = added ∙ rw (read.same.0, body.same) refl;
     shorter = let a = read.shorter in let b = body.shorter in omega arith;
     leads = λ outer same.
         read.leads outer same
-        ∙ body.leads (ForBody outer read.start read.condition read.last) (ap (λ l. l + 2) same) same
-        ∙ for_ends outer read.start read.condition read.last body.body new;
+        ∙ body.leads (ForBody outer read.syntax.0 read.syntax.1 read.syntax.2) (ap (λ l. l + 2) same, same)
+        ∙ for_ends outer read.syntax.0 read.syntax.1 read.syntax.2 body.syntax new;
   }

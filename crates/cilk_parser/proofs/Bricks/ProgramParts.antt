@@ -11,7 +11,8 @@ use Rattle.cilk_tree.specs.Syntax as syntax
 use Rattle.cilk_tree.specs.Syntax.{Empty, Then, Defined, Source}
 use Rattle.cilk_parser.specs.declared.parser.End.{End}
 use Rattle.cilk_parser.specs.declared.refusal.ParseRefusal.{ParseRefusal}
-use Rattle.cilk_parser.specs.Parts.{Spot, from, Refuses, answer_on, end_refusal, HasArrays, LacksArrays, HasFunction, HasItem, LacksItem, HasProgram}
+use Rattle.cilk_parser.specs.Spots.{Spot, from, Refuses, end_refusal}
+use Rattle.cilk_parser.specs.Phrases.{HasProgram, Lacks, Parses, answer_on, arrays_phrase, function_phrase, item_phrase}
 use Rattle.cilk_parser.specs.Run.{at_end, run}
 use Rattle.cilk_parser.specs.Steps.{Items}
 use Rattle.cilk_parser.specs.Tally.{none_counted}
@@ -21,24 +22,22 @@ use Rattle.cilk_parser.proofs.Bricks.Stepping.{refuses_as}
 
 -- arrays
 pub arrays_item : (old new : Spot) (before : Program) (shared : List Shared) (result : Result (Unit {0}) ParseRefusal) →
-    MatchResult result (λ _. HasArrays old new before.shared shared) (λ refusal. LacksArrays old refusal) →
-    MatchResult result (λ _. HasItem old new before (record { shared = shared; functions = before.functions })) (λ refusal. LacksItem old refusal)
+    MatchResult result (λ _. Parses arrays_phrase old new (before.shared, shared)) (λ refusal. Lacks arrays_phrase old refusal) →
+    MatchResult result (λ _. Parses item_phrase old new (before, (record { shared = shared; functions = before.functions }))) (λ refusal. Lacks item_phrase old refusal)
 arrays_item old new before shared (Ok done) read = record {
-  item = syntax.Arrays read.arrays;
-  shared = read.same;
-  functions = sym (append-nil before.functions);
+  syntax = syntax.Arrays read.syntax;
+  same = (read.same, sym (append-nil before.functions));
   shorter = read.shorter;
   leads = read.leads;
 }
 arrays_item old new before shared (Err refusal) lacks = lacks
 
 -- a function
-pub function_item : (old new : Spot) (before : Program) (function : Function) (functions : List Function) → HasFunction old new function → functions ≡ before.functions ++ function ∷ [] →
-    HasItem old new before (record { shared = before.shared; functions = functions })
+pub function_item : (old new : Spot) (before : Program) (function : Function) (functions : List Function) → Parses function_phrase old new function → functions ≡ before.functions ++ function ∷ [] →
+    Parses item_phrase old new (before, (record { shared = before.shared; functions = functions }))
 function_item old new before function functions read push = record {
-  item = Defined read.syntax;
-  shared = sym (append-nil before.shared);
-  functions = push ∙ ap (λ one. before.functions ++ one ∷ []) read.same;
+  syntax = Defined read.syntax;
+  same = (sym (append-nil before.shared), push ∙ ap (λ one. before.functions ++ one ∷ []) read.same);
   shorter = read.shorter;
   leads = read.leads;
 }
@@ -59,16 +58,16 @@ pub no_items : (end : End) (places : List Placed) (program : Program) → progra
 no_items end places program no_arrays no_functions = record { source = Empty; same = same_program program (source_tree Empty) no_arrays no_functions; leads = refl }
 
 module _ (end : End) (places : List Placed) (now : Spot) (program : Program) (read : HasItems end places now program) where
-  pub item_lacks : (refusal : ParseRefusal) → LacksItem now refusal → Refuses (answer_on end places) refusal
-  item_lacks refusal lacks = refuses_as refusal _ _ read.leads (lacks read.source)
+  pub item_lacks : (refusal : ParseRefusal) → Lacks item_phrase now refusal → Refuses (answer_on end places) refusal
+  item_lacks refusal lacks = refuses_as refusal _ _ read.leads (lacks read.source tt)
 
-  pub more_items : (new : Spot) (then : Program) → HasItem now new program then → HasItems end places new then
+  pub more_items : (new : Spot) (then : Program) → Parses item_phrase now new (program, then) → HasItems end places new then
   more_items new then item = record {
-    source = Then read.source item.item;
+    source = Then read.source item.syntax;
     same =
-        same_program then (source_tree (Then read.source item.item))
-        (item.shared ∙ ap (λ p. p.shared ++ item_arrays item.item) read.same) (item.functions ∙ ap (λ p. p.functions ++ item_functions item.item) read.same);
-    leads = read.leads ∙ item.leads read.source;
+        same_program then (source_tree (Then read.source item.syntax))
+        (item.same.0 ∙ ap (λ p. p.shared ++ item_arrays item.syntax) read.same) (item.same.1 ∙ ap (λ p. p.functions ++ item_functions item.syntax) read.same);
+    leads = read.leads ∙ item.leads read.source tt;
   }
 
   module _ (done : now.left ≡ []) where

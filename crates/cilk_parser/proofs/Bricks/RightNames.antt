@@ -15,7 +15,7 @@ use Rattle.cilk_tree.specs.Syntax.{Variable}
 use Rattle.cilk_parser.specs.declared.parser.End.{End}
 use Rattle.cilk_parser.specs.declared.tallies.Tallies.{Tallies}
 use Rattle.cilk_parser.specs.Contexts.{RightIn, right_level, ResultOf, ValueOf}
-use Rattle.cilk_parser.specs.Parts.{is_sign}
+use Rattle.cilk_parser.specs.Spots.{is_sign}
 use Rattle.cilk_parser.specs.Run.{Answer, Refused, Judged, Within, Over, Reading, at_end, if_within, judge, judge_on, judge_token, run, run_judged, run_step}
 use Rattle.cilk_parser.specs.Steps.{AtArguments, AtRight, AfterRightName, Awaits, CallOpen, Has, Wants, Next, behind, is_mark, step}
 use Rattle.cilk_parser.specs.Tally.{is_over}

@@ -17,9 +17,10 @@ use Rattle.cilk_parser.specs.declared.opening.Opening.TheVariants.{Whole}
 use Rattle.cilk_parser.specs.declared.refusal.ParseRefusal.{ParseRefusal}
 use Rattle.cilk_parser.specs.declared.tallies.Tallies.{Tallies}
 use Rattle.cilk_parser.specs.Contexts.{RightIn, Assigned, Declared, right_level, ResultOf, ValueOf}
-use Rattle.cilk_parser.specs.Parts.{Spot, from, Refuses, is_sign, is_keyword, is_word, is_name_before, is_name_token, is_named, HasPassed, IsOver, HasNamed, LacksName, stepping, stops_below, HasExpression, LacksExpression, HasOpened, LacksOpened, HasCall, LacksCall, HasSpawn, LacksSpawn, HasAddition, LacksAddition, HasRight, LacksRight}
+use Rattle.cilk_parser.specs.Spots.{Spot, from, Refuses, is_sign, is_keyword, is_word, is_name_before, is_name_token, is_named, HasPassed, IsOver, HasNamed, LacksName, stepping}
+use Rattle.cilk_parser.specs.Phrases.{Lacks, Parses, addition_phrase, call_phrase, expression_phrase, opened_phrase, right_phrase, spawn_phrase, stops_below}
 use Rattle.cilk_parser.specs.Run.{Judged, Within, Over, judge_token, run}
-use Rattle.cilk_parser.specs.Steps.{AtRight, Awaits, AwaitsName, AddOpen, CallOpen, SpawnedName, Wants, addition_of, after_right, call_of, goes_on, step, step_at_right, step_right, step_wants}
+use Rattle.cilk_parser.specs.Steps.{AtRight, Awaits, AwaitsName, AddOpen, CallOpen, SpawnedName, Wants, after_right, call_of, goes_on, step, step_at_right, step_right, step_wants}
 use Rattle.cilk_parser.specs.Tally.{is_over}
 use Rattle.cilk_parser.proofs.Bricks.BehindOperand.{expression_ends}
 use Rattle.cilk_parser.proofs.Bricks.Stepping.{from_steps, keyword_absent, name_absent, name_there, passed_shorter, refuses_as, stepping_same}
@@ -58,18 +59,18 @@ module _ (level : ℕ) (name : List ℕ) (old mid : Spot) (call : IsTrue (is_nam
       ∙ name_of_call outer name old.end old.tallies mid.tallies named.passed.placed mid.left named.named paren_left (judged_as level (right_level outer) old.tallies named.passed.placed.offset named.passed.placed.token (Name name) (Within mid.tallies) same named.named named.passed.judged)
       ∙ ap (λ end. run end (record { state = Awaits (CallOpen (ResultOf outer) false name); tallies = mid.tallies; waiting = [] }) mid.left) (sym named.passed.end)
 
-  pub calls : (new : Spot) (trees : List Expr) → HasOpened level mid new trees → HasCall level old new (record { name = name; arguments = trees })
+  pub calls : (new : Spot) (trees : List Expr) → Parses (opened_phrase level) mid new trees → Parses (call_phrase level) old new (record { name = name; arguments = trees })
   calls new trees has = record {
-    arguments = has.arguments;
-    same = has.same;
+    syntax = (name, has.syntax);
+    same = ap (λ trees. record { name = name; arguments = trees }) has.same;
     shorter = let a = has.shorter in let b = passed_shorter level [] old mid named.passed in omega arith;
-    leads = λ outer same. called_name outer same ∙ has.leads (ResultOf outer) false name same;
+    leads = λ outer same. called_name outer same ∙ has.leads (ResultOf outer, false, name) same;
   }
 
-  pub call_lacks : (refusal : ParseRefusal) → LacksOpened level mid refusal → LacksCall level old refusal
-  call_lacks refusal lacks outer same = refuses_as refusal (from (AtRight outer) old) (from (Awaits (CallOpen (ResultOf outer) false name)) mid) (called_name outer same) (lacks (ResultOf outer) false name same)
+  pub call_lacks : (refusal : ParseRefusal) → Lacks (opened_phrase level) mid refusal → Lacks (call_phrase level) old refusal
+  call_lacks refusal lacks outer same = refuses_as refusal (from (AtRight outer) old) (from (Awaits (CallOpen (ResultOf outer) false name)) mid) (called_name outer same) (lacks (ResultOf outer, false, name) same)
 
-pub calls_nothing : (level : ℕ) (old : Spot) (refusal : ParseRefusal) → IsTrue (is_name_before OpenParen old.left) → LacksName level [] old refusal → LacksCall level old refusal
+pub calls_nothing : (level : ℕ) (old : Spot) (refusal : ParseRefusal) → IsTrue (is_name_before OpenParen old.left) → LacksName level [] old refusal → Lacks (call_phrase level) old refusal
 calls_nothing level old refusal call lacks outer same = elim lacks [
   | inl memory ↦ subst (Refuses (from (AtRight outer) old)) (sym memory) tt
   | inr other ↦ elim other [
@@ -121,7 +122,7 @@ value_begins : (old : Spot) → BeginsNone old.left → is_over old.tallies ≡ 
 value_begins old none within outer = value_where outer old (is_named old.left) refl none within
 
 pub right_lacks_value : (level : ℕ) (old : Spot) (refusal : ParseRefusal) → BeginsNone old.left → is_over old.tallies ≡ false →
-    LacksExpression 0 level Whole old refusal → LacksRight level old refusal
+    Lacks (expression_phrase 0 level Whole) old refusal → Lacks (right_phrase level) old refusal
 right_lacks_value level old refusal none within lacks outer same =
     refuses_as refusal (from (AtRight outer) old) (from (Wants (ValueOf outer)) old) (value_begins old none within outer) (lacks (ValueOf outer) (record { strong = refl; same_level = same; counted = refl }))
 
@@ -131,9 +132,9 @@ right_ends (Assigned outer name) spot right = sym (from_steps (after_right (Assi
 right_ends (Declared outer before name) spot right = sym (from_steps (after_right (Declared outer before name) right) refl spot)
 
 pub right_value : (level : ℕ) (target : List ℕ) (old new : Spot) (tree : Expr) → BeginsNone old.left → is_over old.tallies ≡ false →
-    HasExpression 0 level Whole old new tree → IsTrue (stops_below 0 new.left) → HasRight level target old new (stmt.Assign target tree)
+    Parses (expression_phrase 0 level Whole) old new tree → IsTrue (stops_below 0 new.left) → Parses (right_phrase level) old new (target, (stmt.Assign target tree))
 right_value level target old new tree none within has stops = record {
-  right = Value has.syntax;
+  syntax = Value has.syntax;
   same = ap (stmt.Assign target) has.same;
   shorter = has.shorter;
   leads = λ outer same.
@@ -145,10 +146,10 @@ right_value level target old new tree none within has stops = record {
 
 -- ---- a call behind `=`
 
-pub right_calls : (level : ℕ) (target : List ℕ) (old new : Spot) (call : Call) → HasCall level old new call → HasRight level target old new (stmt.Call (Some target) call.name call.arguments)
+pub right_calls : (level : ℕ) (target : List ℕ) (old new : Spot) (call : Call) → Parses (call_phrase level) old new call → Parses (right_phrase level) old new (target, (stmt.Call (Some target) call.name call.arguments))
 right_calls level target old new call has = record {
-  right = Result (call_of false call.name has.arguments);
-  same = ap (stmt.Call (Some target) call.name) has.same;
+  syntax = Result (call_of false has.syntax.0 has.syntax.1);
+  same = ap (λ c. stmt.Call (Some target) c.name c.arguments) has.same;
   shorter = has.shorter;
   leads = has.leads;
 }
@@ -157,7 +158,7 @@ spawn_word : (outer : RightIn) → step (AtRight outer) (Word Spawn) ≡ goes_on
 unfolding step
 spawn_word outer = refl
 
-pub right_spawn_over : (level : ℕ) (old : Spot) (refusal : ParseRefusal) → IsTrue (is_keyword Spawn old.left) → IsOver level [] old refusal → LacksRight level old refusal
+pub right_spawn_over : (level : ℕ) (old : Spot) (refusal : ParseRefusal) → IsTrue (is_keyword Spawn old.left) → IsOver level [] old refusal → Lacks (right_phrase level) old refusal
 right_spawn_over level old refusal there over outer same =
     known_over (AtRight outer) refl (Word Spawn) (right_level outer) level [] (AwaitsName (SpawnedName (ResultOf outer))) same (spawn_word outer) old (λ placed rest first. keyword_there Spawn old.left rest placed first there) refusal over
 
@@ -166,15 +167,15 @@ module _ (level : ℕ) (old mid : Spot) (there : IsTrue (is_keyword Spawn old.le
   spawn_leads outer same =
       known_passed (AtRight outer) refl (Word Spawn) (right_level outer) level [] (AwaitsName (SpawnedName (ResultOf outer))) same (spawn_word outer) old (λ placed rest first. keyword_there Spawn old.left rest placed first there) mid passed
 
-  pub right_spawns : (target : List ℕ) (new : Spot) (call : Call) → HasSpawn level mid new call → HasRight level target old new (stmt.Spawn (Some target) call.name call.arguments)
+  pub right_spawns : (target : List ℕ) (new : Spot) (call : Call) → Parses (spawn_phrase level) mid new call → Parses (right_phrase level) old new (target, (stmt.Spawn (Some target) call.name call.arguments))
   right_spawns target new call has = record {
-    right = Result (call_of true call.name has.arguments);
-    same = ap (stmt.Spawn (Some target) call.name) has.same;
+    syntax = Result (call_of true has.syntax.0 has.syntax.1);
+    same = ap (λ c. stmt.Spawn (Some target) c.name c.arguments) has.same;
     shorter = let a = has.shorter in let b = passed_shorter level [] old mid passed in omega arith;
     leads = λ outer same. spawn_leads outer same ∙ has.leads (ResultOf outer) same;
   }
 
-  pub right_spawn_lacks : (refusal : ParseRefusal) → LacksSpawn level mid refusal → LacksRight level old refusal
+  pub right_spawn_lacks : (refusal : ParseRefusal) → Lacks (spawn_phrase level) mid refusal → Lacks (right_phrase level) old refusal
   right_spawn_lacks refusal lacks outer same = refuses_as refusal (from (AtRight outer) old) (from (AwaitsName (SpawnedName (ResultOf outer))) mid) (spawn_leads outer same) (lacks (ResultOf outer) same)
 
 -- ---- an addition behind `=`
@@ -183,7 +184,7 @@ add_word : (outer : RightIn) → step (AtRight outer) (Word FetchAdd) ≡ goes_o
 unfolding step
 add_word outer = refl
 
-pub right_add_over : (level : ℕ) (old : Spot) (refusal : ParseRefusal) → IsTrue (is_keyword FetchAdd old.left) → IsOver level [] old refusal → LacksRight level old refusal
+pub right_add_over : (level : ℕ) (old : Spot) (refusal : ParseRefusal) → IsTrue (is_keyword FetchAdd old.left) → IsOver level [] old refusal → Lacks (right_phrase level) old refusal
 right_add_over level old refusal there over outer same =
     known_over (AtRight outer) refl (Word FetchAdd) (right_level outer) level [] (Awaits (AddOpen (ResultOf outer))) same (add_word outer) old (λ placed rest first. keyword_there FetchAdd old.left rest placed first there) refusal over
 
@@ -192,13 +193,13 @@ module _ (level : ℕ) (old mid : Spot) (there : IsTrue (is_keyword FetchAdd old
   add_leads outer same =
       known_passed (AtRight outer) refl (Word FetchAdd) (right_level outer) level [] (Awaits (AddOpen (ResultOf outer))) same (add_word outer) old (λ placed rest first. keyword_there FetchAdd old.left rest placed first there) mid passed
 
-  pub right_adds : (target : List ℕ) (new : Spot) (addition : Addition) → HasAddition level mid new addition → HasRight level target old new (stmt.Add (Some target) addition.name addition.index addition.addend)
+  pub right_adds : (target : List ℕ) (new : Spot) (addition : Addition) → Parses (addition_phrase level) mid new addition → Parses (right_phrase level) old new (target, (stmt.Add (Some target) addition.name addition.index addition.addend))
   right_adds target new addition has = record {
-    right = Fetched (addition_of addition.name has.index has.addend);
-    same = ap (λ index. stmt.Add (Some target) addition.name index addition.addend) has.same_index ∙ ap (stmt.Add (Some target) addition.name (expression_tree has.index)) has.same_addend;
+    syntax = Fetched has.syntax;
+    same = ap (λ a. stmt.Add (Some target) a.name a.index a.addend) has.same;
     shorter = let a = has.shorter in let b = passed_shorter level [] old mid passed in omega arith;
     leads = λ outer same. add_leads outer same ∙ has.leads (ResultOf outer) same;
   }
 
-  pub right_add_lacks : (refusal : ParseRefusal) → LacksAddition level mid refusal → LacksRight level old refusal
+  pub right_add_lacks : (refusal : ParseRefusal) → Lacks (addition_phrase level) mid refusal → Lacks (right_phrase level) old refusal
   right_add_lacks refusal lacks outer same = refuses_as refusal (from (AtRight outer) old) (from (Awaits (AddOpen (ResultOf outer))) mid) (add_leads outer same) (lacks (ResultOf outer) same)

@@ -21,7 +21,8 @@ use Rattle.cilk_parser.specs.declared.refusal.ParseRefusal.{ParseRefusal}
 use Rattle.cilk_parser.specs.declared.starts.SimpleStart.{SimpleStart}
 use Rattle.cilk_parser.specs.declared.starts.SimpleStart.TheVariants as start
 use Rattle.cilk_parser.specs.Contexts.{SimpleIn, AsStatement, AsForStart, AsForLast, simple_level, Assigned, ChangedBy, StoredAt, StoredIn}
-use Rattle.cilk_parser.specs.Parts.{Spot, StartsAt, from, unexpected_of, is_sign, is_statement, HasPassed, IsOver, HasRead, LacksSign, stepping, stops_below, HasExpression, LacksExpression, HasRight, LacksRight, HasSimple, LacksSimple, Encloses, HasEnclosed, LacksEnclosed}
+use Rattle.cilk_parser.specs.Spots.{Spot, StartsAt, from, unexpected_of, is_sign, HasPassed, IsOver, HasRead, LacksSign, stepping}
+use Rattle.cilk_parser.specs.Phrases.{Encloses, Lacks, LacksSimple, Parses, enclosed_phrase, expression_phrase, is_statement, right_phrase, simple_phrase, stops_below}
 use Rattle.cilk_parser.specs.Starts.{simple_start, starts_simple}
 use Rattle.cilk_parser.specs.Steps.{AfterName, AtRight, Awaits, SimpleEnd, StoreAssign, Wants, goes_on, is_mark, step, step_awaited, step_only}
 use Rattle.cilk_parser.proofs.Bricks.BehindOperand.{expression_ends}
@@ -88,9 +89,9 @@ module _ (level : ℕ) (name : List ℕ) (old mid : Spot) (starts : starts_simpl
   assign_leads outer same =
       known_passed (AfterName outer name) refl (Mark Assign) (simple_level outer) level [] (AtRight (Assigned outer name)) same (assigns_step outer name) old (λ placed rest first. starts_at start.Assign old.left rest placed starts first) mid passed
 
-  pub assigns_or_refused : (new : Spot) (result : Result Stmt ParseRefusal) → MatchResult result (HasRight level name mid new) (LacksRight level mid) → MatchResult result (HasSimple level name old new) (LacksSimple level name old)
+  pub assigns_or_refused : (new : Spot) (result : Result Stmt ParseRefusal) → MatchResult result (λ tree. Parses (right_phrase level) mid new (name, tree)) (Lacks (right_phrase level) mid) → MatchResult result (Parses (simple_phrase level name) old new) (LacksSimple level name old)
   assigns_or_refused new (Ok tree) has = record {
-    simple = Assignment name has.right;
+    syntax = Assignment name has.syntax;
     same = has.same;
     shorter = let a = has.shorter in let b = passed_shorter level [] old mid passed in omega arith;
     leads = λ outer same. assign_leads outer same ∙ has.leads (Assigned outer name) same;
@@ -115,11 +116,11 @@ step_over level name operator old refusal starts over outer same _ =
 abbrev changed : List ℕ → Expr → BinaryOp → Stmt
 changed name value operator = stmt.Assign name (expr.Binary operator (expr.Local name) value)
 
-pub step_read : (level : ℕ) (name : List ℕ) (operator : BinaryOp) (old new : Spot) → starts_simple old.left ≡ start.Step operator → HasPassed level [] old new → HasSimple level name old new (stmt.Assign name (expr.Binary operator (expr.Local name) (expr.Number (pos 1))))
+pub step_read : (level : ℕ) (name : List ℕ) (operator : BinaryOp) (old new : Spot) → starts_simple old.left ≡ start.Step operator → HasPassed level [] old new → Parses (simple_phrase level name) old new (stmt.Assign name (expr.Binary operator (expr.Local name) (expr.Number (pos 1))))
 step_read level name operator old new starts passed =
     let is = starts_at (start.Step operator) old.left new.left passed.placed starts passed.first in
     record {
-      simple = Step name is.0;
+      syntax = Step name is.0;
       same = ap (changed name (expr.Number (pos 1))) is.2;
       shorter = passed_shorter level [] old new passed;
       leads = λ outer same.
@@ -158,14 +159,14 @@ module _ (level : ℕ) (name : List ℕ) (operator : BinaryOp) (old mid : Spot) 
       known_passed (AfterName outer name) refl (Mark (change_sign change_of.0)) (simple_level outer) level change_counts (Wants (ChangedBy outer name change_of.0)) same (changes_step outer name change_of.0) old
       (λ placed rest first. same_first old.left rest mid.left placed passed.placed (Mark (change_sign change_of.0)) passed.first change_of.1 first) mid passed
 
-  pub change_lacks : (refusal : ParseRefusal) → LacksExpression 0 (level + 1) Part mid refusal → LacksSimple level name old refusal
+  pub change_lacks : (refusal : ParseRefusal) → Lacks (expression_phrase 0 (level + 1) Part) mid refusal → LacksSimple level name old refusal
   change_lacks refusal lacks outer same _ =
       refuses_as refusal (from (AfterName outer name) old) (from (Wants (ChangedBy outer name change_of.0)) mid) (change_leads outer same)
       (lacks (ChangedBy outer name change_of.0) (record { strong = refl; same_level = ap (λ l. l + 1) same; counted = refl }))
 
-  pub change_read : (new : Spot) (tree : Expr) → HasExpression 0 (level + 1) Part mid new tree → IsTrue (stops_below 0 new.left) → HasSimple level name old new (stmt.Assign name (expr.Binary operator (expr.Local name) tree))
+  pub change_read : (new : Spot) (tree : Expr) → Parses (expression_phrase 0 (level + 1) Part) mid new tree → IsTrue (stops_below 0 new.left) → Parses (simple_phrase level name) old new (stmt.Assign name (expr.Binary operator (expr.Local name) tree))
   change_read new tree has stops = record {
-    simple = Change name change_of.0 has.syntax;
+    syntax = Change name change_of.0 has.syntax;
     same = ap (changed name tree) change_of.2 ∙ ap (λ t. changed name t (direction_operator change_of.0)) has.same;
     shorter = let a = has.shorter in let b = passed_shorter level change_counts old mid passed in omega arith;
     leads = λ outer same.
@@ -196,12 +197,12 @@ module _ (level : ℕ) (name : List ℕ) (old mid : Spot) (starts : starts_simpl
     closes = λ index token. ap (λ l. step_only (mark l CloseBracket) (Awaits (StoreAssign outer name index)) token) same;
   }
 
-  pub lacks_index : (refusal : ParseRefusal) → LacksEnclosed (level + 1) Whole CloseBracket level mid refusal → LacksSimple level name old refusal
-  lacks_index refusal lacks outer same _ = refuses_as refusal (from (AfterName outer name) old) (from (Wants (StoredAt outer name)) mid) (index_leads outer same) (lacks (StoredAt outer name) _ (index_encloses outer same))
+  pub lacks_index : (refusal : ParseRefusal) → Lacks (enclosed_phrase (level + 1) Whole CloseBracket level) mid refusal → LacksSimple level name old refusal
+  lacks_index refusal lacks outer same _ = refuses_as refusal (from (AfterName outer name) old) (from (Wants (StoredAt outer name)) mid) (index_leads outer same) (lacks (StoredAt outer name, _) (index_encloses outer same))
 
-  module _ (near : Spot) (index : Expr) (has : HasEnclosed (level + 1) Whole CloseBracket level mid near index) where
+  module _ (near : Spot) (index : Expr) (has : Parses (enclosed_phrase (level + 1) Whole CloseBracket level) mid near index) where
     bracket_read : (outer : SimpleIn) → simple_level outer ≡ level → from (AfterName outer name) old ≡ from (Awaits (StoreAssign outer name has.syntax)) near
-    bracket_read outer same = index_leads outer same ∙ has.leads (StoredAt outer name) _ (index_encloses outer same)
+    bracket_read outer same = index_leads outer same ∙ has.leads (StoredAt outer name, _) (index_encloses outer same)
 
     pub lacks_equals : (refusal : ParseRefusal) → LacksSign Assign level near refusal → LacksSimple level name old refusal
     lacks_equals refusal lacks outer same _ =
@@ -212,14 +213,14 @@ module _ (level : ℕ) (name : List ℕ) (old mid : Spot) (starts : starts_simpl
       equals_read : (outer : SimpleIn) → simple_level outer ≡ level → from (AfterName outer name) old ≡ from (Wants (StoredIn outer name has.syntax)) behind
       equals_read outer same = bracket_read outer same ∙ awaits_sign (StoreAssign outer name has.syntax) Assign level (ap (λ l. mark l Assign) same) near behind equals
 
-      pub lacks_stored : (refusal : ParseRefusal) → LacksExpression 0 level Whole behind refusal → LacksSimple level name old refusal
+      pub lacks_stored : (refusal : ParseRefusal) → Lacks (expression_phrase 0 level Whole) behind refusal → LacksSimple level name old refusal
       lacks_stored refusal lacks outer same _ =
           refuses_as refusal (from (AfterName outer name) old) (from (Wants (StoredIn outer name has.syntax)) behind) (equals_read outer same)
           (lacks (StoredIn outer name has.syntax) (record { strong = refl; same_level = same; counted = refl }))
 
-      pub stores : (new : Spot) (value : Expr) → HasExpression 0 level Whole behind new value → IsTrue (stops_below 0 new.left) → HasSimple level name old new (stmt.Put name index value)
+      pub stores : (new : Spot) (value : Expr) → Parses (expression_phrase 0 level Whole) behind new value → IsTrue (stops_below 0 new.left) → Parses (simple_phrase level name) old new (stmt.Put name index value)
       stores new value given ends = record {
-        simple = Storing name has.syntax given.syntax;
+        syntax = Storing name has.syntax given.syntax;
         same = ap (λ i. stmt.Put name i value) has.same ∙ ap (stmt.Put name (expression_tree has.syntax)) given.same;
         shorter =
             let a = has.shorter in let b = given.shorter in let d = passed_shorter level [] old mid passed in let e = passed_shorter level [] near behind equals.passed in omega arith;

@@ -18,7 +18,7 @@ use Rattle.cilk_tree.specs.Token.{sign_text}
 use Rattle.cilk_parser.proofs.Signs.{same_sign}
 use Rattle.cilk_parser.specs.declared.parser.End.{End}
 use Rattle.cilk_parser.specs.declared.refusal.ParseRefusal.{ParseRefusal}
-use Rattle.cilk_parser.specs.Parts.{Spot, from, Refuses, end_refusal, unexpected_of, is_sign, is_keyword, is_word, HasPassed, IsOver, HasRead, LacksSign, HasNamed, LacksName, is_named, is_name_token, stepping}
+use Rattle.cilk_parser.specs.Spots.{Spot, from, Refuses, end_refusal, unexpected_of, is_sign, is_keyword, is_word, HasPassed, IsOver, HasRead, LacksSign, HasNamed, LacksName, is_named, is_name_token, stepping}
 use Rattle.cilk_parser.specs.Run.{Answer, Refused, Within, Over, at_end, if_within, judge, judge_token, judge_on, run, run_step, run_judged}
 use Rattle.cilk_parser.specs.Steps.{State, Items, Awaited, Awaits, NameAwaited, AwaitsName, Next, step, finish, pending, goes_on, is_mark, step_only, step_name, awaited_token, awaited_state, named_token, named_state}
 use Rattle.cilk_parser.specs.declared.tallies.Tallies.{Tallies}

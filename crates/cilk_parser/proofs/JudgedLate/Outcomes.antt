@@ -11,7 +11,7 @@ use Rattle.cilk_tree.specs.Levels.{Spelled}
 use Rattle.cilk_tree.specs.Syntax.{Empty}
 use Rattle.cilk_parser.specs.declared.parser.End.{End}
 use Rattle.cilk_parser.specs.declared.tallies.Tallies.{Tallies}
-use Rattle.cilk_parser.specs.Parts.{answer_on}
+use Rattle.cilk_parser.specs.Phrases.{answer_on}
 use Rattle.cilk_parser.specs.Run.{Answer, Refused, Judged, Within, Over, Reading, all_behind, at_end, if_within, judge, judge_on, read_on, run, run_judged, run_step, walk}
 use Rattle.cilk_parser.specs.Steps.{State, Items, Next, finish, pending, step}
 use Rattle.cilk_parser.specs.Tally.{none_counted}

@@ -1,5 +1,5 @@
 use Rattle.std.proofs.Common.{◌+◌, ◌*◌, length}
-use Rattle.cilk_parser.specs.Parts.{HasExpression}
+use Rattle.cilk_parser.specs.Phrases.{Parses, expression_phrase}
 use Rattle.cilk_parser.proofs.parser.Parser.+expression.Given as goal
 
 abbrev pub decreases-expression : goal.decreases-expression
@@ -21,7 +21,7 @@ abbrev pub decreases-variable : goal.decreases-variable
 decreases-variable l = 4 * length l.self.now.left
 
 abbrev pub invariant-expression-loop-operator : goal.invariant-expression-loop-operator
-invariant-expression-loop-operator l = HasExpression l.least l.level l.fn.opening l.fn.self l.self l.left
+invariant-expression-loop-operator l = Parses (expression_phrase l.least l.level l.fn.opening) l.fn.self l.self l.left
 
 abbrev pub decreases-expression-loop-operator : goal.decreases-expression-loop-operator
 decreases-expression-loop-operator l = length l.self.left

@@ -189,7 +189,7 @@ while_loop-returns t c = while_reads _ _ c.requires _ (c.in_ok-pass.ensures {u =
 -- ---- `for`
 
 pub for_loop-overflow_add-level : goal.for_loop-overflow_add-level
-for_loop-overflow_add-level t c = let a = (c.in_ok-head.ensures {u = tt}).shallow in omega arith
+for_loop-overflow_add-level t c = let a = (c.in_ok-head.ensures {u = tt}).same.1 in omega arith
 
 pub for_loop-body-requires : goal.for_loop-body-requires
 for_loop-body-requires t c = let a = (c.in_ok-head.ensures {u = tt}).shorter in (omega arith, tt)
