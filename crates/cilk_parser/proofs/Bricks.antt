@@ -1,6 +1,6 @@
 -- What the code reads is what the machine does.
 pub mod Additions
-pub mod ArrayParts
+pub mod Arrays
 pub mod Beginnings
 pub mod BehindOperand
 pub mod Blocks
@@ -10,14 +10,14 @@ pub mod Conditions
 pub mod Declarations
 pub mod Enclosed
 pub mod Firsts
-pub mod FunctionParts
+pub mod Functions
 pub mod Heads
 pub mod ItemHeads
 pub mod Lists
-pub mod OperandParts
-pub mod OperatorParts
+pub mod NextOperators
+pub mod OperandStarts
 pub mod Owners
-pub mod ProgramParts
+pub mod Programs
 pub mod RightNames
 pub mod Rights
 pub mod Simples

@@ -2,6 +2,6 @@
 pub mod Ahead
 pub mod ExpressionsRead
 pub mod Operands
-pub mod PartsRead
+pub mod PhrasesRead
 pub mod SourcesRead
 pub mod StatementsRead

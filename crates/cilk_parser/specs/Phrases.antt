@@ -1,40 +1,32 @@
 -- What the functions of the parser say: which phrase of the grammar was read between two spots, and how the machine goes on there.
-use Rattle.std.specs.Prelude.{◌≡◌, ◌⊎◌, ℕ, pos, ◌+◌, ◌<◌, ◌≤◌, Bool, true, false, not, ◌&&◌, nat_lt, IsTrue, Option, Some, None, List, [], ◌∷◌, ◌++◌, length, drop, bytes_eq}
+use Rattle.std.specs.Prelude.{◌≡◌, ℕ, ◌+◌, ◌<◌, ◌≤◌, Bool, true, false, ◌&&◌, nat_lt, Option, Some, None, List, [], ◌∷◌, ◌++◌, length}
 use Rattle.std.specs.Option.{option_map_or}
 use Rattle.cilk_tree.specs.declared.count.Count.{Count}
 use Rattle.cilk_tree.specs.declared.count.Count.TheVariants.{Anew, OneMore}
 use Rattle.cilk_tree.specs.declared.count.Counted.TheVariants.{Operators, Arguments}
-use Rattle.cilk_tree.specs.declared.ending.Ending.{Ending}
-use Rattle.cilk_tree.specs.declared.ending.Ending.TheVariants.{Reached, Stopped}
-use Rattle.cilk_tree.specs.declared.kind.Kind.{Kind}
-use Rattle.cilk_tree.specs.declared.kind.Kind.TheVariants.{Unexpected}
-use Rattle.cilk_tree.specs.declared.token.Keyword.{Keyword}
-use Rattle.cilk_tree.specs.declared.token.Keyword.TheVariants.{Int, Void}
+use Rattle.cilk_tree.specs.declared.token.Keyword.TheVariants.{Void}
 use Rattle.cilk_tree.specs.declared.token.Placed.{Placed}
 use Rattle.cilk_tree.specs.declared.token.Sign.{Sign}
 use Rattle.cilk_tree.specs.declared.token.Sign.TheVariants.{OpenParen, CloseParen}
 use Rattle.cilk_tree.specs.declared.token.Token.{Token}
-use Rattle.cilk_tree.specs.declared.token.Token.TheVariants.{Name, Number, Word, Mark}
 use Rattle.cilk_tree.specs.declared.tree.BinaryOp.{BinaryOp}
 use Rattle.cilk_tree.specs.declared.tree.Expr.{Expr}
 use Rattle.cilk_tree.specs.declared.tree.Function.{Function}
 use Rattle.cilk_tree.specs.declared.tree.Program.{Program}
 use Rattle.cilk_tree.specs.declared.tree.Shared.{Shared}
 use Rattle.cilk_tree.specs.declared.tree.Stmt.{Stmt}
-use Rattle.cilk_tree.specs.Levels.{counting, mark}
+use Rattle.cilk_tree.specs.Levels.{mark}
 use Rattle.cilk_tree.specs.Sugar.{expression_tree, commas_list, argument_trees, right_tree, declarator_trees, simple_tree, one_simple, if_there, start_trees, condition_tree, statement_trees, inner_trees, inners_trees, body_trees, parameter_names, function_tree, one_array, item_arrays, item_functions, source_tree}
 use Rattle.cilk_tree.specs.Syntax as syntax
 use Rattle.cilk_tree.specs.Syntax.{Commas, One, More, Empty, Then, Expression, Variable, Right, Result, Declarator, Simple, Start, DeclaringStart, Statement, Inner, Declaration, Inners, NoInners, ThenInner, Body, Parameters, Array, Item, Defined, Source, operator_strength}
-use Rattle.cilk_tree.specs.Token.{keyword_text}
 use Rattle.cilk_parser.specs.declared.addition.Addition.{Addition}
 use Rattle.cilk_parser.specs.declared.call.Call.{Call}
 use Rattle.cilk_parser.specs.declared.opening.Opening.{Opening}
-use Rattle.cilk_parser.specs.declared.opening.Opening.TheVariants.{Part, Whole, Argument}
+use Rattle.cilk_parser.specs.declared.opening.Opening.TheVariants.{Inside, Whole, Argument}
 use Rattle.cilk_parser.specs.declared.parser.End.{End}
 use Rattle.cilk_parser.specs.declared.refusal.ParseRefusal.{ParseRefusal}
-use Rattle.cilk_parser.specs.declared.refusal.ParseRefusal.TheVariants.{At, Memory}
 use Rattle.cilk_parser.specs.declared.statement.ForHead.{ForHead}
-use Rattle.cilk_parser.specs.Contexts.{with_last, Heading, InnersIn, BodyIn, ForBody, StatementIn, inners_level, body_level, statement_level, owner_level, closing_level, SimpleIn, AsStatement, AsForStart, AsForLast, simple_level, DeclareIn, AsDeclaration, AsForDeclaration, declare_level, RightIn, right_level, CallIn, call_level, Around, level_of, first_counts, least_strength}
+use Rattle.cilk_parser.specs.Contexts.{with_last, Heading, InnersIn, BodyIn, ForBody, StatementIn, inners_level, body_level, statement_level, owner_level, closing_level, SimpleIn, AsStatement, AsForStart, AsForLast, simple_level, DeclareIn, AsDeclaration, AsForDeclaration, declare_level, RightIn, right_level, CallIn, call_level, ExpressionIn, level_of, first_counts, least_strength}
 use Rattle.cilk_parser.specs.Run.{Answer, Accepted}
 use Rattle.cilk_parser.specs.Spots.{Spot, Refuses, from, is_keyword, is_sign, stepping}
 use Rattle.cilk_parser.specs.Steps.{State, Items, AfterCilk, AfterArray, ParametersStart, AfterParameter, NextParameter, AtInner, AtBody, HasBody, HasDeclarators, AtRight, AtArguments, AfterName, AtForStart, AtForCondition, AtForLast, Wants, Has, Awaits, AwaitsName, AddOpen, ArrayOpen, BodyOpen, CallOpen, SimpleEnd, FunctionName, DeclaratorName, SpawnedName, after_addition, after_call, after_right, after_statement, after_inners, call_of, finish, step, step_end, step_only, step_operand, step_statement, token_operator}
@@ -75,12 +67,12 @@ Adds trees syntax (before, now) = now ≡ before ++ trees syntax
 
 -- what the first token of an expression counts as besides
 abbrev pub opening_counts : Opening → List Count
-opening_counts Part = []
+opening_counts Inside = []
 opening_counts Whole = Anew Operators ∷ []
 opening_counts Argument = OneMore Arguments ∷ Anew Operators ∷ []
 
 -- what is open round the expression asks for this strength, level and first count
-pub record Fits (least level : ℕ) (opening : Opening) (around : Around) : Type 0 where
+pub record Fits (least level : ℕ) (opening : Opening) (around : ExpressionIn) : Type 0 where
   pub strong : least_strength around ≡ least
   pub same_level : level_of around ≡ level
   pub counted : first_counts around ≡ opening_counts opening
@@ -90,7 +82,7 @@ abbrev pub stops_below : ℕ → List Placed → Bool
 stops_below least [] = true
 stops_below least (placed ∷ places) = option_map_or (λ operator. nat_lt (operator_strength operator) least) (token_operator placed.token) true
 
-abbrev pub expression_phrase : ℕ → ℕ → Opening → Phrase Around Expression Expr
+abbrev pub expression_phrase : ℕ → ℕ → Opening → Phrase ExpressionIn Expression Expr
 expression_phrase least level opening = record {
   fits = Fits least level opening;
   before = λ around. from (Wants around);
@@ -99,12 +91,12 @@ expression_phrase least level opening = record {
 }
 
 -- Round a whole expression of this level stands what this sign closes, which has a level of its own.
-pub record Encloses (level : ℕ) (opening : Opening) (around : Around) (own : ℕ) (closing : Sign) (after : Expression → State) : Type 0 where
+pub record Encloses (level : ℕ) (opening : Opening) (around : ExpressionIn) (own : ℕ) (closing : Sign) (after : Expression → State) : Type 0 where
   pub fits : Fits 0 level opening around
   pub closes : (syntax : Expression) (token : Token) → step_end around syntax token ≡ step_only (mark own closing) (after syntax) token
 
 -- an expression and the sign that closes it
-abbrev pub enclosed_phrase : ℕ → Opening → Sign → ℕ → Phrase (Around × (Expression → State)) Expression Expr
+abbrev pub enclosed_phrase : ℕ → Opening → Sign → ℕ → Phrase (ExpressionIn × (Expression → State)) Expression Expr
 enclosed_phrase level opening closing own =
     between (λ (around, after). Encloses level opening around own closing after) (λ (around, after). Wants around) (λ (around, after) syntax. after syntax) (λ syntax tree. tree ≡ expression_tree syntax)
 
@@ -121,10 +113,10 @@ pub record HasVariable (level : ℕ) (name : List ℕ) (old new : Spot) (tree : 
   pub syntax : Expression
   pub same : tree ≡ expression_tree syntax
   pub no_longer : length new.left ≤ length old.left
-  pub leads : (around : Around) → level_of around ≡ level → from (Has around (Variable name)) old ≡ stepping (step_operand around syntax) new
+  pub leads : (around : ExpressionIn) → level_of around ≡ level → from (Has around (Variable name)) old ≡ stepping (step_operand around syntax) new
 
 abbrev pub LacksVariable : ℕ → List ℕ → Spot → ParseRefusal → Type 0
-LacksVariable level name old refusal = (around : Around) → level_of around ≡ level → Refuses (from (Has around (Variable name)) old) refusal
+LacksVariable level name old refusal = (around : ExpressionIn) → level_of around ≡ level → Refuses (from (Has around (Variable name)) old) refusal
 
 -- ---- calls
 
@@ -218,13 +210,13 @@ abbrev pub body_phrase : ℕ → ℕ → Phrase BodyIn Body (List Stmt)
 body_phrase level owner = between (λ outer. (body_level outer ≡ level) × (owner_level outer ≡ owner)) AtBody HasBody (λ body trees. trees ≡ body_trees body)
 
 -- An expression in parentheses stands between these two states, whatever it is.
-pub record IsCondition (level : ℕ) (around : Around) (before : State) (after : Expression → State) : Type 0 where
+pub record IsCondition (level : ℕ) (around : ExpressionIn) (before : State) (after : Expression → State) : Type 0 where
   pub opens : (token : Token) → step before token ≡ step_only (mark level OpenParen) (Wants around) token
   pub encloses : Encloses level Whole around level CloseParen after
   pub unfinished : finish before ≡ None
 
 -- an expression in parentheses
-abbrev pub condition_phrase : ℕ → Phrase (Around × State × (Expression → State)) Expression Expr
+abbrev pub condition_phrase : ℕ → Phrase (ExpressionIn × State × (Expression → State)) Expression Expr
 condition_phrase level =
     between (λ (around, before, after). IsCondition level around before after) (λ (around, before, after). before) (λ (around, before, after) syntax. after syntax) (λ syntax tree. tree ≡ expression_tree syntax)
 

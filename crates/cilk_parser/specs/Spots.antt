@@ -1,32 +1,20 @@
 -- Where a parser is in a text, and what is said of the tokens that stand first there.
-use Rattle.std.specs.Prelude.{◌≡◌, ◌⊎◌, ℕ, pos, ◌+◌, ◌<◌, ◌≤◌, Bool, true, false, not, ◌&&◌, nat_lt, IsTrue, Option, Some, None, List, [], ◌∷◌, ◌++◌, length, drop, bytes_eq}
-use Rattle.std.specs.Option.{option_map_or}
+use Rattle.std.specs.Prelude.{◌≡◌, ◌⊎◌, ℕ, pos, ◌≤◌, Bool, true, false, not, ◌&&◌, IsTrue, Option, None, List, [], ◌∷◌, drop, bytes_eq}
 use Rattle.cilk_tree.specs.declared.count.Count.{Count}
-use Rattle.cilk_tree.specs.declared.count.Count.TheVariants.{Anew, OneMore}
-use Rattle.cilk_tree.specs.declared.count.Counted.TheVariants.{Operators, Arguments}
 use Rattle.cilk_tree.specs.declared.ending.Ending.{Ending}
 use Rattle.cilk_tree.specs.declared.ending.Ending.TheVariants.{Reached, Stopped}
 use Rattle.cilk_tree.specs.declared.kind.Kind.{Kind}
 use Rattle.cilk_tree.specs.declared.kind.Kind.TheVariants.{Unexpected}
 use Rattle.cilk_tree.specs.declared.token.Keyword.{Keyword}
-use Rattle.cilk_tree.specs.declared.token.Keyword.TheVariants.{Int, Void}
+use Rattle.cilk_tree.specs.declared.token.Keyword.TheVariants.{Int}
 use Rattle.cilk_tree.specs.declared.token.Placed.{Placed}
 use Rattle.cilk_tree.specs.declared.token.Sign.{Sign}
-use Rattle.cilk_tree.specs.declared.token.Sign.TheVariants.{OpenParen, CloseParen}
+use Rattle.cilk_tree.specs.declared.token.Sign.TheVariants.{OpenParen}
 use Rattle.cilk_tree.specs.declared.token.Token.{Token}
 use Rattle.cilk_tree.specs.declared.token.Token.TheVariants.{Name, Number, Word, Mark}
-use Rattle.cilk_tree.specs.declared.tree.BinaryOp.{BinaryOp}
-use Rattle.cilk_tree.specs.declared.tree.Expr.{Expr}
-use Rattle.cilk_tree.specs.declared.tree.Function.{Function}
-use Rattle.cilk_tree.specs.declared.tree.Program.{Program}
-use Rattle.cilk_tree.specs.declared.tree.Shared.{Shared}
-use Rattle.cilk_tree.specs.declared.tree.Stmt.{Stmt}
-use Rattle.cilk_tree.specs.Levels.{counting, mark}
-use Rattle.cilk_tree.specs.Sugar.{expression_tree, commas_list, argument_trees, right_tree, declarator_trees, simple_tree, one_simple, if_there, start_trees, condition_tree, statement_trees, inner_trees, inners_trees, body_trees, parameter_names, function_tree, one_array, item_arrays, item_functions, source_tree}
-use Rattle.cilk_tree.specs.Syntax as syntax
-use Rattle.cilk_tree.specs.Syntax.{Commas, One, More, Empty, Then, Expression, Variable, Right, Result, Declarator, Simple, Start, DeclaringStart, Statement, Inner, Declaration, Inners, NoInners, ThenInner, Body, Parameters, Array, Item, Defined, Source, operator_strength}
+use Rattle.cilk_tree.specs.Levels.{counting}
+use Rattle.cilk_tree.specs.Syntax.{Empty}
 use Rattle.cilk_tree.specs.Token.{keyword_text}
-use Rattle.cilk_parser.specs.declared.opening.Opening.TheVariants.{Part, Whole, Argument}
 use Rattle.cilk_parser.specs.declared.parser.End.{End}
 use Rattle.cilk_parser.specs.declared.refusal.ParseRefusal.{ParseRefusal}
 use Rattle.cilk_parser.specs.declared.refusal.ParseRefusal.TheVariants.{At, Memory}
@@ -65,11 +53,11 @@ StartsAt token [] = ⊥
 StartsAt token (placed ∷ places) = placed.token ≡ token
 
 -- the token is this reserved word
-abbrev pub is_word : Keyword → Token → Bool
-is_word word (Name name) = false
-is_word word (Number value) = false
-is_word word (Word other) = bytes_eq (keyword_text word) (keyword_text other)
-is_word word (Mark sign) = false
+abbrev pub is_keyword_token : Keyword → Token → Bool
+is_keyword_token word (Name name) = false
+is_keyword_token word (Number value) = false
+is_keyword_token word (Word other) = bytes_eq (keyword_text word) (keyword_text other)
+is_keyword_token word (Mark sign) = false
 
 -- the sign stands first
 abbrev pub is_sign : Sign → List Placed → Bool
@@ -79,7 +67,7 @@ is_sign sign (placed ∷ places) = is_mark sign placed.token
 -- the reserved word stands first
 abbrev pub is_keyword : Keyword → List Placed → Bool
 is_keyword word [] = false
-is_keyword word (placed ∷ places) = is_word word placed.token
+is_keyword word (placed ∷ places) = is_keyword_token word placed.token
 
 -- The first token has this level and counts as this: it is judged and passed, or refused.
 pub record HasPassed (level : ℕ) (counts : List Count) (old new : Spot) : Type 0 where
@@ -146,18 +134,18 @@ abbrev pub is_array_start : List Placed → Bool
 is_array_start left = is_keyword Int left && not (is_name_before OpenParen (drop 1 left))
 
 -- the number of words of an array is read
-pub record HasWords (words : ℕ) (old new : Spot) : Type 0 where
+pub record HasSize (words : ℕ) (old new : Spot) : Type 0 where
   pub passed : HasPassed 0 [] old new
   pub is : passed.placed.token ≡ Number (pos words)
 
 -- the token may be the number of words of an array
-abbrev pub is_words_token : Token → Bool
-is_words_token (Number (pos words)) = true
-is_words_token _ = false
+abbrev pub is_size_token : Token → Bool
+is_size_token (Number (pos words)) = true
+is_size_token _ = false
 
-abbrev pub is_words : List Placed → Bool
-is_words [] = false
-is_words (placed ∷ places) = is_words_token placed.token
+abbrev pub is_size : List Placed → Bool
+is_size [] = false
+is_size (placed ∷ places) = is_size_token placed.token
 
-abbrev pub LacksWords : Spot → ParseRefusal → Type 0
-LacksWords old refusal = ((is_words old.left ≡ false) × (refusal ≡ unexpected_of old.end old.left)) ⊎ (IsTrue (is_words old.left) × IsOver 0 [] old refusal)
+abbrev pub LacksSize : Spot → ParseRefusal → Type 0
+LacksSize old refusal = ((is_size old.left ≡ false) × (refusal ≡ unexpected_of old.end old.left)) ⊎ (IsTrue (is_size old.left) × IsOver 0 [] old refusal)

@@ -47,19 +47,11 @@ impl<'a> Parser<'a> {
         self.arguments(level)
     }
 
-    /// Reads the name and the arguments behind `spawn`.
-    pub(crate) fn spawned(&mut self, level: u64) -> Result<Call, ParseRefusal>
-        ensures { MatchResult result (λ call. Parses (spawn_phrase level) self.old self.new call) (λ refusal. Lacks (spawn_phrase level) self.old refusal) }
-    {
-        let name = self.name(level, &[])?;
-        let arguments = self.opened(level)?;
-        Ok(Call { name, arguments })
-    }
-
-    /// Reads a call whose result is assigned.
-    pub(crate) fn called(&mut self, level: u64) -> Result<Call, ParseRefusal>
-        requires { IsTrue (is_name_before Sign.OpenParen self.old.left) }
-        ensures { MatchResult result (λ call. Parses (call_phrase level) self.old self.new call) (λ refusal. Lacks (call_phrase level) self.old refusal) }
+    /// Reads the name that is called or spawned, and the arguments.
+    pub(crate) fn call(&mut self, level: u64) -> Result<Call, ParseRefusal>
+        ensures spawned { MatchResult result (λ call. Parses (spawn_phrase level) self.old self.new call) (λ refusal. Lacks (spawn_phrase level) self.old refusal) }
+        ensures called { IsTrue (is_name_before Sign.OpenParen self.old.left) →
+            MatchResult result (λ call. Parses (call_phrase level) self.old self.new call) (λ refusal. Lacks (call_phrase level) self.old refusal) }
     {
         let name = self.name(level, &[])?;
         let arguments = self.opened(level)?;

@@ -1,7 +1,6 @@
 ghost use Rattle.cilk_parser.specs.Phrases.{HasOperator, HasVariable, Lacks, LacksVariable, Parses, enclosed_phrase, expression_phrase, stops_below};
 ghost use Rattle.cilk_parser.specs.Starts.{starts_operand};
 ghost use Rattle.cilk_parser.specs.Steps.{sign_operator};
-ghost use Rattle.cilk_tree.specs.Syntax.{operator_strength};
 ghost use Rattle.std.specs.Prelude.{◌≡◌, ◌≤◌, ℕ, IfOk, IsTrue, MatchOption, MatchResult};
 
 use crate::opening::Opening;
@@ -18,7 +17,7 @@ impl<'a> Parser<'a> {
     #[cycle(expression)]
     pub(crate) fn expression(
         &mut self,
-        least: u64,
+        least: u8,
         level: u64,
         opening: Opening,
     ) -> Result<Expr, ParseRefusal>
@@ -28,7 +27,7 @@ impl<'a> Parser<'a> {
         let mut left = self.operand(level, opening)?;
         while let Some(operator) = self.operator(least) {
             self.pass(level, &[Count::OneMore(Counted::Operators)])?;
-            let right = self.expression(strength(operator) + 1, level, Opening::Part)?;
+            let right = self.expression(operator.strength() + 1, level, Opening::Inside)?;
             left = binary(self.alloc(), operator, left, right)?;
         }
         Ok(left)
@@ -77,7 +76,7 @@ impl<'a> Parser<'a> {
         ensures { (least : ℕ) → MatchResult result (λ tree. Parses (expression_phrase least level opening) self.old self.new tree) (λ refusal. Lacks (expression_phrase least level opening) self.old refusal) }
     {
         self.pass(level, opening.counts())?;
-        self.enclosed(level + 1, Opening::Part, Sign::CloseParen, level)
+        self.enclosed(level + 1, Opening::Inside, Sign::CloseParen, level)
     }
 
     /// Reads a unary operator and its operand.
@@ -92,7 +91,7 @@ impl<'a> Parser<'a> {
         ensures { (least : ℕ) → MatchResult result (λ tree. Parses (expression_phrase least level opening) self.old self.new tree) (λ refusal. Lacks (expression_phrase least level opening) self.old refusal) }
     {
         self.pass(level, opening.operator_counts())?;
-        let operand = self.operand(level + 1, Opening::Part)?;
+        let operand = self.operand(level + 1, Opening::Inside)?;
         Ok(Expr::Unary(operator, Boxed::new(self.alloc(), operand)?))
     }
 
@@ -106,7 +105,7 @@ impl<'a> Parser<'a> {
             return Ok(Expr::Local(name));
         }
         self.pass(level, &[])?;
-        let index = self.enclosed(level + 1, Opening::Part, Sign::CloseBracket, level)?;
+        let index = self.enclosed(level + 1, Opening::Inside, Sign::CloseBracket, level)?;
         Ok(Expr::Get(name, Boxed::new(self.alloc(), index)?))
     }
 
@@ -119,14 +118,14 @@ impl<'a> Parser<'a> {
     }
 
     /// The operator that stands first, where it binds at least as strongly as `least`.
-    fn operator(&self, least: u64) -> Option<BinaryOp>
+    fn operator(&self, least: u8) -> Option<BinaryOp>
         ensures { MatchOption result (IsTrue (stops_below least self.now.left)) (λ operator. HasOperator least self.now.left operator) }
     {
         let Token::Mark(sign) = self.first()? else {
             return None;
         };
         let operator = operator_of(*sign)?;
-        (strength(operator) >= least).then_some(operator)
+        (operator.strength() >= least).then_some(operator)
     }
 }
 
@@ -149,21 +148,6 @@ fn operator_of(sign: Sign) -> Option<BinaryOp>
         Sign::Slash => Some(BinaryOp::Div),
         Sign::Percent => Some(BinaryOp::Rem),
         _ => None,
-    }
-}
-
-/// How strongly the operator binds.
-fn strength(operator: BinaryOp) -> u64
-    ensures same { result ≡ operator_strength operator }
-    ensures most { result ≤ 6 }
-{
-    match operator {
-        BinaryOp::Or => 1,
-        BinaryOp::And => 2,
-        BinaryOp::Eq | BinaryOp::Ne => 3,
-        BinaryOp::Lt | BinaryOp::Le | BinaryOp::Gt | BinaryOp::Ge => 4,
-        BinaryOp::Add | BinaryOp::Sub => 5,
-        BinaryOp::Mul | BinaryOp::Div | BinaryOp::Rem => 6,
     }
 }
 

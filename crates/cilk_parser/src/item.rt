@@ -1,4 +1,4 @@
-ghost use Rattle.cilk_parser.specs.Spots.{is_array_start};
+ghost use Rattle.cilk_parser.specs.Spots.{is_array_start, is_keyword, is_sign};
 ghost use Rattle.cilk_parser.specs.Phrases.{HasParameter, Lacks, LacksParameter, Parses, array_name_phrase, array_phrase, arrays_phrase, function_kind_phrase, function_phrase, item_phrase, parameters_phrase, result_phrase};
 ghost use Rattle.cilk_parser.specs.Starts.{starts_item};
 ghost use Rattle.std.specs.Prelude.{◌≡◌, ◌≢◌, [], false, IsTrue, MatchResult};
@@ -34,7 +34,7 @@ impl<'a> Parser<'a> {
     fn is_array_start(&self) -> bool
         ensures { result ≡ is_array_start self.now.left }
     {
-        self.is_at_word(Keyword::Int) && !self.is_before_call()
+        self.is_at_keyword(Keyword::Int) && !self.is_before_call()
     }
 
     /// Reads shared arrays, and adds them.
@@ -72,7 +72,7 @@ impl<'a> Parser<'a> {
         ensures { MatchResult result (λ array. Parses (array_phrase name) self.old self.new array) (λ refusal. Lacks (array_phrase name) self.old refusal) }
     {
         self.sign(Sign::OpenBracket, 0)?;
-        let words = self.words()?;
+        let words = self.array_size()?;
         self.sign(Sign::CloseBracket, 0)?;
         Ok(Shared { name, words })
     }
@@ -83,7 +83,7 @@ impl<'a> Parser<'a> {
         requires no_array { is_array_start self.old.left ≡ false }
         ensures { MatchResult result (λ function. Parses function_phrase self.old self.new function) (λ refusal. Lacks function_phrase self.old refusal) }
     {
-        let (cilk, gives) = self.function_words()?;
+        let (cilk, gives) = self.function_kind()?;
         let name = self.name(0, &[])?;
         self.sign(Sign::OpenParen, 0)?;
         let params = self.parameters()?;
@@ -99,10 +99,10 @@ impl<'a> Parser<'a> {
     }
 
     /// Reads what stands before the name of a function: whether it is a `cilk` procedure, and whether it gives a value.
-    fn function_words(&mut self) -> Result<(bool, bool), ParseRefusal>
+    fn function_kind(&mut self) -> Result<(bool, bool), ParseRefusal>
         requires some { self.old.left ≢ [] }
         requires no_array { is_array_start self.old.left ≡ false }
-        ensures { MatchResult result (λ words. Parses function_kind_phrase self.old self.new (words.0, words.1)) (λ refusal. Lacks function_phrase self.old refusal) }
+        ensures { MatchResult result (λ kind. Parses function_kind_phrase self.old self.new (kind.0, kind.1)) (λ refusal. Lacks function_phrase self.old refusal) }
     {
         match self.item_start() {
             ItemStart::Cilk => {
@@ -125,8 +125,8 @@ impl<'a> Parser<'a> {
     fn gives(&mut self) -> Result<bool, ParseRefusal>
         ensures { MatchResult result (λ gives. Parses result_phrase self.old self.new gives) (λ refusal. Lacks result_phrase self.old refusal) }
     {
-        let gives = self.is_at_word(Keyword::Int);
-        if !gives && !self.is_at_word(Keyword::Void) {
+        let gives = self.is_at_keyword(Keyword::Int);
+        if !gives && !self.is_at_keyword(Keyword::Void) {
             return Err(self.unexpected());
         }
         self.pass(0, &[])?;
@@ -137,16 +137,25 @@ impl<'a> Parser<'a> {
     fn parameters(&mut self) -> Result<Items<Name>, ParseRefusal>
         ensures { MatchResult result (λ names. Parses parameters_phrase self.old self.new names) (λ refusal. Lacks parameters_phrase self.old refusal) }
     {
-        let mut names = Items::new(self.alloc());
-        if self.is_at_word(Keyword::Void) {
+        if self.is_at_keyword(Keyword::Void) {
             self.pass(0, &[])?;
             self.sign(Sign::CloseParen, 0)?;
-            return Ok(names);
+            return Ok(Items::new(self.alloc()));
         }
         if self.is_at(Sign::CloseParen) {
             self.pass(0, &[])?;
-            return Ok(names);
+            return Ok(Items::new(self.alloc()));
         }
+        self.parameter_names()
+    }
+
+    /// Reads the names of one parameter or more, and the parenthesis behind them.
+    fn parameter_names(&mut self) -> Result<Items<Name>, ParseRefusal>
+        requires no_void { is_keyword Keyword.Void self.old.left ≡ false }
+        requires no_close { is_sign Sign.CloseParen self.old.left ≡ false }
+        ensures { MatchResult result (λ names. Parses parameters_phrase self.old self.new names) (λ refusal. Lacks parameters_phrase self.old refusal) }
+    {
+        let mut names = Items::new(self.alloc());
         names.push(self.parameter()?)?;
         while self.is_at(Sign::Comma) {
             self.pass(0, &[])?;
@@ -160,7 +169,7 @@ impl<'a> Parser<'a> {
     fn parameter(&mut self) -> Result<Name, ParseRefusal>
         ensures { MatchResult result (λ name. HasParameter self.old self.new name) (λ refusal. LacksParameter self.old refusal) }
     {
-        if !self.is_at_word(Keyword::Int) {
+        if !self.is_at_keyword(Keyword::Int) {
             return Err(self.unexpected());
         }
         self.pass(0, &[Count::OneMore(Counted::Parameters)])?;

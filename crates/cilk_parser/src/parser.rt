@@ -3,7 +3,7 @@ ghost use Rattle.cilk_parser.specs.Tally.{none_counted, is_over};
 ghost use Rattle.cilk_tree.specs.declared.ending.Ending.TheVariants.{Reached};
 ghost use Rattle.std.specs.Prelude.{◌≡◌, ◌≢◌, ◌≤◌, ◌↔◌, [], false, length, drop, IsTrue, MatchOption, MatchResult};
 ghost use Rattle.cilk_tree.specs.Counts.{is_long};
-ghost use Rattle.cilk_parser.specs.Spots.{StartsAt, HasNamed, HasPassed, HasRead, HasWords, IsOver, LacksName, LacksSign, LacksWords, end_refusal, is_keyword, is_name_before, is_sign, is_word, unexpected_of};
+ghost use Rattle.cilk_parser.specs.Spots.{StartsAt, HasNamed, HasPassed, HasRead, HasSize, IsOver, LacksName, LacksSign, LacksSize, end_refusal, is_keyword, is_name_before, is_sign, is_keyword_token, unexpected_of};
 
 use crate::refusal::ParseRefusal;
 use crate::tallies::Tallies;
@@ -102,12 +102,12 @@ impl<'a> Parser<'a> {
     }
 
     /// Whether the reserved word stands first.
-    pub(crate) fn is_at_word(&self, word: Keyword) -> bool
+    pub(crate) fn is_at_keyword(&self, word: Keyword) -> bool
         ensures { result ≡ is_keyword word self.now.left }
     {
         self.left
             .first()
-            .is_some_and(|placed| is_word(&placed.token, word))
+            .is_some_and(|placed| is_keyword_token(&placed.token, word))
     }
 
     /// The refusal of the first token, or of the end where none is left.
@@ -165,8 +165,8 @@ impl<'a> Parser<'a> {
     }
 
     /// Reads how many words an array has.
-    pub(crate) fn words(&mut self) -> Result<u64, ParseRefusal>
-        ensures { MatchResult result (λ words. HasWords words self.old self.new) (λ refusal. LacksWords self.old refusal) }
+    pub(crate) fn array_size(&mut self) -> Result<u64, ParseRefusal>
+        ensures { MatchResult result (λ words. HasSize words self.old self.new) (λ refusal. LacksSize self.old refusal) }
     {
         let Some(Token::Number(value)) = self.first() else {
             return Err(self.unexpected());
@@ -245,8 +245,8 @@ fn is_mark(token: &Token, sign: Sign) -> bool
 }
 
 /// Whether the token is the reserved word.
-fn is_word(token: &Token, word: Keyword) -> bool
-    ensures { result ≡ is_word word token.now }
+fn is_keyword_token(token: &Token, word: Keyword) -> bool
+    ensures { result ≡ is_keyword_token word token.now }
 {
     match token {
         Token::Word(other) => word.text() == other.text(),

@@ -16,18 +16,18 @@ impl<'a> Parser<'a> {
     pub(crate) fn right(&mut self, level: u64, target: Name) -> Result<Stmt, ParseRefusal>
         ensures { MatchResult result (λ tree. Parses (right_phrase level) self.old self.new (target, tree)) (λ refusal. Lacks (right_phrase level) self.old refusal) }
     {
-        if self.is_at_word(Keyword::Spawn) {
+        if self.is_at_keyword(Keyword::Spawn) {
             self.pass(level, &[])?;
-            let call = self.spawned(level)?;
+            let call = self.call(level)?;
             return Ok(Stmt::Spawn(Some(target), call.name, call.arguments));
         }
-        if self.is_at_word(Keyword::FetchAdd) {
+        if self.is_at_keyword(Keyword::FetchAdd) {
             self.pass(level, &[])?;
             let addition = self.added(level)?;
             return Ok(Stmt::Add(Some(target), addition.name, addition.index, addition.addend));
         }
         if self.is_at_call() {
-            let call = self.called(level)?;
+            let call = self.call(level)?;
             return Ok(Stmt::Call(Some(target), call.name, call.arguments));
         }
         let value = self.expression(0, level, Opening::Whole)?;
@@ -98,7 +98,7 @@ impl<'a> Parser<'a> {
                 Count::OneMore(Counted::Operators),
             ],
         )?;
-        let value = self.expression(0, level + 1, Opening::Part)?;
+        let value = self.expression(0, level + 1, Opening::Inside)?;
         Ok(changed(self.alloc(), operator, name, value)?)
     }
 

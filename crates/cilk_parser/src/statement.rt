@@ -31,7 +31,7 @@ impl<'a> Parser<'a> {
         requires { is_sign Sign.CloseBrace self.old.left ≡ false }
         ensures { MatchResult result (λ _. Parses (inner_phrase level) self.old self.new (into.old, into.new)) (λ refusal. Lacks (inner_phrase level) self.old refusal) }
     {
-        if self.is_at_word(Keyword::Int) {
+        if self.is_at_keyword(Keyword::Int) {
             self.pass(level, &[])?;
             return self.declaration(level, into);
         }
@@ -87,7 +87,7 @@ impl<'a> Parser<'a> {
         self.pass(level, &[])?;
         let condition = self.condition(level)?;
         let taken = self.body(level + 1, level)?;
-        if !self.is_at_word(Keyword::Else) {
+        if !self.is_at_keyword(Keyword::Else) {
             into.push(Stmt::If(condition, taken, Items::new(self.alloc())))?;
             return Ok(());
         }
@@ -148,7 +148,7 @@ impl<'a> Parser<'a> {
         if self.is_at(Sign::Semicolon) {
             return self.pass(level, &[]);
         }
-        if self.is_at_word(Keyword::Int) {
+        if self.is_at_keyword(Keyword::Int) {
             self.pass(level, &[])?;
             return self.declaration(level, into);
         }
@@ -218,7 +218,7 @@ impl<'a> Parser<'a> {
         ensures { MatchResult result (λ _. Parses (statement_phrase level) self.old self.new (into.old, into.new)) (λ refusal. Lacks (statement_phrase level) self.old refusal) }
     {
         self.pass(level, &[])?;
-        let call = self.spawned(level)?;
+        let call = self.call(level)?;
         into.push(Stmt::Spawn(None, call.name, call.arguments))?;
         self.sign(Sign::Semicolon, level)
     }

@@ -12,7 +12,7 @@ use Rattle.cilk_tree.specs.Spelling.{IsTokenFault, IsUnexpected}
 use Rattle.cilk_tree.specs.Syntax.{Empty}
 use Rattle.cilk_parser.specs.declared.parser.End.{End}
 use Rattle.cilk_parser.specs.declared.tallies.Tallies.{Tallies}
-use Rattle.cilk_parser.specs.Run.{Answer, Refused, Judged, Within, Over, at_end, if_within, judge, walk}
+use Rattle.cilk_parser.specs.Run.{Answer, Refused, Tallied, Within, Over, at_end, if_within, judge, walk}
 use Rattle.cilk_parser.specs.Steps.{Items, Next, finish}
 use Rattle.cilk_parser.specs.Tally.{none_counted}
 use Rattle.cilk_parser.proofs.Begun.{IsStuck, all_spelled, same_size}
@@ -88,7 +88,7 @@ unexpected_first front left placed next t walked stuck within =
     }
 
 stopped : (end : End) (places front left : List Placed) (next : Next) (answer : Answer) → places ≡ front ++ left → walk (Items Empty) (tokens_of front) ≡ Some next → IsStuck next.state (tokens_of left) →
-    (judged : Judged) → judge none_counted (all_spelled next) front ≡ judged → answer ≡ if_within judged (last_answer end next.state left) → Verdict end places answer
+    (judged : Tallied) → judge none_counted (all_spelled next) front ≡ judged → answer ≡ if_within judged (last_answer end next.state left) → Verdict end places answer
 stopped end places front left next answer parts walked stuck (Over kind offset) judged same =
     AtToken kind offset (as_places places front left kind offset parts (over_first front left next walked kind offset (inr stuck) judged)) same
 stopped end places front [] next answer parts walked stuck (Within t) judged same =

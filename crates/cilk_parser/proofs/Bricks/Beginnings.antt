@@ -20,10 +20,10 @@ use Rattle.cilk_parser.specs.Contexts.{StatementIn, AsStatement, statement_level
 use Rattle.cilk_parser.specs.Spots.{Spot, from, Refuses, HasPassed, IsOver, is_sign, is_keyword, is_name_token, stepping, unexpected_of}
 use Rattle.cilk_parser.specs.Phrases.{Lacks, Parses, statement_phrase}
 use Rattle.cilk_parser.specs.Starts.{statement_start, starts_statement}
-use Rattle.cilk_parser.specs.Steps.{State, Next, Awaits, AwaitsName, AfterName, AfterReturn, AddOpen, SyncEnd, IfOpen, WhileOpen, ForOpen, PrintOpen, SpawnedName, after_statement, goes_on, step_statement}
+use Rattle.cilk_parser.specs.Steps.{State, Next, Awaits, AwaitsName, AfterName, AfterReturn, AddOpen, SyncEnd, IfOpen, WhileOpen, ForOpen, PrintOpen, SpawnedName, after_statement, goes_on, step, step_statement, finish}
 use Rattle.cilk_parser.specs.Contexts.{Called}
 use Rattle.cilk_parser.proofs.Bricks.Firsts.{keyword_there}
-use Rattle.cilk_parser.proofs.Bricks.Stepping.{ExpectsName, over_refuses, passed_shorter, passes_on, sign_there, unexpected_refuses}
+use Rattle.cilk_parser.proofs.Bricks.Stepping.{ExpectsName, over_refuses, passed_shorter, passes_on, sign_there, unexpected_refuses, from_steps, refuses_as}
 
 -- the token stands first, where any does
 abbrev pub Begins : Token → List Placed → Type 0
@@ -47,6 +47,17 @@ module _ (steps : Token → Option Next) (next : State) (level : ℕ) (counts : 
 
   pub token_over : (refusal : ParseRefusal) → IsOver level counts old refusal → Refuses (stepping steps old) refusal
   token_over refusal over = over_refuses steps next level counts old refusal over (goes_with over.placed over.rest over.first)
+
+-- the same from a state
+module _ (state : State) (unfinished : finish state ≡ None) (known : Token) (own level : ℕ) (counts : List Count) (next : State) (same : own ≡ level) (goes : step state known ≡ goes_on (counting own counts known) next) (old : Spot) (there : Begins known old.left) where
+  goes_on_known : step state known ≡ goes_on (counting level counts known) next
+  goes_on_known = goes ∙ ap (λ l. goes_on (counting l counts known) next) same
+
+  pub known_passed : (new : Spot) → HasPassed level counts old new → from state old ≡ from next new
+  known_passed new passed = from_steps state unfinished old ∙ token_passed (step state) next level counts known goes_on_known old there new passed
+
+  pub known_over : (refusal : ParseRefusal) → IsOver level counts old refusal → Refuses (from state old) refusal
+  known_over refusal over = refuses_as refusal _ _ (from_steps state unfinished old) (token_over (step state) next level counts known goes_on_known old there refusal over)
 
 -- ---- a name
 

@@ -11,12 +11,11 @@ use Rattle.cilk_tree.specs.Sugar.{inner_trees, inners_trees}
 use Rattle.cilk_tree.specs.Syntax.{Declaration, Block, Stated, Inners, NoInners, ThenInner, Braced, Single}
 use Rattle.cilk_parser.specs.declared.refusal.ParseRefusal.{ParseRefusal}
 use Rattle.cilk_parser.specs.Contexts.{AsBody, AsDeclaration, BodyIn, InBlock, InBody, InInners, InnersIn, closing_level, inners_level, owner_level}
-use Rattle.cilk_parser.specs.Spots.{Spot, from, HasPassed, IsOver, is_keyword, is_sign, is_word, stepping}
+use Rattle.cilk_parser.specs.Spots.{Spot, from, HasPassed, IsOver, is_keyword, is_sign, is_keyword_token, stepping}
 use Rattle.cilk_parser.specs.Phrases.{Lacks, Parses, body_phrase, declaration_phrase, inner_phrase, inners_phrase, statement_phrase}
 use Rattle.cilk_parser.specs.Steps.{AtBody, AtInner, AwaitsName, DeclaratorName, after_inners, goes_on, is_mark, step, step_body, step_inner, step_statement}
-use Rattle.cilk_parser.proofs.Bricks.Beginnings.{keyword_begins, sign_begins}
+use Rattle.cilk_parser.proofs.Bricks.Beginnings.{keyword_begins, sign_begins, known_passed, known_over}
 use Rattle.cilk_parser.proofs.Bricks.Stepping.{from_steps, keyword_absent, passed_shorter, refuses_as, sign_absent, stepping_same}
-use Rattle.cilk_parser.proofs.Bricks.Heads.{state_over, state_passed}
 
 -- ---- what stands in a list
 
@@ -27,12 +26,12 @@ module _ (level : ℕ) (old : Spot) (there : IsTrue (is_keyword word.Int old.lef
 
   pub declaration_over : (refusal : ParseRefusal) → IsOver level [] old refusal → Lacks (inner_phrase level) old refusal
   declaration_over refusal over (outer, others) same =
-      state_over (AtInner outer others) (AwaitsName (DeclaratorName (AsDeclaration outer others) None)) refl level (Word word.Int) (goes_declaring outer others same) old (keyword_begins word.Int old.left there) refusal over
+      known_over (AtInner outer others) refl (Word word.Int) level level [] (AwaitsName (DeclaratorName (AsDeclaration outer others) None)) refl (goes_declaring outer others same) old (keyword_begins word.Int old.left there) refusal over
 
   module _ (middle : Spot) (passed : HasPassed level [] old middle) where
     to_names : (outer : InnersIn) (others : Inners) → inners_level outer ≡ level → from (AtInner outer others) old ≡ from (AwaitsName (DeclaratorName (AsDeclaration outer others) None)) middle
     to_names outer others same =
-        state_passed (AtInner outer others) (AwaitsName (DeclaratorName (AsDeclaration outer others) None)) refl level (Word word.Int) (goes_declaring outer others same) old (keyword_begins word.Int old.left there) middle passed
+        known_passed (AtInner outer others) refl (Word word.Int) level level [] (AwaitsName (DeclaratorName (AsDeclaration outer others) None)) refl (goes_declaring outer others same) old (keyword_begins word.Int old.left there) middle passed
 
     pub declaration_lacks : (refusal : ParseRefusal) → Lacks (declaration_phrase level) middle refusal → Lacks (inner_phrase level) old refusal
     declaration_lacks refusal lacks (outer, others) same = refuses_as refusal _ _ (to_names outer others same) (lacks (AsDeclaration outer others) same)
@@ -52,12 +51,12 @@ module _ (level : ℕ) (old : Spot) (there : IsTrue (is_sign sign.OpenBrace old.
 
   pub block_over : (refusal : ParseRefusal) → IsOver level [] old refusal → Lacks (inner_phrase level) old refusal
   block_over refusal over (outer, others) same =
-      state_over (AtInner outer others) (AtInner (InBlock outer others) NoInners) refl level (Mark sign.OpenBrace) (goes_deeper outer others same) old (sign_begins sign.OpenBrace old.left there) refusal over
+      known_over (AtInner outer others) refl (Mark sign.OpenBrace) level level [] (AtInner (InBlock outer others) NoInners) refl (goes_deeper outer others same) old (sign_begins sign.OpenBrace old.left there) refusal over
 
   module _ (middle : Spot) (passed : HasPassed level [] old middle) where
     to_block : (outer : InnersIn) (others : Inners) → inners_level outer ≡ level → from (AtInner outer others) old ≡ from (AtInner (InBlock outer others) NoInners) middle
     to_block outer others same =
-        state_passed (AtInner outer others) (AtInner (InBlock outer others) NoInners) refl level (Mark sign.OpenBrace) (goes_deeper outer others same) old (sign_begins sign.OpenBrace old.left there) middle passed
+        known_passed (AtInner outer others) refl (Mark sign.OpenBrace) level level [] (AtInner (InBlock outer others) NoInners) refl (goes_deeper outer others same) old (sign_begins sign.OpenBrace old.left there) middle passed
 
     pub block_lacks : (refusal : ParseRefusal) → Lacks (inners_phrase (level + 1) level) middle refusal → Lacks (inner_phrase level) old refusal
     block_lacks refusal lacks (outer, others) same = refuses_as refusal _ _ (to_block outer others same) (lacks (InBlock outer others) (ap (λ l. l + 1) same, same))
@@ -70,7 +69,7 @@ module _ (level : ℕ) (old : Spot) (there : IsTrue (is_sign sign.OpenBrace old.
       leads = λ (outer, others) same. to_block outer others same ∙ read.leads (InBlock outer others) (ap (λ l. l + 1) same, same);
     }
 
-inner_stated : (outer : InnersIn) (others : Inners) (token : Token) → is_mark sign.CloseBrace token ≡ false → is_word word.Int token ≡ false → is_mark sign.OpenBrace token ≡ false →
+inner_stated : (outer : InnersIn) (others : Inners) (token : Token) → is_mark sign.CloseBrace token ≡ false → is_keyword_token word.Int token ≡ false → is_mark sign.OpenBrace token ≡ false →
     step_inner outer others token ≡ step_statement (InInners outer others) token
 inner_stated outer others (Mark sign.CloseBrace) no_end no_int no_block = absurd (cc)
 inner_stated outer others (Mark sign.OpenBrace) no_end no_int no_block = absurd (cc)
@@ -129,7 +128,7 @@ module _ (level : ℕ) (old middle : Spot) (trees : List Stmt) (begun : HasBegun
     pub list_over : (refusal : ParseRefusal) → IsOver closing [] middle refusal → Lacks (inners_phrase level closing) old refusal
     list_over refusal over outer (same, same_closing) =
         refuses_as refusal _ _ (begun.leads outer same)
-        (state_over (AtInner outer begun.inners) (after_inners outer begun.inners) refl closing (Mark sign.CloseBrace) (goes_out outer same_closing) middle (sign_begins sign.CloseBrace middle.left ends) refusal over)
+        (known_over (AtInner outer begun.inners) refl (Mark sign.CloseBrace) closing closing [] (after_inners outer begun.inners) refl (goes_out outer same_closing) middle (sign_begins sign.CloseBrace middle.left ends) refusal over)
 
     pub list_reads : (new : Spot) → HasPassed closing [] middle new → Parses (inners_phrase level closing) old new trees
     list_reads new passed = record {
@@ -138,7 +137,7 @@ module _ (level : ℕ) (old middle : Spot) (trees : List Stmt) (begun : HasBegun
       shorter = let a = begun.no_longer in let b = passed_shorter closing [] middle new passed in omega arith;
       leads = λ outer (same, same_closing).
           begun.leads outer same ∙
-          state_passed (AtInner outer begun.inners) (after_inners outer begun.inners) refl closing (Mark sign.CloseBrace) (goes_out outer same_closing) middle (sign_begins sign.CloseBrace middle.left ends) new passed;
+          known_passed (AtInner outer begun.inners) refl (Mark sign.CloseBrace) closing closing [] (after_inners outer begun.inners) refl (goes_out outer same_closing) middle (sign_begins sign.CloseBrace middle.left ends) new passed;
     }
 
 -- ---- a body
@@ -150,11 +149,11 @@ module _ (level own : ℕ) (old : Spot) (there : IsTrue (is_sign sign.OpenBrace 
 
   pub braced_over : (refusal : ParseRefusal) → IsOver own [] old refusal → Lacks (body_phrase level own) old refusal
   braced_over refusal over owner (same, same_own) =
-      state_over (AtBody owner) (AtInner (InBody owner) NoInners) refl own (Mark sign.OpenBrace) (goes_braced owner same_own) old (sign_begins sign.OpenBrace old.left there) refusal over
+      known_over (AtBody owner) refl (Mark sign.OpenBrace) own own [] (AtInner (InBody owner) NoInners) refl (goes_braced owner same_own) old (sign_begins sign.OpenBrace old.left there) refusal over
 
   module _ (middle : Spot) (passed : HasPassed own [] old middle) where
     to_braced : (owner : BodyIn) → owner_level owner ≡ own → from (AtBody owner) old ≡ from (AtInner (InBody owner) NoInners) middle
-    to_braced owner same_own = state_passed (AtBody owner) (AtInner (InBody owner) NoInners) refl own (Mark sign.OpenBrace) (goes_braced owner same_own) old (sign_begins sign.OpenBrace old.left there) middle passed
+    to_braced owner same_own = known_passed (AtBody owner) refl (Mark sign.OpenBrace) own own [] (AtInner (InBody owner) NoInners) refl (goes_braced owner same_own) old (sign_begins sign.OpenBrace old.left there) middle passed
 
     pub braced_lacks : (refusal : ParseRefusal) → Lacks (inners_phrase level own) middle refusal → Lacks (body_phrase level own) old refusal
     braced_lacks refusal lacks owner (same, same_own) = refuses_as refusal _ _ (to_braced owner same_own) (lacks (InBody owner) (same, same_own))

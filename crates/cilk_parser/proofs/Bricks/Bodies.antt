@@ -6,7 +6,7 @@ use Rattle.cilk_tree.specs.declared.token.Token.{Token}
 use Rattle.cilk_tree.specs.declared.token.Token.TheVariants.{Word}
 use Rattle.cilk_tree.specs.Syntax.{Expression, Simple, Start, Statement, IfAlone, IfElse, WhileLoop, ForLoop, Body}
 use Rattle.cilk_parser.specs.Contexts.{BodyIn, IfTaken, IfOtherwise, WhileBody, ForBody, StatementIn, InInners, AsBody}
-use Rattle.cilk_parser.specs.Spots.{Spot, from, is_keyword, is_word}
+use Rattle.cilk_parser.specs.Spots.{Spot, from, is_keyword, is_keyword_token}
 use Rattle.cilk_parser.specs.Steps.{Next, HasBody, Place, after_statement, ended_body, ended_statement, finish, otherwise_of_body, otherwise_of_statement, step, step_after_body, step_else, step_inner}
 use Rattle.cilk_parser.proofs.Bricks.Stepping.{from_steps, keyword_absent, stepping_same}
 
@@ -26,7 +26,7 @@ behind_statement (InInners outer before) statement _ = refl
 behind_statement (AsBody owner) statement (Word word.Else) = refl
 behind_statement (AsBody owner) statement _ = refl
 
-no_else : (one other : Option BodyIn) (place : Place) (token : Token) → is_word word.Else token ≡ false → step_behind one place token ≡ step_behind other place token
+no_else : (one other : Option BodyIn) (place : Place) (token : Token) → is_keyword_token word.Else token ≡ false → step_behind one place token ≡ step_behind other place token
 no_else one other place (Word word.Else) absent = absurd (cc)
 no_else one other place _ absent = refl
 

@@ -17,7 +17,8 @@ use Rattle.cilk_parser.specs.Phrases.{Lacks, Parses, arguments_phrase, expressio
 use Rattle.cilk_parser.specs.Steps.{AtArguments, Wants, Awaits, AwaitsName, CallOpen, SpawnedName, after_call, call_of, goes_on, is_mark, step, step_argument, step_arguments, step_only, step_wants}
 use Rattle.cilk_parser.proofs.Bricks.BehindOperand.{expression_ends}
 use Rattle.cilk_parser.proofs.Bricks.Stepping.{awaits_name, awaits_no_name, from_steps, passed_shorter, refuses_as, sign_absent, stepping_same}
-use Rattle.cilk_parser.proofs.Bricks.Lists.{IsListed, gives_with_last, known_over, known_passed, list_closed, more_passed, stands_sign, state_refuses}
+use Rattle.cilk_parser.proofs.Bricks.Lists.{IsListed, gives_with_last, list_closed, more_passed, state_refuses}
+use Rattle.cilk_parser.proofs.Bricks.Beginnings.{sign_begins, known_passed, known_over}
 
 -- ---- arguments
 
@@ -53,12 +54,12 @@ no_arguments level old new there passed = record {
   same = refl;
   shorter = passed_shorter level [] old new passed;
   leads = λ (outer, spawned, name) same.
-      known_passed (AtArguments outer spawned name) refl (Mark CloseParen) (call_level outer) level [] (after_call outer (call_of spawned name None)) same (closes_none outer spawned name) old (stands_sign CloseParen old there) new passed;
+      known_passed (AtArguments outer spawned name) refl (Mark CloseParen) (call_level outer) level [] (after_call outer (call_of spawned name None)) same (closes_none outer spawned name) old (sign_begins CloseParen old.left there) new passed;
 }
 
 pub no_arguments_over : (level : ℕ) (old : Spot) (refusal : ParseRefusal) → IsTrue (is_sign CloseParen old.left) → IsOver level [] old refusal → Lacks (arguments_phrase level) old refusal
 no_arguments_over level old refusal there over (outer, spawned, name) same =
-    known_over (AtArguments outer spawned name) refl (Mark CloseParen) (call_level outer) level [] (after_call outer (call_of spawned name None)) same (closes_none outer spawned name) old (stands_sign CloseParen old there) refusal over
+    known_over (AtArguments outer spawned name) refl (Mark CloseParen) (call_level outer) level [] (after_call outer (call_of spawned name None)) same (closes_none outer spawned name) old (sign_begins CloseParen old.left there) refusal over
 
 closes_list : (outer : CallIn) (spawned : Bool) (name : List ℕ) (arguments : Commas Expression) (level : ℕ) → call_level outer ≡ level → (token : Token) → is_mark Comma token ≡ false →
     step_argument outer spawned name arguments token ≡ step_only (mark level CloseParen) (after_call outer (call_of spawned name (Some arguments))) token
@@ -124,12 +125,12 @@ lacks_opening level old refusal absent same (outer, spawned, name) _ =
 
 pub opening_over : (level : ℕ) (old : Spot) (refusal : ParseRefusal) → IsTrue (is_sign OpenParen old.left) → IsOver level (Anew Arguments ∷ []) old refusal → Lacks (opened_phrase level) old refusal
 opening_over level old refusal there over (outer, spawned, name) same =
-    known_over (Awaits (CallOpen outer spawned name)) refl (Mark OpenParen) (call_level outer) level (Anew Arguments ∷ []) (AtArguments outer spawned name) same (opens outer spawned name) old (stands_sign OpenParen old there) refusal over
+    known_over (Awaits (CallOpen outer spawned name)) refl (Mark OpenParen) (call_level outer) level (Anew Arguments ∷ []) (AtArguments outer spawned name) same (opens outer spawned name) old (sign_begins OpenParen old.left there) refusal over
 
 module _ (level : ℕ) (old mid : Spot) (there : IsTrue (is_sign OpenParen old.left)) (passed : HasPassed level (Anew Arguments ∷ []) old mid) where
   opened_leads : (outer : CallIn) (spawned : Bool) (name : List ℕ) → call_level outer ≡ level → from (Awaits (CallOpen outer spawned name)) old ≡ from (AtArguments outer spawned name) mid
   opened_leads outer spawned name same =
-      known_passed (Awaits (CallOpen outer spawned name)) refl (Mark OpenParen) (call_level outer) level (Anew Arguments ∷ []) (AtArguments outer spawned name) same (opens outer spawned name) old (stands_sign OpenParen old there) mid passed
+      known_passed (Awaits (CallOpen outer spawned name)) refl (Mark OpenParen) (call_level outer) level (Anew Arguments ∷ []) (AtArguments outer spawned name) same (opens outer spawned name) old (sign_begins OpenParen old.left there) mid passed
 
   opened_arguments : (new : Spot) (trees : List Expr) → Parses (arguments_phrase level) mid new trees → Parses (opened_phrase level) old new trees
   opened_arguments new trees has = record {

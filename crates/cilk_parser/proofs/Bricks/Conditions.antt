@@ -6,13 +6,13 @@ use Rattle.cilk_tree.specs.Levels.{mark}
 use Rattle.cilk_tree.specs.Syntax.{Expression}
 use Rattle.cilk_parser.specs.declared.opening.Opening.TheVariants.{Whole}
 use Rattle.cilk_parser.specs.declared.refusal.ParseRefusal.{ParseRefusal}
-use Rattle.cilk_parser.specs.Contexts.{Around, StatementIn, IfTaken, WhileBody, IfCondition, WhileCondition, Printed, statement_level}
+use Rattle.cilk_parser.specs.Contexts.{ExpressionIn, StatementIn, IfTaken, WhileBody, IfCondition, WhileCondition, Printed, statement_level}
 use Rattle.cilk_parser.specs.Spots.{Spot, from, HasRead, LacksSign}
 use Rattle.cilk_parser.specs.Phrases.{IsCondition, Lacks, Parses, condition_phrase, enclosed_phrase}
 use Rattle.cilk_parser.specs.Steps.{State, Wants, Awaits, AtBody, IfOpen, WhileOpen, PrintOpen, PrintEnd, step, step_only}
 use Rattle.cilk_parser.proofs.Bricks.Stepping.{Expects, expects_only, from_steps, lacks_sign, passed_shorter, reads_sign, refuses_as}
 
-opens_it : (level : ℕ) (around : Around) (before : State) (after : Expression → State) → IsCondition level around before after → Expects (step before) OpenParen level (Wants around)
+opens_it : (level : ℕ) (around : ExpressionIn) (before : State) (after : Expression → State) → IsCondition level around before after → Expects (step before) OpenParen level (Wants around)
 opens_it level around before after is =
     let only = expects_only OpenParen level (Wants around) in
     record { here = is.opens _ ∙ only.here; only = λ token other. is.opens token ∙ only.only token other }
@@ -22,7 +22,7 @@ condition_unopened level old refusal lacks (around, before, after) is =
     refuses_as refusal _ _ (from_steps before is.unfinished old) (lacks_sign (step before) OpenParen level (Wants around) (opens_it level around before after is) old refusal lacks)
 
 module _ (level : ℕ) (old middle : Spot) (opened : HasRead OpenParen level old middle) where
-  to_inner : (around : Around) (before : State) (after : Expression → State) → IsCondition level around before after → from before old ≡ from (Wants around) middle
+  to_inner : (around : ExpressionIn) (before : State) (after : Expression → State) → IsCondition level around before after → from before old ≡ from (Wants around) middle
   to_inner around before after is = from_steps before is.unfinished old ∙ reads_sign (step before) OpenParen level (Wants around) (opens_it level around before after is) old middle opened
 
   pub condition_lacks : (refusal : ParseRefusal) → Lacks (enclosed_phrase level Whole CloseParen level) middle refusal → Lacks (condition_phrase level) old refusal

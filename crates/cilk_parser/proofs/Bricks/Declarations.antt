@@ -16,7 +16,8 @@ use Rattle.cilk_parser.specs.Spots.{Spot, from, is_sign, HasPassed, IsOver, HasR
 use Rattle.cilk_parser.specs.Phrases.{Lacks, Parses, after_declaration, declaration_phrase, declarator_phrase, right_phrase}
 use Rattle.cilk_parser.specs.Steps.{AfterDeclarator, AtRight, AwaitsName, DeclaratorName, HasDeclarators, goes_on, is_mark, step, step_declarator, step_declarators, step_only}
 use Rattle.cilk_parser.proofs.Bricks.Stepping.{awaits_name, awaits_no_name, from_steps, passed_shorter, refuses_as, sign_absent, stepping_same}
-use Rattle.cilk_parser.proofs.Bricks.Lists.{IsListed, gives_with_last, known_passed, list_closed, list_open, more_over, more_passed, stands_sign}
+use Rattle.cilk_parser.proofs.Bricks.Lists.{IsListed, gives_with_last, list_closed, list_open, more_over, more_passed}
+use Rattle.cilk_parser.proofs.Bricks.Beginnings.{sign_begins, known_passed}
 
 -- ---- one name
 
@@ -54,7 +55,7 @@ module _ (level : ℕ) (name : List ℕ) (old mid : Spot) (named : HasNamed leve
     valued_leads : (outer : DeclareIn) (others : Option (Commas Declarator)) → declare_level outer ≡ level → from (AwaitsName (DeclaratorName outer others)) old ≡ from (AtRight (Declared outer others name)) far
     valued_leads outer others same =
         declared_name outer others same
-        ∙ known_passed (AfterDeclarator outer others name) refl (Mark Assign) (declare_level outer) level [] (AtRight (Declared outer others name)) same (gives_value outer others name) mid (stands_sign Assign mid there) far passed
+        ∙ known_passed (AfterDeclarator outer others name) refl (Mark Assign) (declare_level outer) level [] (AtRight (Declared outer others name)) same (gives_value outer others name) mid (sign_begins Assign mid.left there) far passed
 
     pub declares_valued : (new : Spot) (before : List Stmt) (set : Stmt) → Parses (right_phrase level) far new (name, set) → Parses (declarator_phrase level) old new (before, (before ++ stmt.Declare name ∷ [] ++ set ∷ []))
     declares_valued new before set has = record {

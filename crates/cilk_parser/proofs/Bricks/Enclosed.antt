@@ -6,7 +6,7 @@ use Rattle.cilk_tree.specs.Levels.{mark}
 use Rattle.cilk_tree.specs.Syntax.{Expression}
 use Rattle.cilk_parser.specs.declared.opening.Opening.{Opening}
 use Rattle.cilk_parser.specs.declared.refusal.ParseRefusal.{ParseRefusal}
-use Rattle.cilk_parser.specs.Contexts.{Around}
+use Rattle.cilk_parser.specs.Contexts.{ExpressionIn}
 use Rattle.cilk_parser.specs.Spots.{Spot, from, HasRead, LacksSign, stepping}
 use Rattle.cilk_parser.specs.Phrases.{Encloses, Lacks, Parses, enclosed_phrase, expression_phrase, stops_below}
 use Rattle.cilk_parser.specs.Steps.{State, Wants, step_end, step_only}
@@ -18,7 +18,7 @@ module _ (level : ℕ) (opening : Opening) (closing : Sign) (own : ℕ) (old : S
   enclosed_lacks refusal lacks (around, after) encloses = lacks around encloses.fits
 
   module _ (middle : Spot) (tree : Expr) (read : Parses (expression_phrase 0 level opening) old middle tree) (stops : IsTrue (stops_below 0 middle.left)) where
-    to_close : (around : Around) (after : Expression → State) → Encloses level opening around own closing after → from (Wants around) old ≡ stepping (step_only (mark own closing) (after read.syntax)) middle
+    to_close : (around : ExpressionIn) (after : Expression → State) → Encloses level opening around own closing after → from (Wants around) old ≡ stepping (step_only (mark own closing) (after read.syntax)) middle
     to_close around after encloses =
         read.leads around encloses.fits ∙ expression_ends around read.syntax middle stops ∙
         stepping_same (step_end around read.syntax) (step_only (mark own closing) (after read.syntax)) middle (λ placed places first. encloses.closes read.syntax placed.token)

@@ -14,20 +14,11 @@ use Rattle.cilk_tree.specs.Syntax.{Expression, Simple, Start, NoStart, SimpleSta
 use Rattle.cilk_parser.specs.declared.opening.Opening.TheVariants.{Whole}
 use Rattle.cilk_parser.specs.declared.refusal.ParseRefusal.{ParseRefusal}
 use Rattle.cilk_parser.specs.Contexts.{StatementIn, SimpleIn, AsForStart, AsForLast, AsForDeclaration, ForBody, ForCondition, simple_level, statement_level}
-use Rattle.cilk_parser.specs.Spots.{Spot, from, Refuses, HasPassed, IsOver, HasRead, LacksSign, HasNamed, LacksName, is_sign, is_keyword, is_word, stepping}
+use Rattle.cilk_parser.specs.Spots.{Spot, from, Refuses, HasPassed, IsOver, HasRead, LacksSign, HasNamed, LacksName, is_sign, is_keyword, is_keyword_token, stepping}
 use Rattle.cilk_parser.specs.Phrases.{Encloses, Lacks, LacksSimple, Parses, declaration_phrase, enclosed_phrase, for_condition_phrase, for_last_phrase, for_start_phrase, simple_phrase}
-use Rattle.cilk_parser.specs.Steps.{State, Wants, AwaitsName, AfterName, AtBody, AtForStart, AtForCondition, AtForLast, DeclaratorName, SimpleEnd, awaited_state, awaited_token, finish, goes_on, is_mark, step, step_for_condition, step_for_last, step_for_start, step_only, step_wants}
-use Rattle.cilk_parser.proofs.Bricks.Beginnings.{Begins, expects_step_named, keyword_begins, sign_begins, step_named, token_over, token_passed}
+use Rattle.cilk_parser.specs.Steps.{Wants, AwaitsName, AfterName, AtBody, AtForStart, AtForCondition, AtForLast, DeclaratorName, SimpleEnd, awaited_state, awaited_token, goes_on, is_mark, step, step_for_condition, step_for_last, step_for_start, step_only, step_wants}
+use Rattle.cilk_parser.proofs.Bricks.Beginnings.{expects_step_named, keyword_begins, sign_begins, step_named, known_passed, known_over}
 use Rattle.cilk_parser.proofs.Bricks.Stepping.{awaits_lacks, awaits_sign, from_steps, keyword_absent, lacks_name, passed_shorter, reads_name, refuses_as, sign_absent, stepping_same}
-
--- ---- from a state
-
-module _ (state next : State) (unfinished : finish state ≡ None) (level : ℕ) (token : Token) (goes : step state token ≡ goes_on (plain level token) next) (old : Spot) (there : Begins token old.left) where
-  pub state_passed : (new : Spot) → HasPassed level [] old new → from state old ≡ from next new
-  state_passed new passed = from_steps state unfinished old ∙ token_passed (step state) next level [] token goes old there new passed
-
-  pub state_over : (refusal : ParseRefusal) → IsOver level [] old refusal → Refuses (from state old) refusal
-  state_over refusal over = refuses_as refusal _ _ (from_steps state unfinished old) (token_over (step state) next level [] token goes old there refusal over)
 
 -- ---- an assignment, a step or a store, and the sign behind it
 
@@ -41,7 +32,7 @@ module _ (outer : SimpleIn) (closing : Sign) (own : ℕ) (closes : (simple : Sim
 
 -- ---- the first part
 
-start_named : (outer : StatementIn) (token : Token) → is_mark sign.Semicolon token ≡ false → is_word word.Int token ≡ false → step_for_start outer token ≡ step_named (statement_level outer + 1) (AfterName (AsForStart outer)) token
+start_named : (outer : StatementIn) (token : Token) → is_mark sign.Semicolon token ≡ false → is_keyword_token word.Int token ≡ false → step_for_start outer token ≡ step_named (statement_level outer + 1) (AfterName (AsForStart outer)) token
 start_named outer (Mark sign.Semicolon) no_end no_int = absurd (cc)
 start_named outer (Word word.Int) no_end no_int = absurd (cc)
 start_named outer (Name name) no_end no_int = refl
@@ -57,11 +48,11 @@ module _ (level : ℕ) (old : Spot) (there : IsTrue (is_sign sign.Semicolon old.
     syntax = NoStart;
     same = sym (append-nil before);
     shorter = passed_shorter level [] old new passed;
-    leads = λ outer same. state_passed (AtForStart outer) (AtForCondition outer NoStart) refl level (Mark sign.Semicolon) (goes_past outer same) old (sign_begins sign.Semicolon old.left there) new passed;
+    leads = λ outer same. known_passed (AtForStart outer) refl (Mark sign.Semicolon) level level [] (AtForCondition outer NoStart) refl (goes_past outer same) old (sign_begins sign.Semicolon old.left there) new passed;
   }
 
   pub no_start_over : (refusal : ParseRefusal) → IsOver level [] old refusal → Lacks (for_start_phrase level) old refusal
-  no_start_over refusal over outer same = state_over (AtForStart outer) (AtForCondition outer NoStart) refl level (Mark sign.Semicolon) (goes_past outer same) old (sign_begins sign.Semicolon old.left there) refusal over
+  no_start_over refusal over outer same = known_over (AtForStart outer) refl (Mark sign.Semicolon) level level [] (AtForCondition outer NoStart) refl (goes_past outer same) old (sign_begins sign.Semicolon old.left there) refusal over
 
 module _ (level : ℕ) (old : Spot) (there : IsTrue (is_keyword word.Int old.left)) where
   goes_declaring : (outer : StatementIn) → statement_level outer + 1 ≡ level → step (AtForStart outer) (Word word.Int) ≡ goes_on (plain level (Word word.Int)) (AwaitsName (DeclaratorName (AsForDeclaration outer) None))
@@ -70,12 +61,12 @@ module _ (level : ℕ) (old : Spot) (there : IsTrue (is_keyword word.Int old.lef
 
   pub declaring_over : (refusal : ParseRefusal) → IsOver level [] old refusal → Lacks (for_start_phrase level) old refusal
   declaring_over refusal over outer same =
-      state_over (AtForStart outer) (AwaitsName (DeclaratorName (AsForDeclaration outer) None)) refl level (Word word.Int) (goes_declaring outer same) old (keyword_begins word.Int old.left there) refusal over
+      known_over (AtForStart outer) refl (Word word.Int) level level [] (AwaitsName (DeclaratorName (AsForDeclaration outer) None)) refl (goes_declaring outer same) old (keyword_begins word.Int old.left there) refusal over
 
   module _ (middle : Spot) (passed : HasPassed level [] old middle) where
     to_declaration : (outer : StatementIn) → statement_level outer + 1 ≡ level → from (AtForStart outer) old ≡ from (AwaitsName (DeclaratorName (AsForDeclaration outer) None)) middle
     to_declaration outer same =
-        state_passed (AtForStart outer) (AwaitsName (DeclaratorName (AsForDeclaration outer) None)) refl level (Word word.Int) (goes_declaring outer same) old (keyword_begins word.Int old.left there) middle passed
+        known_passed (AtForStart outer) refl (Word word.Int) level level [] (AwaitsName (DeclaratorName (AsForDeclaration outer) None)) refl (goes_declaring outer same) old (keyword_begins word.Int old.left there) middle passed
 
     pub declaring_reads : (new : Spot) (before now : List Stmt) → Parses (declaration_phrase level) middle new (before, now) → Parses (for_start_phrase level) old new (before, now)
     declaring_reads new before now read = record {
@@ -139,12 +130,12 @@ module _ (level : ℕ) (old : Spot) (there : IsTrue (is_sign sign.Semicolon old.
     syntax = None;
     same = refl;
     shorter = passed_shorter level [] old new passed;
-    leads = λ (outer, start) same. state_passed (AtForCondition outer start) (AtForLast outer start None) refl level (Mark sign.Semicolon) (goes_without outer start same) old (sign_begins sign.Semicolon old.left there) new passed;
+    leads = λ (outer, start) same. known_passed (AtForCondition outer start) refl (Mark sign.Semicolon) level level [] (AtForLast outer start None) refl (goes_without outer start same) old (sign_begins sign.Semicolon old.left there) new passed;
   }
 
   pub no_condition_over : (refusal : ParseRefusal) → IsOver level [] old refusal → Lacks (for_condition_phrase level) old refusal
   no_condition_over refusal over (outer, start) same =
-      state_over (AtForCondition outer start) (AtForLast outer start None) refl level (Mark sign.Semicolon) (goes_without outer start same) old (sign_begins sign.Semicolon old.left there) refusal over
+      known_over (AtForCondition outer start) refl (Mark sign.Semicolon) level level [] (AtForLast outer start None) refl (goes_without outer start same) old (sign_begins sign.Semicolon old.left there) refusal over
 
 for_encloses : (level : ℕ) (outer : StatementIn) (start : Start) → statement_level outer + 1 ≡ level → Encloses level Whole (ForCondition outer start) level sign.Semicolon (λ syntax. AtForLast outer start (Some syntax))
 for_encloses level outer start same = record {
@@ -190,12 +181,12 @@ module _ (level own : ℕ) (old : Spot) (there : IsTrue (is_sign sign.CloseParen
     same = sym (append-nil before);
     shorter = passed_shorter own [] old new passed;
     leads = λ (outer, start, condition) (same, same_own).
-        state_passed (AtForLast outer start condition) (AtBody (ForBody outer start condition None)) refl own (Mark sign.CloseParen) (goes_inside outer start condition same_own) old (sign_begins sign.CloseParen old.left there) new passed;
+        known_passed (AtForLast outer start condition) refl (Mark sign.CloseParen) own own [] (AtBody (ForBody outer start condition None)) refl (goes_inside outer start condition same_own) old (sign_begins sign.CloseParen old.left there) new passed;
   }
 
   pub no_last_over : (refusal : ParseRefusal) → IsOver own [] old refusal → Lacks (for_last_phrase level own) old refusal
   no_last_over refusal over (outer, start, condition) (same, same_own) =
-      state_over (AtForLast outer start condition) (AtBody (ForBody outer start condition None)) refl own (Mark sign.CloseParen) (goes_inside outer start condition same_own) old (sign_begins sign.CloseParen old.left there) refusal over
+      known_over (AtForLast outer start condition) refl (Mark sign.CloseParen) own own [] (AtBody (ForBody outer start condition None)) refl (goes_inside outer start condition same_own) old (sign_begins sign.CloseParen old.left there) refusal over
 
 module _ (level own : ℕ) (old : Spot) (absent : is_sign sign.CloseParen old.left ≡ false) where
   at_last_name : (outer : StatementIn) (start : Start) (condition : Option Expression) → from (AtForLast outer start condition) old ≡ stepping (step_named (statement_level outer + 2) (AfterName (AsForLast outer start condition))) old

@@ -19,19 +19,19 @@ use Rattle.cilk_parser.proofs.Bricks.Stepping.{ExpectsName, expects_awaited, fro
 use Rattle.cilk_parser.specs.declared.parser.End.{End}
 use Rattle.cilk_parser.specs.declared.tallies.Tallies.{Tallies}
 use Rattle.cilk_parser.specs.Contexts.{Heading}
-use Rattle.cilk_parser.specs.Spots.{from, is_array_start, is_name_before, is_name_token, is_word, stepping}
-use Rattle.cilk_parser.specs.Run.{Answer, Refused, Judged, Within, Over, at_end, if_within, judge, judge_token, judge_on, run, run_step, run_judged}
+use Rattle.cilk_parser.specs.Spots.{from, is_array_start, is_name_before, is_name_token, is_keyword_token, stepping}
+use Rattle.cilk_parser.specs.Run.{Answer, Refused, Tallied, Within, Over, at_end, if_within, judge, judge_token, judge_on, run, run_step, run_judged}
 use Rattle.cilk_parser.specs.Steps.{State, Items, AfterCilk, AfterInt, AfterIntName, ArraySize, ParametersStart, Awaits, ArrayOpen, ParametersOpen, AwaitsName, FunctionName, Next, function_counts, goes_on, is_mark, step, step_int, step_int_name, step_items}
 
 -- ---- judged one after another
 
 -- the answer, from the counts on, where the tokens keep the limits
-abbrev pub judged_then : Judged → (Tallies → Answer) → Answer
+abbrev pub judged_then : Tallied → (Tallies → Answer) → Answer
 judged_then (Within t) on = on t
 judged_then (Over kind offset) on = Refused kind offset
 
 -- A token is judged before those behind it.
-one_more : (j : Judged) (behind : Tallies → Judged) (answer : Judged → Answer) (on : Tallies → Answer) → ((kind : Kind) (offset : ℕ) → answer (Over kind offset) ≡ Refused kind offset) →
+one_more : (j : Tallied) (behind : Tallies → Tallied) (answer : Tallied → Answer) (on : Tallies → Answer) → ((kind : Kind) (offset : ℕ) → answer (Over kind offset) ≡ Refused kind offset) →
     ((t : Tallies) → answer (behind t) ≡ on t) → answer (judge_on j behind) ≡ judged_then j on
 one_more (Within t) behind answer on over within = within t
 one_more (Over kind offset) behind answer on over within = over kind offset
@@ -102,7 +102,7 @@ module _ (before : Source) (end : End) (t : Tallies) (int : Placed) (is_int : in
     behind_name places = ap (run_step (record { state = AfterInt before; tallies = t; waiting = int ∷ [] }) second (λ r. run end r places)) (ap (step_int before) named)
 
     -- what waits is judged as it would be one after another
-    judged_both : (counts : List Count) (more : List Spelled) (waiting places : List Placed) (answer : Judged → Answer) → ((kind : Kind) (offset : ℕ) → answer (Over kind offset) ≡ Refused kind offset) →
+    judged_both : (counts : List Count) (more : List Spelled) (waiting places : List Placed) (answer : Tallied → Answer) → ((kind : Kind) (offset : ℕ) → answer (Over kind offset) ≡ Refused kind offset) →
         ((later : Tallies) → answer (judge later more waiting) ≡ from (Awaits (ArrayOpen before None name)) (record { end = end; tallies = later; left = places })) →
         answer (judge t (word_at 0 word.Int ∷ counting 0 counts (Name name) ∷ more) (int ∷ second ∷ waiting)) ≡
         judged_then (judge_token t (word_at 0 word.Int) int.offset) (λ later. stepping (array_named before counts) (record { end = end; tallies = later; left = second ∷ places }))
@@ -148,7 +148,7 @@ module _ (before : Source) (end : End) (t : Tallies) (int : Placed) (is_int : in
       heading = record { before = before; «cilk» = false; gives = true; name = name }
 
       -- the answer where it was judged with what waits
-      abbrev judged : Judged → Answer
+      abbrev judged : Tallied → Answer
       judged = run_judged (record { emitted = counting 0 function_counts (Word word.Int) ∷ plain 0 (Name name) ∷ mark 0 sign.OpenParen ∷ []; state = ParametersStart heading }) (int ∷ second ∷ third ∷ []) (λ r. run end r places)
 
       parenthesis : third.token ≡ Mark sign.OpenParen →
@@ -226,7 +226,7 @@ module _ (before : Source) (end : End) (t : Tallies) (int : Placed) (is_int : in
 
 -- ---- the first token of a function
 
-same_unless_int : (before : Source) (token : Token) → is_word word.Int token ≡ false → step_items before token ≡ step_function before token
+same_unless_int : (before : Source) (token : Token) → is_keyword_token word.Int token ≡ false → step_items before token ≡ step_function before token
 same_unless_int before (Word word.Int) other = absurd (cc)
 same_unless_int before _ other = refl
 
@@ -240,7 +240,7 @@ module _ (before : Source) (end : End) (t : Tallies) (first : Placed) (places : 
   from_either None = refl
   from_either (Some next) = refl
 
-  function_first : (is_int : Bool) → is_word word.Int first.token ≡ is_int → (is_int && not (is_name_before sign.OpenParen places)) ≡ false →
+  function_first : (is_int : Bool) → is_keyword_token word.Int first.token ≡ is_int → (is_int && not (is_name_before sign.OpenParen places)) ≡ false →
       from (Items before) (record { end = end; tallies = t; left = first ∷ places }) ≡ stepping (step_function before) (record { end = end; tallies = t; left = first ∷ places })
   unfolding run step
   function_first true is no_array = int_of_function before end t first (keyword_there word.Int (first ∷ places) places first refl is) places (not_false (is_name_before sign.OpenParen places) no_array)
@@ -250,4 +250,4 @@ module _ (before : Source) (end : End) (t : Tallies) (first : Placed) (places : 
   -- Where an item stands first that is no array, the machine goes on as with a function.
   pub no_array_first : is_array_start (first ∷ places) ≡ false →
       from (Items before) (record { end = end; tallies = t; left = first ∷ places }) ≡ stepping (step_function before) (record { end = end; tallies = t; left = first ∷ places })
-  no_array_first no_array = function_first (is_word word.Int first.token) refl no_array
+  no_array_first no_array = function_first (is_keyword_token word.Int first.token) refl no_array

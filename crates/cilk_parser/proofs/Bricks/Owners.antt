@@ -13,21 +13,20 @@ use Rattle.cilk_parser.specs.declared.refusal.ParseRefusal.{ParseRefusal}
 use Rattle.cilk_parser.specs.declared.statement.ForHead.{ForHead}
 use Rattle.cilk_parser.specs.declared.starts.StatementStart.{StatementStart}
 use Rattle.cilk_parser.specs.declared.starts.StatementStart.TheVariants as statement
-use Rattle.cilk_parser.specs.Contexts.{Around, BodyIn, IfTaken, IfOtherwise, WhileBody, ForBody, IfCondition, WhileCondition, StatementIn, body_level, owner_level, statement_level}
+use Rattle.cilk_parser.specs.Contexts.{ExpressionIn, BodyIn, IfTaken, IfOtherwise, WhileBody, ForBody, IfCondition, WhileCondition, StatementIn, body_level, owner_level, statement_level}
 use Rattle.cilk_parser.specs.Spots.{Spot, from, HasPassed, IsOver, HasRead, LacksSign, is_keyword, stepping}
 use Rattle.cilk_parser.specs.Phrases.{IsCondition, Lacks, Parses, body_phrase, condition_phrase, for_condition_phrase, for_head_phrase, for_last_phrase, for_start_phrase, statement_phrase}
 use Rattle.cilk_parser.specs.Starts.{starts_statement}
 use Rattle.cilk_parser.specs.Steps.{Awaited, Awaits, AtBody, AtForCondition, AtForLast, AtForStart, ForOpen, HasBody, IfOpen, WhileOpen, goes_on, step, step_statement}
-use Rattle.cilk_parser.proofs.Bricks.Beginnings.{IsBegun, begun_for, begun_if, begun_over, begun_passed, begun_while, keyword_begins}
+use Rattle.cilk_parser.proofs.Bricks.Beginnings.{IsBegun, begun_for, begun_if, begun_over, begun_passed, begun_while, keyword_begins, known_passed, known_over}
 use Rattle.cilk_parser.proofs.Bricks.Bodies.{else_ends, for_ends, if_ends, while_ends}
 use Rattle.cilk_parser.proofs.Bricks.Conditions.{condition_of_if, condition_of_while}
 use Rattle.cilk_parser.proofs.Bricks.Stepping.{awaits_lacks, awaits_sign, passed_shorter, refuses_as}
-use Rattle.cilk_parser.proofs.Bricks.Heads.{state_over, state_passed}
 
 -- ---- a condition and a body
 
 -- A statement that begins so has a condition in parentheses and a body.
-pub record HasHead (start : StatementStart) (token : Token) (opening : StatementIn → Awaited) (around : StatementIn → Around) (owner : StatementIn → Expression → BodyIn) : Type 0 where
+pub record HasHead (start : StatementStart) (token : Token) (opening : StatementIn → Awaited) (around : StatementIn → ExpressionIn) (owner : StatementIn → Expression → BodyIn) : Type 0 where
   pub begun : IsBegun start token (λ outer. Awaits (opening outer))
   pub condition : (level : ℕ) (outer : StatementIn) → statement_level outer ≡ level → IsCondition level (around outer) (Awaits (opening outer)) (λ syntax. AtBody (owner outer syntax))
   pub inner : (outer : StatementIn) (condition : Expression) → body_level (owner outer condition) ≡ statement_level outer + 1
@@ -39,7 +38,7 @@ head_of_if = record { begun = begun_if; condition = condition_of_if; inner = λ 
 pub head_of_while : HasHead statement.While (Word word.While) WhileOpen WhileCondition WhileBody
 head_of_while = record { begun = begun_while; condition = condition_of_while; inner = λ outer condition. refl; own = λ outer condition. refl }
 
-module _ (start : StatementStart) (token : Token) (opening : StatementIn → Awaited) (around : StatementIn → Around) (owner : StatementIn → Expression → BodyIn) (head : HasHead start token opening around owner)
+module _ (start : StatementStart) (token : Token) (opening : StatementIn → Awaited) (around : StatementIn → ExpressionIn) (owner : StatementIn → Expression → BodyIn) (head : HasHead start token opening around owner)
     (level : ℕ) (old : Spot) (there : starts_statement old.left ≡ start) where
   pub head_over : (refusal : ParseRefusal) → IsOver level [] old refusal → Lacks (statement_phrase level) old refusal
   head_over refusal over = begun_over start token (λ outer. Awaits (opening outer)) head.begun level old there refusal over
@@ -101,13 +100,13 @@ module _ (level : ℕ) (old : Spot) (there : starts_statement old.left ≡ state
     pub else_over : (refusal : ParseRefusal) → IsOver level [] third refusal → Lacks (statement_phrase level) old refusal
     else_over refusal over outer same =
         refuses_as refusal _ _ (behind_taken outer same)
-        (state_over (HasBody (IfTaken outer condition.syntax) taken.syntax) (AtBody (IfOtherwise outer condition.syntax taken.syntax)) refl level (Word word.Else) (goes_otherwise outer same) third (keyword_begins word.Else third.left otherwise) refusal over)
+        (known_over (HasBody (IfTaken outer condition.syntax) taken.syntax) refl (Word word.Else) level level [] (AtBody (IfOtherwise outer condition.syntax taken.syntax)) refl (goes_otherwise outer same) third (keyword_begins word.Else third.left otherwise) refusal over)
 
     module _ (fourth : Spot) (beyond : HasPassed level [] third fourth) where
       to_otherwise : (outer : StatementIn) → statement_level outer ≡ level → stepping (step_statement outer) old ≡ from (AtBody (IfOtherwise outer condition.syntax taken.syntax)) fourth
       to_otherwise outer same =
           behind_taken outer same ∙
-          state_passed (HasBody (IfTaken outer condition.syntax) taken.syntax) (AtBody (IfOtherwise outer condition.syntax taken.syntax)) refl level (Word word.Else) (goes_otherwise outer same) third (keyword_begins word.Else third.left otherwise) fourth beyond
+          known_passed (HasBody (IfTaken outer condition.syntax) taken.syntax) refl (Word word.Else) level level [] (AtBody (IfOtherwise outer condition.syntax taken.syntax)) refl (goes_otherwise outer same) third (keyword_begins word.Else third.left otherwise) fourth beyond
 
       pub else_lacks : (refusal : ParseRefusal) → Lacks (body_phrase (level + 1) level) fourth refusal → Lacks (statement_phrase level) old refusal
       else_lacks refusal lacks outer same = refuses_as refusal _ _ (to_otherwise outer same) (lacks (IfOtherwise outer condition.syntax taken.syntax) (ap (λ l. l + 1) same, same))

@@ -16,7 +16,7 @@ use Rattle.cilk_parser.specs.declared.parser.End.{End}
 use Rattle.cilk_parser.specs.declared.tallies.Tallies.{Tallies}
 use Rattle.cilk_parser.specs.Contexts.{RightIn, right_level, ResultOf, ValueOf}
 use Rattle.cilk_parser.specs.Spots.{is_sign}
-use Rattle.cilk_parser.specs.Run.{Answer, Refused, Judged, Within, Over, Reading, at_end, if_within, judge, judge_on, judge_token, run, run_judged, run_step}
+use Rattle.cilk_parser.specs.Run.{Answer, Refused, Tallied, Within, Over, Reading, at_end, if_within, judge, judge_on, judge_token, run, run_judged, run_step}
 use Rattle.cilk_parser.specs.Steps.{AtArguments, AtRight, AfterRightName, Awaits, CallOpen, Has, Wants, Next, behind, is_mark, step}
 use Rattle.cilk_parser.specs.Tally.{is_over}
 use Rattle.cilk_parser.proofs.Signs.{same_sign}
@@ -24,7 +24,7 @@ use Rattle.cilk_parser.proofs.Signs.{same_sign}
 -- ---- one more token before those judged
 
 -- What is judged behind a token that was within is judged as if it came alone.
-judged_behind : (spelled : Spelled) (next : Next) (placed second : Placed) (on : Reading → Answer) (judged : Judged) →
+judged_behind : (spelled : Spelled) (next : Next) (placed second : Placed) (on : Reading → Answer) (judged : Tallied) →
     run_judged (behind spelled next) (placed ∷ second ∷ []) on judged ≡ run_judged next (second ∷ []) on judged
 judged_behind spelled next placed second on (Within t) = refl
 judged_behind spelled next placed second on (Over kind offset) = refl
@@ -62,14 +62,14 @@ no_call outer name (Mark OpenParen) other = absurd (cc)
 no_call outer name _ other = refl
 
 module _ (outer : RightIn) (name : List ℕ) (end : End) (t : Tallies) (placed : Placed) (within : is_over t ≡ false) where
-  ends_behind : (judged : Judged) → judge_token t (counting (right_level outer) (Anew Operators ∷ []) (Name name)) placed.offset ≡ judged →
+  ends_behind : (judged : Tallied) → judge_token t (counting (right_level outer) (Anew Operators ∷ []) (Name name)) placed.offset ≡ judged →
       run end (record { state = AfterRightName outer name; tallies = t; waiting = placed ∷ [] }) []
       ≡ run_judged (record { emitted = counting (right_level outer) (Anew Operators ∷ []) (Name name) ∷ []; state = Has (ValueOf outer) (Variable name) }) (placed ∷ []) (λ r. run end r []) (judge_on judged Within)
   unfolding run
   ends_behind (Within later) is = harmless t (right_level outer) (Name name) placed (at_end end None) within ∙ ap (λ j. if_within j (at_end end None)) is
   ends_behind (Over kind offset) is = harmless t (right_level outer) (Name name) placed (at_end end None) within ∙ ap (λ j. if_within j (at_end end None)) is
 
-  steps_behind : (second : Placed) (rest : List Placed) (next : Option Next) (judged : Judged) → judge_token t (counting (right_level outer) (Anew Operators ∷ []) (Name name)) placed.offset ≡ judged →
+  steps_behind : (second : Placed) (rest : List Placed) (next : Option Next) (judged : Tallied) → judge_token t (counting (right_level outer) (Anew Operators ∷ []) (Name name)) placed.offset ≡ judged →
       run_step (record { state = AfterRightName outer name; tallies = t; waiting = placed ∷ [] }) second (λ r. run end r rest) (option_map (behind (counting (right_level outer) (Anew Operators ∷ []) (Name name))) next)
       ≡ run_judged (record { emitted = counting (right_level outer) (Anew Operators ∷ []) (Name name) ∷ []; state = Has (ValueOf outer) (Variable name) }) (placed ∷ []) (λ r. run_step r second (λ r. run end r rest) next) (judge_on judged Within)
   steps_behind second rest None (Within later) is = harmless t (right_level outer) (Name name) placed (Refused Unexpected second.offset) within ∙ ap (λ j. if_within j (Refused Unexpected second.offset)) is

@@ -9,7 +9,6 @@ use Rattle.cilk_tree.specs.declared.token.Token.TheVariants.{Name, Word}
 use Rattle.cilk_tree.specs.declared.tree.Expr.{Expr}
 use Rattle.cilk_tree.specs.declared.tree.Stmt.TheVariants as stmt
 use Rattle.cilk_tree.specs.Levels.{counting, plain, word_at}
-use Rattle.cilk_tree.specs.Sugar.{expression_tree}
 use Rattle.cilk_tree.specs.Syntax.{Right, Value, Result, Fetched}
 use Rattle.cilk_parser.specs.declared.addition.Addition.{Addition}
 use Rattle.cilk_parser.specs.declared.call.Call.{Call}
@@ -17,16 +16,15 @@ use Rattle.cilk_parser.specs.declared.opening.Opening.TheVariants.{Whole}
 use Rattle.cilk_parser.specs.declared.refusal.ParseRefusal.{ParseRefusal}
 use Rattle.cilk_parser.specs.declared.tallies.Tallies.{Tallies}
 use Rattle.cilk_parser.specs.Contexts.{RightIn, Assigned, Declared, right_level, ResultOf, ValueOf}
-use Rattle.cilk_parser.specs.Spots.{Spot, from, Refuses, is_sign, is_keyword, is_word, is_name_before, is_name_token, is_named, HasPassed, IsOver, HasNamed, LacksName, stepping}
+use Rattle.cilk_parser.specs.Spots.{Spot, from, Refuses, is_sign, is_keyword, is_keyword_token, is_name_before, is_name_token, is_named, HasPassed, IsOver, HasNamed, LacksName, stepping}
 use Rattle.cilk_parser.specs.Phrases.{Lacks, Parses, addition_phrase, call_phrase, expression_phrase, opened_phrase, right_phrase, spawn_phrase, stops_below}
-use Rattle.cilk_parser.specs.Run.{Judged, Within, Over, judge_token, run}
+use Rattle.cilk_parser.specs.Run.{Tallied, Within, Over, judge_token, run}
 use Rattle.cilk_parser.specs.Steps.{AtRight, Awaits, AwaitsName, AddOpen, CallOpen, SpawnedName, Wants, after_right, call_of, goes_on, step, step_at_right, step_right, step_wants}
 use Rattle.cilk_parser.specs.Tally.{is_over}
 use Rattle.cilk_parser.proofs.Bricks.BehindOperand.{expression_ends}
 use Rattle.cilk_parser.proofs.Bricks.Stepping.{from_steps, keyword_absent, name_absent, name_there, passed_shorter, refuses_as, stepping_same}
-use Rattle.cilk_parser.proofs.Bricks.Lists.{known_over, known_passed}
-use Rattle.cilk_parser.proofs.Bricks.Firsts.{keyword_there}
 use Rattle.cilk_parser.proofs.Bricks.RightNames.{name_of_call, name_of_call_over, name_of_value}
+use Rattle.cilk_parser.proofs.Bricks.Beginnings.{keyword_begins, known_passed, known_over}
 
 -- ---- a call
 
@@ -46,7 +44,7 @@ named_before : (left : List Placed) → IsTrue (is_name_before OpenParen left) �
 named_before [] call = call
 named_before (placed ∷ rest) call = first_true (is_name_token placed.token) (is_sign OpenParen rest) call
 
-judged_as : (level own : ℕ) (t : Tallies) (offset : ℕ) (token known : Token) (judged : Judged) → own ≡ level → token ≡ known → judge_token t (counting level [] token) offset ≡ judged → judge_token t (plain own known) offset ≡ judged
+judged_as : (level own : ℕ) (t : Tallies) (offset : ℕ) (token known : Token) (judged : Tallied) → own ≡ level → token ≡ known → judge_token t (counting level [] token) offset ≡ judged → judge_token t (plain own known) offset ≡ judged
 judged_as level own t offset token known judged same is judges = ap (λ l. judge_token t (plain l known) offset) same ∙ ap (λ k. judge_token t (plain level k) offset) (sym is) ∙ judges
 
 module _ (level : ℕ) (name : List ℕ) (old mid : Spot) (call : IsTrue (is_name_before OpenParen old.left)) (named : HasNamed level [] name old mid) where
@@ -96,7 +94,7 @@ pub record BeginsNone (left : List Placed) : Type 0 where
 pub begins_none : (left : List Placed) → is_keyword Spawn left ≡ false → is_keyword FetchAdd left ≡ false → is_name_before OpenParen left ≡ false → BeginsNone left
 begins_none left spawn add call = record { spawn = spawn; add = add; call = call }
 
-first_of_value : (outer : RightIn) (token : Token) → is_word Spawn token ≡ false → is_word FetchAdd token ≡ false → is_name_token token ≡ false → step_at_right outer token ≡ step_wants (ValueOf outer) token
+first_of_value : (outer : RightIn) (token : Token) → is_keyword_token Spawn token ≡ false → is_keyword_token FetchAdd token ≡ false → is_name_token token ≡ false → step_at_right outer token ≡ step_wants (ValueOf outer) token
 first_of_value outer (Name name) spawn add other = absurd (false≢true (sym other))
 first_of_value outer (Word Spawn) spawn add other = absurd (cc)
 first_of_value outer (Word FetchAdd) spawn add other = absurd (cc)
@@ -160,12 +158,12 @@ spawn_word outer = refl
 
 pub right_spawn_over : (level : ℕ) (old : Spot) (refusal : ParseRefusal) → IsTrue (is_keyword Spawn old.left) → IsOver level [] old refusal → Lacks (right_phrase level) old refusal
 right_spawn_over level old refusal there over outer same =
-    known_over (AtRight outer) refl (Word Spawn) (right_level outer) level [] (AwaitsName (SpawnedName (ResultOf outer))) same (spawn_word outer) old (λ placed rest first. keyword_there Spawn old.left rest placed first there) refusal over
+    known_over (AtRight outer) refl (Word Spawn) (right_level outer) level [] (AwaitsName (SpawnedName (ResultOf outer))) same (spawn_word outer) old (keyword_begins Spawn old.left there) refusal over
 
 module _ (level : ℕ) (old mid : Spot) (there : IsTrue (is_keyword Spawn old.left)) (passed : HasPassed level [] old mid) where
   spawn_leads : (outer : RightIn) → right_level outer ≡ level → from (AtRight outer) old ≡ from (AwaitsName (SpawnedName (ResultOf outer))) mid
   spawn_leads outer same =
-      known_passed (AtRight outer) refl (Word Spawn) (right_level outer) level [] (AwaitsName (SpawnedName (ResultOf outer))) same (spawn_word outer) old (λ placed rest first. keyword_there Spawn old.left rest placed first there) mid passed
+      known_passed (AtRight outer) refl (Word Spawn) (right_level outer) level [] (AwaitsName (SpawnedName (ResultOf outer))) same (spawn_word outer) old (keyword_begins Spawn old.left there) mid passed
 
   pub right_spawns : (target : List ℕ) (new : Spot) (call : Call) → Parses (spawn_phrase level) mid new call → Parses (right_phrase level) old new (target, (stmt.Spawn (Some target) call.name call.arguments))
   right_spawns target new call has = record {
@@ -186,12 +184,12 @@ add_word outer = refl
 
 pub right_add_over : (level : ℕ) (old : Spot) (refusal : ParseRefusal) → IsTrue (is_keyword FetchAdd old.left) → IsOver level [] old refusal → Lacks (right_phrase level) old refusal
 right_add_over level old refusal there over outer same =
-    known_over (AtRight outer) refl (Word FetchAdd) (right_level outer) level [] (Awaits (AddOpen (ResultOf outer))) same (add_word outer) old (λ placed rest first. keyword_there FetchAdd old.left rest placed first there) refusal over
+    known_over (AtRight outer) refl (Word FetchAdd) (right_level outer) level [] (Awaits (AddOpen (ResultOf outer))) same (add_word outer) old (keyword_begins FetchAdd old.left there) refusal over
 
 module _ (level : ℕ) (old mid : Spot) (there : IsTrue (is_keyword FetchAdd old.left)) (passed : HasPassed level [] old mid) where
   add_leads : (outer : RightIn) → right_level outer ≡ level → from (AtRight outer) old ≡ from (Awaits (AddOpen (ResultOf outer))) mid
   add_leads outer same =
-      known_passed (AtRight outer) refl (Word FetchAdd) (right_level outer) level [] (Awaits (AddOpen (ResultOf outer))) same (add_word outer) old (λ placed rest first. keyword_there FetchAdd old.left rest placed first there) mid passed
+      known_passed (AtRight outer) refl (Word FetchAdd) (right_level outer) level [] (Awaits (AddOpen (ResultOf outer))) same (add_word outer) old (keyword_begins FetchAdd old.left there) mid passed
 
   pub right_adds : (target : List ℕ) (new : Spot) (addition : Addition) → Parses (addition_phrase level) mid new addition → Parses (right_phrase level) old new (target, (stmt.Add (Some target) addition.name addition.index addition.addend))
   right_adds target new addition has = record {

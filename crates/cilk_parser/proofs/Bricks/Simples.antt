@@ -16,7 +16,7 @@ use Rattle.cilk_tree.specs.declared.tree.Stmt.TheVariants as stmt
 use Rattle.cilk_tree.specs.Levels.{change_sign, counting, mark, step_sign}
 use Rattle.cilk_tree.specs.Sugar.{direction_operator, expression_tree}
 use Rattle.cilk_tree.specs.Syntax.{Direction, Up, Down, Simple, Assignment, Change, Step, Storing}
-use Rattle.cilk_parser.specs.declared.opening.Opening.TheVariants.{Part, Whole}
+use Rattle.cilk_parser.specs.declared.opening.Opening.TheVariants.{Inside, Whole}
 use Rattle.cilk_parser.specs.declared.refusal.ParseRefusal.{ParseRefusal}
 use Rattle.cilk_parser.specs.declared.starts.SimpleStart.{SimpleStart}
 use Rattle.cilk_parser.specs.declared.starts.SimpleStart.TheVariants as start
@@ -27,8 +27,9 @@ use Rattle.cilk_parser.specs.Starts.{simple_start, starts_simple}
 use Rattle.cilk_parser.specs.Steps.{AfterName, AtRight, Awaits, SimpleEnd, StoreAssign, Wants, goes_on, is_mark, step, step_awaited, step_only}
 use Rattle.cilk_parser.proofs.Bricks.BehindOperand.{expression_ends}
 use Rattle.cilk_parser.proofs.Bricks.Stepping.{awaits_lacks, awaits_sign, from_steps, passed_shorter, refuses_as}
-use Rattle.cilk_parser.proofs.Bricks.Lists.{known_over, known_passed, state_refuses}
+use Rattle.cilk_parser.proofs.Bricks.Lists.{state_refuses}
 use Rattle.cilk_parser.proofs.Bricks.Firsts.{first_there}
+use Rattle.cilk_parser.proofs.Bricks.Beginnings.{known_passed, known_over}
 
 -- ---- what stands behind the name
 
@@ -159,12 +160,12 @@ module _ (level : ℕ) (name : List ℕ) (operator : BinaryOp) (old mid : Spot) 
       known_passed (AfterName outer name) refl (Mark (change_sign change_of.0)) (simple_level outer) level change_counts (Wants (ChangedBy outer name change_of.0)) same (changes_step outer name change_of.0) old
       (λ placed rest first. same_first old.left rest mid.left placed passed.placed (Mark (change_sign change_of.0)) passed.first change_of.1 first) mid passed
 
-  pub change_lacks : (refusal : ParseRefusal) → Lacks (expression_phrase 0 (level + 1) Part) mid refusal → LacksSimple level name old refusal
+  pub change_lacks : (refusal : ParseRefusal) → Lacks (expression_phrase 0 (level + 1) Inside) mid refusal → LacksSimple level name old refusal
   change_lacks refusal lacks outer same _ =
       refuses_as refusal (from (AfterName outer name) old) (from (Wants (ChangedBy outer name change_of.0)) mid) (change_leads outer same)
       (lacks (ChangedBy outer name change_of.0) (record { strong = refl; same_level = ap (λ l. l + 1) same; counted = refl }))
 
-  pub change_read : (new : Spot) (tree : Expr) → Parses (expression_phrase 0 (level + 1) Part) mid new tree → IsTrue (stops_below 0 new.left) → Parses (simple_phrase level name) old new (stmt.Assign name (expr.Binary operator (expr.Local name) tree))
+  pub change_read : (new : Spot) (tree : Expr) → Parses (expression_phrase 0 (level + 1) Inside) mid new tree → IsTrue (stops_below 0 new.left) → Parses (simple_phrase level name) old new (stmt.Assign name (expr.Binary operator (expr.Local name) tree))
   change_read new tree has stops = record {
     syntax = Change name change_of.0 has.syntax;
     same = ap (changed name tree) change_of.2 ∙ ap (λ t. changed name t (direction_operator change_of.0)) has.same;

@@ -10,7 +10,6 @@ use Rattle.cilk_tree.specs.declared.tree.Expr.{Expr}
 use Rattle.cilk_tree.specs.declared.tree.Stmt.{Stmt}
 use Rattle.cilk_tree.specs.declared.tree.Stmt.TheVariants as stmt
 use Rattle.cilk_tree.specs.Levels.{counting, mark}
-use Rattle.cilk_tree.specs.Sugar.{expression_tree}
 use Rattle.cilk_tree.specs.Syntax.{Simply, Calling, Adding, Syncing, Printing, Returning}
 use Rattle.cilk_parser.specs.declared.addition.Addition.{Addition}
 use Rattle.cilk_parser.specs.declared.call.Call.{Call}
@@ -22,10 +21,10 @@ use Rattle.cilk_parser.specs.Spots.{Spot, from, HasPassed, IsOver, HasRead, Lack
 use Rattle.cilk_parser.specs.Phrases.{Encloses, Lacks, LacksSimple, Parses, addition_phrase, arguments_phrase, condition_phrase, enclosed_phrase, simple_phrase, spawn_phrase, statement_phrase}
 use Rattle.cilk_parser.specs.Starts.{starts_statement}
 use Rattle.cilk_parser.specs.Steps.{Wants, Awaits, AwaitsName, AfterName, AfterReturn, AtArguments, AddOpen, AddedEnd, CalledEnd, PrintEnd, PrintOpen, SpawnedName, SyncEnd, after_statement, call_of, goes_on, is_mark, step, step_only, step_return, step_statement, step_wants}
-use Rattle.cilk_parser.proofs.Bricks.Beginnings.{begun_add, begun_over, begun_passed, begun_print, begun_return, begun_spawn, begun_sync, expects_step_named, sign_begins, statement_named, step_named, token_over, token_passed}
+use Rattle.cilk_parser.proofs.Bricks.Beginnings.{begun_add, begun_over, begun_passed, begun_print, begun_return, begun_spawn, begun_sync, expects_step_named, sign_begins, statement_named, step_named, token_over, token_passed, known_passed, known_over}
 use Rattle.cilk_parser.proofs.Bricks.Conditions.{value_of_print}
 use Rattle.cilk_parser.proofs.Bricks.Stepping.{awaits_lacks, awaits_sign, from_steps, lacks_name, passed_shorter, reads_name, refuses_as, sign_absent, stepping_same}
-use Rattle.cilk_parser.proofs.Bricks.Heads.{simple_ends, simple_open, state_over, state_passed}
+use Rattle.cilk_parser.proofs.Bricks.Heads.{simple_ends, simple_open}
 
 semicolon : (outer : StatementIn) (level : ℕ) → statement_level outer ≡ level → mark (statement_level outer) sign.Semicolon ≡ mark level sign.Semicolon
 semicolon outer level same = ap (λ l. mark l sign.Semicolon) same
@@ -155,7 +154,7 @@ module _ (level : ℕ) (old middle : Spot) (there : starts_statement old.left �
 
     pub return_end_over : (refusal : ParseRefusal) → IsOver level [] middle refusal → Lacks (statement_phrase level) old refusal
     return_end_over refusal over outer same =
-        refuses_as refusal _ _ (to_value outer same) (state_over (AfterReturn outer) (after_statement outer (Returning None)) refl level (Mark sign.Semicolon) (goes_back outer same) middle (sign_begins sign.Semicolon middle.left ends) refusal over)
+        refuses_as refusal _ _ (to_value outer same) (known_over (AfterReturn outer) refl (Mark sign.Semicolon) level level [] (after_statement outer (Returning None)) refl (goes_back outer same) middle (sign_begins sign.Semicolon middle.left ends) refusal over)
 
     pub return_reads : (new : Spot) (before now : List Stmt) → HasPassed level [] middle new → now ≡ before ++ stmt.Return None ∷ [] → Parses (statement_phrase level) old new (before, now)
     return_reads new before now ended added = record {
@@ -163,7 +162,7 @@ module _ (level : ℕ) (old middle : Spot) (there : starts_statement old.left �
       same = added;
       shorter = let a = passed_shorter level [] old middle passed in let b = passed_shorter level [] middle new ended in omega arith;
       leads = λ outer same.
-          to_value outer same ∙ state_passed (AfterReturn outer) (after_statement outer (Returning None)) refl level (Mark sign.Semicolon) (goes_back outer same) middle (sign_begins sign.Semicolon middle.left ends) new ended;
+          to_value outer same ∙ known_passed (AfterReturn outer) refl (Mark sign.Semicolon) level level [] (after_statement outer (Returning None)) refl (goes_back outer same) middle (sign_begins sign.Semicolon middle.left ends) new ended;
     }
 
   module _ (absent : is_sign sign.Semicolon middle.left ≡ false) where

@@ -18,7 +18,7 @@ use Rattle.cilk_tree.specs.Token.{sign_text}
 use Rattle.cilk_parser.proofs.Signs.{same_sign}
 use Rattle.cilk_parser.specs.declared.parser.End.{End}
 use Rattle.cilk_parser.specs.declared.refusal.ParseRefusal.{ParseRefusal}
-use Rattle.cilk_parser.specs.Spots.{Spot, from, Refuses, end_refusal, unexpected_of, is_sign, is_keyword, is_word, HasPassed, IsOver, HasRead, LacksSign, HasNamed, LacksName, is_named, is_name_token, stepping}
+use Rattle.cilk_parser.specs.Spots.{Spot, from, Refuses, end_refusal, unexpected_of, is_sign, is_keyword, is_keyword_token, HasPassed, IsOver, HasRead, LacksSign, HasNamed, LacksName, is_named, is_name_token, stepping}
 use Rattle.cilk_parser.specs.Run.{Answer, Refused, Within, Over, at_end, if_within, judge, judge_token, judge_on, run, run_step, run_judged}
 use Rattle.cilk_parser.specs.Steps.{State, Items, Awaited, Awaits, NameAwaited, AwaitsName, Next, step, finish, pending, goes_on, is_mark, step_only, step_name, awaited_token, awaited_state, named_token, named_state}
 use Rattle.cilk_parser.specs.declared.tallies.Tallies.{Tallies}
@@ -114,7 +114,7 @@ sign_there sign left places placed first there = sym (same_sign (Mark sign) plac
 pub sign_absent : (sign : Sign) (left places : List Placed) (placed : Placed) → left ≡ placed ∷ places → is_sign sign left ≡ false → is_mark sign placed.token ≡ false
 sign_absent sign left places placed first absent = subst (λ l. is_sign sign l ≡ false) first absent
 
-pub keyword_absent : (word : Keyword) (left places : List Placed) (placed : Placed) → left ≡ placed ∷ places → is_keyword word left ≡ false → is_word word placed.token ≡ false
+pub keyword_absent : (word : Keyword) (left places : List Placed) (placed : Placed) → left ≡ placed ∷ places → is_keyword word left ≡ false → is_keyword_token word placed.token ≡ false
 keyword_absent word left places placed first absent = subst (λ l. is_keyword word l ≡ false) first absent
 
 pub name_absent : (left places : List Placed) (placed : Placed) → left ≡ placed ∷ places → is_named left ≡ false → is_name_token placed.token ≡ false

@@ -7,7 +7,7 @@ use Rattle.cilk_tree.specs.declared.token.Token.TheVariants.{Name, Number, Word,
 use Rattle.cilk_tree.specs.Levels.{Spelled}
 use Rattle.cilk_tree.specs.Syntax as syntax
 use Rattle.cilk_tree.specs.Syntax.{NoParameters, VoidParameters, Named, Array, NoStart, SimpleStart, DeclaringStart, Simply, Syncing, Printing, Declaration, Assignment, Change, Storing, Valued, Commas, Declarator, Expression, Numeral, Variable, Element, Group, Prefix, Infix, Right, Value, Call, Addition, Simple, Statement, IfAlone, IfElse, WhileLoop, ForLoop, Nothing, Returning, Start, Body, Braced, Single, Inners, NoInners, ThenInner, Block, Stated, Source}
-use Rattle.cilk_parser.specs.Contexts.{Heading, with_last, InnersIn, FunctionBody, InBlock, InBody, BodyIn, IfTaken, IfOtherwise, WhileBody, ForBody, StatementIn, InInners, AsBody, SimpleIn, AsStatement, AsForStart, AsForLast, DeclareIn, AsDeclaration, AsForDeclaration, RightIn, Assigned, Declared, CallIn, ResultOf, Called, Around, ValueOf, ArgumentOf, AddedAt, AddendOf, ChangedBy, StoredAt, StoredIn, IfCondition, WhileCondition, ForCondition, Printed, Returned, RightOf, Under, InIndex, InGroup}
+use Rattle.cilk_parser.specs.Contexts.{Heading, with_last, InnersIn, FunctionBody, InBlock, InBody, BodyIn, IfTaken, IfOtherwise, WhileBody, ForBody, StatementIn, InInners, AsBody, SimpleIn, AsStatement, AsForStart, AsForLast, DeclareIn, AsDeclaration, AsForDeclaration, RightIn, Assigned, Declared, CallIn, ResultOf, Called, ExpressionIn, ValueOf, ArgumentOf, AddedAt, AddendOf, ChangedBy, StoredAt, StoredIn, IfCondition, WhileCondition, ForCondition, Printed, Returned, RightOf, Under, InIndex, InGroup}
 use Rattle.cilk_parser.specs.Run.{all_behind, walk}
 use Rattle.cilk_parser.specs.Steps.{Awaited, ArrayOpen, ArrayClose, ParametersOpen, VoidClose, BodyOpen, CallOpen, CalledEnd, AddOpen, AddIndexOpen, AddComma, AddedEnd, SimpleEnd, StoreAssign, SyncEnd, IfOpen, WhileOpen, ForOpen, PrintOpen, PrintEnd, NameAwaited, FunctionName, ArrayName, ParameterName, DeclaratorName, SpawnedName, AddedName, State, Items, AfterCilk, AfterInt, AfterIntName, ArraySize, AfterArray, ParametersStart, AfterParameter, NextParameter, AtInner, AtBody, HasBody, AfterDeclarator, HasDeclarators, AtRight, AfterRightName, AtArguments, AfterName, AtForStart, AtForCondition, AtForLast, AfterReturn, Wants, Has, Awaits, AwaitsName, goes, after_statement, after_inners, after_right, after_call, after_addition, addition_of, ended_body, ended_statement, token_operator, call_of, named_state, step_awaited, step_declarators, step_end, step}
 use Rattle.cilk_parser.proofs.LedThrough.Operands.{is_index, end_step}
@@ -109,7 +109,7 @@ addition_ends (Called outer) addition = ends_on (Awaits (AddedEnd outer addition
 -- ---- expressions
 
 -- This token ends the operand, and then some lead to the end of a source.
-record IsClosed (around : Around) (operand : Expression) : Type 0 where
+record IsClosed (around : ExpressionIn) (operand : Expression) : Type 0 where
   token : Token
   other : is_index token ≡ false
   ends : token_operator token ≡ None
@@ -118,25 +118,25 @@ record IsClosed (around : Around) (operand : Expression) : Type 0 where
   stepped : step_end around operand token ≡ goes emitted next
   on : Ends next
 
-closed_by : {around : Around} {operand : Expression} (token : Token) {emitted : List Spelled} {next : State} → is_index token ≡ false → token_operator token ≡ None →
+closed_by : {around : ExpressionIn} {operand : Expression} (token : Token) {emitted : List Spelled} {next : State} → is_index token ≡ false → token_operator token ≡ None →
     step_end around operand token ≡ goes emitted next → Ends next → IsClosed around operand
 closed_by token other ends stepped on = record { token = token; other = other; ends = ends; emitted = _; next = _; stepped = stepped; on = on }
 
-has_ends : (around : Around) (operand : Expression) → IsClosed around operand → Ends (Has around operand)
+has_ends : (around : ExpressionIn) (operand : Expression) → IsClosed around operand → Ends (Has around operand)
 has_ends around operand h = ends_on (Has around operand) h.next h.token h.emitted (end_step around operand h.token h.other h.ends ∙ h.stepped) h.on
 
-wants_ends : (around : Around) → IsClosed around (Numeral (pos 0)) → Ends (Wants around)
+wants_ends : (around : ExpressionIn) → IsClosed around (Numeral (pos 0)) → Ends (Wants around)
 unfolding step
 wants_ends around h = ends_on (Wants around) _ (Number (pos 0)) _ refl (has_ends around (Numeral (pos 0)) h)
 
-closed_simple : (around : Around) (operand : Expression) (outer : SimpleIn) (simple : Simple) → ((token : Token) →
+closed_simple : (around : ExpressionIn) (operand : Expression) (outer : SimpleIn) (simple : Simple) → ((token : Token) →
     step_end around operand token ≡ step_awaited (SimpleEnd outer simple) token) → IsClosed around operand
 closed_simple around operand (AsStatement outer) simple same = closed_by (Mark sign.Semicolon) refl refl (same (Mark sign.Semicolon)) (statement_ends outer (Simply simple))
 closed_simple around operand (AsForStart outer) simple same = closed_by (Mark sign.Semicolon) refl refl (same (Mark sign.Semicolon)) (condition_ends outer (SimpleStart simple))
 closed_simple around operand (AsForLast outer start condition) simple same =
     closed_by (Mark sign.CloseParen) refl refl (same (Mark sign.CloseParen)) (at_body_ends (ForBody outer start condition (Some simple)))
 
-closed_declarators : (around : Around) (operand : Expression) (outer : DeclareIn) (declarators : Commas Declarator) → ((token : Token) →
+closed_declarators : (around : ExpressionIn) (operand : Expression) (outer : DeclareIn) (declarators : Commas Declarator) → ((token : Token) →
     step_end around operand token ≡ step_declarators outer declarators token) →
     IsClosed around operand
 closed_declarators around operand (AsDeclaration outer before) declarators same =
@@ -159,7 +159,7 @@ print_ends : (outer : StatementIn) (value : Expression) → Ends (Awaits (PrintE
 unfolding step
 print_ends outer value = ends_on (Awaits (PrintEnd outer value)) _ (Mark sign.Semicolon) _ refl (statement_ends outer (Printing value))
 
-closed : (around : Around) (operand : Expression) → IsClosed around operand
+closed : (around : ExpressionIn) (operand : Expression) → IsClosed around operand
 closed (RightOf around left operator) operand = let h = closed around (Infix left operator operand) in closed_by h.token h.other h.ends h.stepped h.on
 closed (Under around operator) operand = let h = closed around (Prefix operator operand) in closed_by h.token h.other h.ends h.stepped h.on
 closed (InGroup around) operand = closed_by (Mark sign.CloseParen) refl refl refl (has_ends around (Group operand) (closed around (Group operand)))
@@ -178,7 +178,7 @@ closed (ForCondition outer start) operand = closed_by (Mark sign.Semicolon) refl
 closed (Printed outer) operand = closed_by (Mark sign.CloseParen) refl refl refl (print_ends outer operand)
 closed (Returned outer) operand = closed_by (Mark sign.Semicolon) refl refl refl (statement_ends outer (Returning (Some operand)))
 
-operand_ends : (around : Around) → Ends (Wants around)
+operand_ends : (around : ExpressionIn) → Ends (Wants around)
 operand_ends around = wants_ends around (closed around (Numeral (pos 0)))
 
 -- ---- items and heads

@@ -8,14 +8,14 @@ use Rattle.cilk_tree.specs.declared.count.Counted.TheVariants.{Operators}
 use Rattle.cilk_tree.specs.declared.count.Count.TheVariants.{OneMore}
 use Rattle.cilk_tree.specs.Levels.{Spelled, counting, operator_sign}
 use Rattle.cilk_tree.specs.Syntax.{Expression, Prefix, Infix, operator_strength, strength}
-use Rattle.cilk_parser.specs.Contexts.{Around, ValueOf, ArgumentOf, AddedAt, AddendOf, ChangedBy, StoredAt, StoredIn, IfCondition, WhileCondition, ForCondition, Printed, Returned, RightOf, Under, InIndex, InGroup, level_of, least_strength}
+use Rattle.cilk_parser.specs.Contexts.{ExpressionIn, ValueOf, ArgumentOf, AddedAt, AddendOf, ChangedBy, StoredAt, StoredIn, IfCondition, WhileCondition, ForCondition, Printed, Returned, RightOf, Under, InIndex, InGroup, level_of, least_strength}
 use Rattle.cilk_parser.specs.Steps.{with_operator}
 use Rattle.cilk_parser.proofs.Emitted.Advancing.{both}
 use Rattle.cilk_parser.proofs.Signs.{strength_most}
-use Rattle.cilk_parser.proofs.Emitted.SoFar.{around_so_far, has_so_far}
+use Rattle.cilk_parser.proofs.Emitted.SoFar.{expression_so_far, has_so_far}
 use Rattle.cilk_parser.proofs.Emitted.Valid.{IsOpen, IsOperand}
 
-pub least_most : (around : Around) → least_strength around ≤ 7
+pub least_most : (around : ExpressionIn) → least_strength around ≤ 7
 least_most (RightOf around left operator) = omega (arith, strength_most operator)
 least_most (Under around operator) = omega arith
 least_most (ValueOf outer) = omega arith
@@ -34,33 +34,33 @@ least_most (InIndex around name) = omega arith
 least_most (InGroup around) = omega arith
 
 -- The operator before an operand makes one whole of both.
-pub infix_whole : (around : Around) (left right : Expression) (operator : BinaryOp) → IsOperand (RightOf around left operator) right → IsOperand around (Infix left operator right)
+pub infix_whole : (around : ExpressionIn) (left right : Expression) (operator : BinaryOp) → IsOperand (RightOf around left operator) right → IsOperand around (Infix left operator right)
 infix_whole around left right operator h = record {
   opened = h.opened.0;
   grouped = both (both (both (le-leb _ _ h.opened.2) (lt-ltb _ _ (let a : operator_strength operator + 1 ≤ strength right = h.strong in omega arith))) h.opened.1) h.grouped;
   strong = h.opened.3;
 }
 
-pub prefix_whole : (around : Around) (operand : Expression) (operator : UnaryOp) → IsOperand (Under around operator) operand → IsOperand around (Prefix operator operand)
+pub prefix_whole : (around : ExpressionIn) (operand : Expression) (operator : UnaryOp) → IsOperand (Under around operator) operand → IsOperand around (Prefix operator operand)
 prefix_whole around operand operator h = record { opened = h.opened; grouped = both (le-leb _ _ h.strong) h.grouped; strong = least_most around }
 
-pub infix_spelled : (around : Around) (left right : Expression) (operator : BinaryOp) → has_so_far (RightOf around left operator) right ≡ has_so_far around (Infix left operator right)
+pub infix_spelled : (around : ExpressionIn) (left right : Expression) (operator : BinaryOp) → has_so_far (RightOf around left operator) right ≡ has_so_far around (Infix left operator right)
 infix_spelled around left right operator = simp append_assoc
 
-pub prefix_spelled : (around : Around) (operand : Expression) (operator : UnaryOp) → has_so_far (Under around operator) operand ≡ has_so_far around (Prefix operator operand)
+pub prefix_spelled : (around : ExpressionIn) (operand : Expression) (operator : UnaryOp) → has_so_far (Under around operator) operand ≡ has_so_far around (Prefix operator operand)
 prefix_spelled around operand operator = simp append_assoc
 
 -- The operator goes on with the operand.
-pub record Operates (seen : List Spelled) (operator : BinaryOp) (next : Around) : Type 0 where
+pub record Operates (seen : List Spelled) (operator : BinaryOp) (next : ExpressionIn) : Type 0 where
   pub opened : IsOpen next
-  pub same : around_so_far next ≡ seen ++ counting (level_of next) (OneMore Operators ∷ []) (Mark (operator_sign operator)) ∷ []
+  pub same : expression_so_far next ≡ seen ++ counting (level_of next) (OneMore Operators ∷ []) (Mark (operator_sign operator)) ∷ []
 
 module _ (operator : BinaryOp) where
-  taken : (around : Around) (operand : Expression) → IsOperand around operand → operator_strength operator ≤ strength operand → least_strength around ≤ operator_strength operator →
+  taken : (around : ExpressionIn) (operand : Expression) → IsOperand around operand → operator_strength operator ≤ strength operand → least_strength around ≤ operator_strength operator →
       Operates (has_so_far around operand) operator (RightOf around operand operator)
   taken around operand h weak strong = record { opened = (h.opened, h.grouped, weak, strong); same = refl }
 
-  choice : (around : Around) (left operand : Expression) (before : BinaryOp) (stronger : Bool) → nat_lt (operator_strength before) (operator_strength operator) ≡ stronger →
+  choice : (around : ExpressionIn) (left operand : Expression) (before : BinaryOp) (stronger : Bool) → nat_lt (operator_strength before) (operator_strength operator) ≡ stronger →
       IsOperand (RightOf around left before) operand → operator_strength operator ≤ strength operand →
       (operator_strength operator ≤ operator_strength before → Operates (has_so_far around (Infix left before operand)) operator (with_operator around (Infix left before operand) operator)) →
       Operates (has_so_far (RightOf around left before) operand) operator
@@ -70,7 +70,7 @@ module _ (operator : BinaryOp) where
       subst (λ s. Operates s operator (with_operator around (Infix left before operand) operator)) (sym (infix_spelled around left operand before))
       (other (ltb-false (operator_strength before) (operator_strength operator) test))
 
-  pub operates : (around : Around) (operand : Expression) → IsOperand around operand → operator_strength operator ≤ strength operand → Operates (has_so_far around operand) operator (with_operator around operand operator)
+  pub operates : (around : ExpressionIn) (operand : Expression) → IsOperand around operand → operator_strength operator ≤ strength operand → Operates (has_so_far around operand) operator (with_operator around operand operator)
   operates (RightOf around left before) operand h weak =
       choice around left operand before (nat_lt (operator_strength before) (operator_strength operator)) refl h weak
       (λ weaker. operates around (Infix left before operand) (infix_whole around left operand before h) weaker)

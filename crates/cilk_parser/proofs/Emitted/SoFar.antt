@@ -8,7 +8,7 @@ use Rattle.cilk_tree.specs.declared.count.Count.TheVariants.{Anew, OneMore}
 use Rattle.cilk_tree.specs.Levels.{Spelled, counting, plain, mark, word_at, operator_sign, unary_sign, change_sign, spell_expression, spell_whole, spell_argument, spell_commas, spell_any, spawn_word, spell_call, spell_addition, spell_declarator, spell_simple, spell_start, spell_condition, spell_inners, spell_body, spell_parameter, spell_parameters, spell_head, spell_array, spell_source}
 use Rattle.cilk_tree.specs.Syntax as syntax
 use Rattle.cilk_tree.specs.Syntax.{Commas, Expression, Declarator, Simple, Array}
-use Rattle.cilk_parser.specs.Contexts.{Heading, InnersIn, FunctionBody, InBlock, InBody, BodyIn, IfTaken, IfOtherwise, WhileBody, ForBody, StatementIn, InInners, AsBody, inners_level, statement_level, owner_level, body_level, SimpleIn, AsStatement, AsForStart, AsForLast, simple_level, DeclareIn, AsDeclaration, AsForDeclaration, declare_level, RightIn, Assigned, Declared, CallIn, ResultOf, Called, call_level, Around, ValueOf, ArgumentOf, AddedAt, AddendOf, ChangedBy, StoredAt, StoredIn, IfCondition, WhileCondition, ForCondition, Printed, Returned, RightOf, Under, InIndex, InGroup, level_of, first_counts}
+use Rattle.cilk_parser.specs.Contexts.{Heading, InnersIn, FunctionBody, InBlock, InBody, BodyIn, IfTaken, IfOtherwise, WhileBody, ForBody, StatementIn, InInners, AsBody, inners_level, statement_level, owner_level, body_level, SimpleIn, AsStatement, AsForStart, AsForLast, simple_level, DeclareIn, AsDeclaration, AsForDeclaration, declare_level, RightIn, Assigned, Declared, CallIn, ResultOf, Called, call_level, ExpressionIn, ValueOf, ArgumentOf, AddedAt, AddendOf, ChangedBy, StoredAt, StoredIn, IfCondition, WhileCondition, ForCondition, Printed, Returned, RightOf, Under, InIndex, InGroup, level_of, first_counts}
 use Rattle.cilk_parser.specs.Steps.{Awaited, ArrayOpen, ArrayClose, ParametersOpen, VoidClose, BodyOpen, CallOpen, CalledEnd, AddOpen, AddIndexOpen, AddComma, AddedEnd, SimpleEnd, StoreAssign, SyncEnd, IfOpen, WhileOpen, ForOpen, PrintOpen, PrintEnd, NameAwaited, FunctionName, ArrayName, ParameterName, DeclaratorName, SpawnedName, AddedName, State, Items, AfterCilk, AfterInt, AfterIntName, ArraySize, AfterArray, ParametersStart, AfterParameter, NextParameter, AtInner, AtBody, HasBody, AfterDeclarator, HasDeclarators, AtRight, AfterRightName, AtArguments, AfterName, AtForStart, AtForCondition, AtForLast, AfterReturn, Wants, Has, Awaits, AwaitsName, function_counts}
 
 -- what stands before the next of a list with commas
@@ -99,34 +99,34 @@ add_so_far outer name =
 
 -- ---- expressions
 
-abbrev pub around_so_far : Around → List Spelled
-around_so_far (ValueOf outer) = right_so_far outer
-around_so_far (ArgumentOf outer spawned name before) = arguments_so_far outer spawned name before
-around_so_far (AddedAt outer name) = add_so_far outer name
-around_so_far (AddendOf outer name index) =
+abbrev pub expression_so_far : ExpressionIn → List Spelled
+expression_so_far (ValueOf outer) = right_so_far outer
+expression_so_far (ArgumentOf outer spawned name before) = arguments_so_far outer spawned name before
+expression_so_far (AddedAt outer name) = add_so_far outer name
+expression_so_far (AddendOf outer name index) =
     add_so_far outer name ++ spell_whole (call_level outer + 1) index ++ mark (call_level outer) sign.CloseBracket ∷ mark (call_level outer) sign.Comma ∷ []
-around_so_far (ChangedBy outer name direction) =
+expression_so_far (ChangedBy outer name direction) =
     simple_so_far outer ++ plain (simple_level outer) (Name name)
     ∷ counting (simple_level outer) (Anew Operators ∷ OneMore Operators ∷ []) (Mark (change_sign direction)) ∷ []
-around_so_far (StoredAt outer name) = simple_so_far outer ++ plain (simple_level outer) (Name name) ∷ mark (simple_level outer) sign.OpenBracket ∷ []
-around_so_far (StoredIn outer name index) =
+expression_so_far (StoredAt outer name) = simple_so_far outer ++ plain (simple_level outer) (Name name) ∷ mark (simple_level outer) sign.OpenBracket ∷ []
+expression_so_far (StoredIn outer name index) =
     simple_so_far outer ++ plain (simple_level outer) (Name name) ∷ mark (simple_level outer) sign.OpenBracket ∷ spell_whole (simple_level outer + 1) index
     ++ mark (simple_level outer) sign.CloseBracket ∷ mark (simple_level outer) sign.Assign ∷ []
-around_so_far (IfCondition outer) = statement_so_far outer ++ word_at (statement_level outer) word.If ∷ mark (statement_level outer) sign.OpenParen ∷ []
-around_so_far (WhileCondition outer) = statement_so_far outer ++ word_at (statement_level outer) word.While ∷ mark (statement_level outer) sign.OpenParen ∷ []
-around_so_far (ForCondition outer start) = statement_so_far outer ++ start_so_far (statement_level outer) start
-around_so_far (Printed outer) = statement_so_far outer ++ word_at (statement_level outer) word.Print ∷ mark (statement_level outer) sign.OpenParen ∷ []
-around_so_far (Returned outer) = statement_so_far outer ++ word_at (statement_level outer) word.Return ∷ []
-around_so_far (RightOf around left operator) =
-    around_so_far around ++ spell_expression (level_of around) (first_counts around) left
+expression_so_far (IfCondition outer) = statement_so_far outer ++ word_at (statement_level outer) word.If ∷ mark (statement_level outer) sign.OpenParen ∷ []
+expression_so_far (WhileCondition outer) = statement_so_far outer ++ word_at (statement_level outer) word.While ∷ mark (statement_level outer) sign.OpenParen ∷ []
+expression_so_far (ForCondition outer start) = statement_so_far outer ++ start_so_far (statement_level outer) start
+expression_so_far (Printed outer) = statement_so_far outer ++ word_at (statement_level outer) word.Print ∷ mark (statement_level outer) sign.OpenParen ∷ []
+expression_so_far (Returned outer) = statement_so_far outer ++ word_at (statement_level outer) word.Return ∷ []
+expression_so_far (RightOf around left operator) =
+    expression_so_far around ++ spell_expression (level_of around) (first_counts around) left
     ++ counting (level_of around) (OneMore Operators ∷ []) (Mark (operator_sign operator)) ∷ []
-around_so_far (Under around operator) =
-    around_so_far around ++ counting (level_of around) (first_counts around ++ OneMore Operators ∷ []) (Mark (unary_sign operator)) ∷ []
-around_so_far (InIndex around name) = around_so_far around ++ counting (level_of around) (first_counts around) (Name name) ∷ mark (level_of around) sign.OpenBracket ∷ []
-around_so_far (InGroup around) = around_so_far around ++ counting (level_of around) (first_counts around) (Mark sign.OpenParen) ∷ []
+expression_so_far (Under around operator) =
+    expression_so_far around ++ counting (level_of around) (first_counts around ++ OneMore Operators ∷ []) (Mark (unary_sign operator)) ∷ []
+expression_so_far (InIndex around name) = expression_so_far around ++ counting (level_of around) (first_counts around) (Name name) ∷ mark (level_of around) sign.OpenBracket ∷ []
+expression_so_far (InGroup around) = expression_so_far around ++ counting (level_of around) (first_counts around) (Mark sign.OpenParen) ∷ []
 
-abbrev pub has_so_far : Around → Expression → List Spelled
-has_so_far around operand = around_so_far around ++ spell_expression (level_of around) (first_counts around) operand
+abbrev pub has_so_far : ExpressionIn → Expression → List Spelled
+has_so_far around operand = expression_so_far around ++ spell_expression (level_of around) (first_counts around) operand
 
 -- ---- states
 
@@ -189,7 +189,7 @@ so_far (AtForStart outer) = simple_so_far (AsForStart outer)
 so_far (AtForCondition outer start) = statement_so_far outer ++ start_so_far (statement_level outer) start
 so_far (AtForLast outer start condition) = simple_so_far (AsForLast outer start condition)
 so_far (AfterReturn outer) = statement_so_far outer ++ word_at (statement_level outer) word.Return ∷ []
-so_far (Wants around) = around_so_far around
+so_far (Wants around) = expression_so_far around
 so_far (Has around operand) = has_so_far around operand
 so_far (Awaits awaited) = awaited_so_far awaited
 so_far (AwaitsName awaited) = named_so_far awaited

@@ -1,7 +1,7 @@
 -- What the machine carries is well formed.
 use Rattle.std.specs.Prelude.{◌≤◌, not, IsTrue, Option}
 use Rattle.cilk_tree.specs.Syntax.{Commas, Expression, Declarator, Body, is_grouped, is_simple, is_start, is_call, is_addition, is_declarator, each_of, if_any, are_inners, is_body, dangles, operator_strength, strength, IsWellFormed}
-use Rattle.cilk_parser.specs.Contexts.{InnersIn, FunctionBody, InBlock, InBody, BodyIn, IfTaken, IfOtherwise, WhileBody, ForBody, StatementIn, InInners, AsBody, SimpleIn, AsStatement, AsForStart, AsForLast, DeclareIn, AsDeclaration, AsForDeclaration, RightIn, Assigned, Declared, CallIn, ResultOf, Called, Around, ValueOf, ArgumentOf, AddedAt, AddendOf, ChangedBy, StoredAt, StoredIn, IfCondition, WhileCondition, ForCondition, Printed, Returned, RightOf, Under, InIndex, InGroup, least_strength}
+use Rattle.cilk_parser.specs.Contexts.{InnersIn, FunctionBody, InBlock, InBody, BodyIn, IfTaken, IfOtherwise, WhileBody, ForBody, StatementIn, InInners, AsBody, SimpleIn, AsStatement, AsForStart, AsForLast, DeclareIn, AsDeclaration, AsForDeclaration, RightIn, Assigned, Declared, CallIn, ResultOf, Called, ExpressionIn, ValueOf, ArgumentOf, AddedAt, AddendOf, ChangedBy, StoredAt, StoredIn, IfCondition, WhileCondition, ForCondition, Printed, Returned, RightOf, Under, InIndex, InGroup, least_strength}
 use Rattle.cilk_parser.specs.Steps.{Awaited, ArrayOpen, ArrayClose, ParametersOpen, VoidClose, BodyOpen, CallOpen, CalledEnd, AddOpen, AddIndexOpen, AddComma, AddedEnd, SimpleEnd, StoreAssign, SyncEnd, IfOpen, WhileOpen, ForOpen, PrintOpen, PrintEnd, NameAwaited, FunctionName, ArrayName, ParameterName, DeclaratorName, SpawnedName, AddedName, State, Items, AfterCilk, AfterInt, AfterIntName, ArraySize, AfterArray, ParametersStart, AfterParameter, NextParameter, AtInner, AtBody, HasBody, AfterDeclarator, HasDeclarators, AtRight, AfterRightName, AtArguments, AfterName, AtForStart, AtForCondition, AtForLast, AfterReturn, Wants, Has, Awaits, AwaitsName}
 
 -- ---- contexts
@@ -42,7 +42,7 @@ abbrev pub IsCallOpen : CallIn → Type 0
 IsCallOpen (ResultOf outer) = IsRightOpen outer
 IsCallOpen (Called outer) = IsStatementOpen outer
 
-abbrev pub IsOpen : Around → Type 0
+abbrev pub IsOpen : ExpressionIn → Type 0
 IsOpen (ValueOf outer) = IsRightOpen outer
 IsOpen (ArgumentOf outer spawned name before) = IsCallOpen outer × IsTrue (if_any (each_of is_grouped) before)
 IsOpen (AddedAt outer name) = IsCallOpen outer
@@ -62,7 +62,7 @@ IsOpen (InIndex around name) = IsOpen around
 IsOpen (InGroup around) = IsOpen around
 
 -- The expression may stand there.
-pub record IsOperand (around : Around) (operand : Expression) : Type 0 where
+pub record IsOperand (around : ExpressionIn) (operand : Expression) : Type 0 where
   pub opened : IsOpen around
   pub grouped : IsTrue (is_grouped operand)
   pub strong : least_strength around ≤ strength operand

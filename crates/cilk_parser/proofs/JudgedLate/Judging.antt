@@ -8,7 +8,7 @@ use Rattle.cilk_tree.specs.declared.token.Placed.{Placed}
 use Rattle.cilk_tree.specs.Counts.{is_long}
 use Rattle.cilk_tree.specs.Levels.{Spelled}
 use Rattle.cilk_parser.specs.declared.tallies.Tallies.{Tallies}
-use Rattle.cilk_parser.specs.Run.{Judged, Within, Over, judge, judge_on, judge_token}
+use Rattle.cilk_parser.specs.Run.{Tallied, Within, Over, judge, judge_on, judge_token}
 use Rattle.cilk_parser.specs.Tally.{all_counted_on, is_over}
 use Rattle.cilk_parser.proofs.JudgedLate.Limits.{counted_append, counts_of}
 
@@ -126,7 +126,7 @@ judge_append t (spelled ∷ first) last [] more fits = absurd (omega arith)
 judge_append t (spelled ∷ first) last (placed ∷ places) more fits =
     behind (judge_token t spelled placed.offset) (λ next. judge_append next first last places more (omega arith))
   where
-    behind : (judged : Judged) → ((next : Tallies) → judge next (first ++ last) (places ++ more) ≡ judge_on (judge next first places) (λ end. judge end last (drop (length first) places ++ more))) →
+    behind : (judged : Tallied) → ((next : Tallies) → judge next (first ++ last) (places ++ more) ≡ judge_on (judge next first places) (λ end. judge end last (drop (length first) places ++ more))) →
         judge_on judged (λ next. judge next (first ++ last) (places ++ more)) ≡ judge_on (judge_on judged (λ next. judge next first places)) (λ end. judge end last (drop (length first) places ++ more))
     behind (Within next) on = on next
     behind (Over kind offset) on = refl

@@ -12,7 +12,7 @@ use Rattle.cilk_tree.specs.Syntax.{Empty}
 use Rattle.cilk_parser.specs.declared.parser.End.{End}
 use Rattle.cilk_parser.specs.declared.tallies.Tallies.{Tallies}
 use Rattle.cilk_parser.specs.Phrases.{answer_on}
-use Rattle.cilk_parser.specs.Run.{Answer, Refused, Judged, Within, Over, Reading, all_behind, at_end, if_within, judge, judge_on, read_on, run, run_judged, run_step, walk}
+use Rattle.cilk_parser.specs.Run.{Answer, Refused, Tallied, Within, Over, Reading, all_behind, at_end, if_within, judge, judge_on, read_on, run, run_judged, run_step, walk}
 use Rattle.cilk_parser.specs.Steps.{State, Items, Next, finish, pending, step}
 use Rattle.cilk_parser.specs.Tally.{none_counted}
 use Rattle.cilk_parser.proofs.Begun.{IsStuck, all_spelled, goes_behind, same_size, walk_is_sound}
@@ -117,7 +117,7 @@ module _ (end : End) (front : List Placed) (placed : Placed) (places : List Plac
       ∙ ap (λ judged. judge_on judged (λ t. judge t (pending next.state) (drop (length next.emitted) waits ++ []))) j
 
   outcome_judged : (next : Next) → step reading.state placed.token ≡ Some next → (on : Reading → Answer) → ((there : Reading) → Standing now there → Outcome end (now ++ places) (on there)) →
-      (judged : Judged) → judge reading.tallies next.emitted waits ≡ judged → Outcome end (front ++ placed ∷ places) (run_judged next waits on judged)
+      (judged : Tallied) → judge reading.tallies next.emitted waits ≡ judged → Outcome end (front ++ placed ∷ places) (run_judged next waits on judged)
   outcome_judged next e on outcome (Within t) j =
       subst (λ p. Outcome end p (on (read_on next.state t next.emitted waits))) (append_assoc front (placed ∷ []) places) (outcome (read_on next.state t next.emitted waits) (stands_on next t e j))
   outcome_judged next e on outcome (Over kind offset) j =

@@ -14,7 +14,7 @@ use Rattle.cilk_tree.specs.declared.count.Count.TheVariants.{OneMore}
 use Rattle.cilk_tree.specs.declared.count.Counted.TheVariants.{Operators}
 use Rattle.cilk_tree.specs.Levels.{counting, operator_sign, unary_sign, spell_expression}
 use Rattle.cilk_tree.specs.Syntax.{Expression, Numeral, Variable, Element, Group, Prefix, Infix, operator_strength, strength, is_grouped}
-use Rattle.cilk_parser.specs.Contexts.{Around, ValueOf, ArgumentOf, AddedAt, AddendOf, ChangedBy, StoredAt, StoredIn, IfCondition, WhileCondition, ForCondition, Printed, Returned, RightOf, Under, InIndex, InGroup, level_of, least_strength}
+use Rattle.cilk_parser.specs.Contexts.{ExpressionIn, ValueOf, ArgumentOf, AddedAt, AddendOf, ChangedBy, StoredAt, StoredIn, IfCondition, WhileCondition, ForCondition, Printed, Returned, RightOf, Under, InIndex, InGroup, level_of, least_strength}
 use Rattle.cilk_parser.specs.Run.{reads, walk}
 use Rattle.cilk_parser.specs.Steps.{Wants, Has, step, goes_on, step_operator, step_end, token_operator, with_operator}
 use Rattle.cilk_parser.proofs.LedThrough.Ahead.{ahead, ahead_append}
@@ -58,19 +58,19 @@ operator_follows bound operator rest below = let known = operator_known operator
 
 -- ---- an operator makes one whole of what is before it and behind it
 
-end_of_prefix : (around : Around) (operator : UnaryOp) (operand : Expression) (token : Token) (next : Option BinaryOp) →
+end_of_prefix : (around : ExpressionIn) (operator : UnaryOp) (operand : Expression) (token : Token) (next : Option BinaryOp) →
     step_operator (Under around operator) operand token next ≡ step_operator around (Prefix operator operand) token next
 end_of_prefix around operator operand token None = refl
 end_of_prefix around operator operand token (Some next) = refl
 
-prefix_is_whole : (around : Around) (operator : UnaryOp) (operand : Expression) (bound : ℕ) (rest : List Token) → Follows bound rest →
+prefix_is_whole : (around : ExpressionIn) (operator : UnaryOp) (operand : Expression) (bound : ℕ) (rest : List Token) → Follows bound rest →
     reads (Has (Under around operator) operand) rest ≡ reads (Has around (Prefix operator operand)) rest
 unfolding reads
 prefix_is_whole around operator operand bound [] h = refl
 prefix_is_whole around operator operand bound (token ∷ rest) h =
     ap (on_reads rest) (operand_step (Under around operator) operand token h.0 ∙ end_of_prefix around operator operand token (token_operator token) ∙ sym (operand_step around (Prefix operator operand) token h.0))
 
-module _ (around : Around) (left : Expression) (operator : BinaryOp) where
+module _ (around : ExpressionIn) (left : Expression) (operator : BinaryOp) where
   weaker_goes_on : (right : Expression) (next : BinaryOp) → operator_strength next ≤ operator_strength operator →
       with_operator (RightOf around left operator) right next ≡ with_operator around (Infix left operator right) next
   weaker_goes_on right next weaker = rw (le-ltb (operator_strength operator) (operator_strength next) weaker)
@@ -88,7 +88,7 @@ module _ (around : Around) (left : Expression) (operator : BinaryOp) where
   infix_is_whole right (token ∷ rest) h =
       ap (on_reads rest) (operand_step (RightOf around left operator) right token h.0 ∙ end_of_infix right token (token_operator token) h.1 ∙ sym (operand_step around (Infix left operator right) token h.0))
 
-operator_taken : (around : Around) (left : Expression) (operator : BinaryOp) → least_strength around ≤ operator_strength operator → with_operator around left operator ≡ RightOf around left operator
+operator_taken : (around : ExpressionIn) (left : Expression) (operator : BinaryOp) → least_strength around ≤ operator_strength operator → with_operator around left operator ≡ RightOf around left operator
 operator_taken (RightOf around before other) left operator h = rw (lt-ltb (operator_strength other) (operator_strength operator) (omega arith))
 operator_taken (Under around other) left operator h = absurd (let most = strength_most operator in omega arith)
 operator_taken (ValueOf outer) left operator h = refl
@@ -106,7 +106,7 @@ operator_taken (Returned outer) left operator h = refl
 operator_taken (InIndex around name) left operator h = refl
 operator_taken (InGroup around) left operator h = refl
 
-operator_read : (around : Around) (left : Expression) (operator : BinaryOp) (rest : List Token) → least_strength around ≤ operator_strength operator →
+operator_read : (around : ExpressionIn) (left : Expression) (operator : BinaryOp) (rest : List Token) → least_strength around ≤ operator_strength operator →
     reads (Has around left) (Mark (operator_sign operator) ∷ rest) ≡ reads (Wants (RightOf around left operator)) rest
 operator_read around left operator rest h =
     let known = operator_known operator in
@@ -132,17 +132,17 @@ are_grouped left right operator h =
     let two = and_parts weak strong three.0 in
     record { weak = leb-true _ _ two.0; strong = ltb-true _ _ two.1; on_left = three.1; on_right = whole.1 }
 
-prefix_begins : (operator : UnaryOp) (around : Around) (rest : List Token) → reads (Wants around) (Mark (unary_sign operator) ∷ rest) ≡ reads (Wants (Under around operator)) rest
+prefix_begins : (operator : UnaryOp) (around : ExpressionIn) (rest : List Token) → reads (Wants around) (Mark (unary_sign operator) ∷ rest) ≡ reads (Wants (Under around operator)) rest
 unfolding step
 prefix_begins unary.Neg around rest = reads_step (Wants around) (Mark sign.Minus) rest
 prefix_begins unary.Not around rest = reads_step (Wants around) (Mark sign.Bang) rest
 
 -- the token ends the operand
-pub end_read : (around : Around) (operand : Expression) (token : Token) (rest : List Token) → is_index token ≡ false → token_operator token ≡ None →
+pub end_read : (around : ExpressionIn) (operand : Expression) (token : Token) (rest : List Token) → is_index token ≡ false → token_operator token ≡ None →
     reads (Has around operand) (token ∷ rest) ≡ on_reads rest (step_end around operand token)
 end_read around operand token rest other ends = reads_step (Has around operand) token rest ∙ ap (on_reads rest) (end_step around operand token other ends)
 
-pub expression_read : (e : Expression) (level : ℕ) (first : List Count) (around : Around) (rest : List Token) → IsTrue (is_grouped e) → least_strength around ≤ strength e →
+pub expression_read : (e : Expression) (level : ℕ) (first : List Count) (around : ExpressionIn) (rest : List Token) → IsTrue (is_grouped e) → least_strength around ≤ strength e →
     Follows (strength e + 1) rest →
     reads (Wants around) (ahead (spell_expression level first e) rest) ≡ reads (Has around e) rest
 unfolding step walk

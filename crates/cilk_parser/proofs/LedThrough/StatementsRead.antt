@@ -7,11 +7,11 @@ use Rattle.cilk_tree.specs.declared.token.Token.{Token}
 use Rattle.cilk_tree.specs.declared.token.Token.TheVariants.{Name, Word, Mark}
 use Rattle.cilk_tree.specs.Levels.{Spelled, mark, spell_whole, spell_any, spell_call, spell_addition, spell_commas, spell_declarator, spell_simple, spell_start, spell_statement, spell_inner, spell_inners, spell_body}
 use Rattle.cilk_tree.specs.Syntax.{Commas, Expression, Simple, Assignment, Change, Step, Storing, Start, NoStart, SimpleStart, DeclaringStart, Statement, Nothing, Simply, Calling, Adding, Syncing, IfAlone, IfElse, WhileLoop, ForLoop, Printing, Returning, Inner, Declaration, Block, Stated, Inners, NoInners, ThenInner, Body, Braced, Single, is_grouped, if_any, is_simple, is_start, is_statement, is_inner, are_inners, is_body, dangles, statement_dangles}
-use Rattle.cilk_parser.specs.Contexts.{InnersIn, InBlock, InBody, BodyIn, IfTaken, IfOtherwise, WhileBody, ForBody, StatementIn, InInners, AsBody, AsStatement, AsForStart, AsForLast, AsDeclaration, AsForDeclaration, Called, Around, IfCondition, WhileCondition, ForCondition, Printed, Returned, least_strength}
+use Rattle.cilk_parser.specs.Contexts.{InnersIn, InBlock, InBody, BodyIn, IfTaken, IfOtherwise, WhileBody, ForBody, StatementIn, InInners, AsBody, AsStatement, AsForStart, AsForLast, AsDeclaration, AsForDeclaration, Called, ExpressionIn, IfCondition, WhileCondition, ForCondition, Printed, Returned, least_strength}
 use Rattle.cilk_parser.specs.Run.{reads}
 use Rattle.cilk_parser.specs.Steps.{State, AtInner, AtBody, HasBody, HasDeclarators, AfterName, AtForStart, AtForCondition, AtForLast, AfterReturn, Wants, Awaits, AwaitsName, SimpleEnd, PrintEnd, DeclaratorName, IfOpen, WhileOpen, ForOpen, CalledEnd, AddedEnd, SyncEnd, PrintOpen, Place, Next, call_of, finish, step_statement, step_inner, step_else, step_end, after_statement, ended_body, ended_statement, otherwise_of_body, otherwise_of_statement, step}
 use Rattle.cilk_parser.proofs.LedThrough.Ahead.{ahead, ahead_append, four_ahead}
-use Rattle.cilk_parser.proofs.LedThrough.PartsRead.{StartsAs, StartsCall, value_read, whole_read, call_read, addition_read, declarators_read, simple_read}
+use Rattle.cilk_parser.proofs.LedThrough.PhrasesRead.{StartsAs, StartsCall, value_read, whole_read, call_read, addition_read, declarators_read, simple_read}
 use Rattle.cilk_parser.proofs.Walks.{on_reads, reads_step, reads_same}
 
 -- ---- the parts of a `for`, and `return`
@@ -196,7 +196,7 @@ no_else (Stated (Printing value)) level rest = refl
 no_else (Stated (Returning value)) level rest = refl
 
 -- a condition and what stands behind its parentheses
-in_parentheses : (around : Around) → least_strength around ≡ 0 → (condition : Expression) (level : ℕ) (more : List Spelled) (rest : List Token) → IsTrue (is_grouped condition) →
+in_parentheses : (around : ExpressionIn) → least_strength around ≡ 0 → (condition : Expression) (level : ℕ) (more : List Spelled) (rest : List Token) → IsTrue (is_grouped condition) →
     reads (Wants around) (ahead (spell_whole level condition ++ mark level sign.CloseParen ∷ [] ++ more) rest) ≡ on_reads (ahead more rest) (step_end around condition (Mark sign.CloseParen))
 in_parentheses around least condition level more rest grouped =
     ap (reads (Wants around)) (ahead_append (spell_whole level condition ++ mark level sign.CloseParen ∷ []) more rest ∙ ahead_append (spell_whole level condition) (mark level sign.CloseParen ∷ []) (ahead more rest)) ∙
@@ -277,9 +277,9 @@ mutual
       ap (reads (AtInner outer NoInners)) (ahead_append (spell_inners level before) (spell_inner level last) rest) ∙
       inners_read before level outer (ahead (spell_inner level last) rest) parts.0 (no_else last level rest) ∙ inner_read last level outer before rest parts.1 closed
 
-  body_read : (body : Body) (around level : ℕ) (owner : BodyIn) (rest : List Token) → IsTrue (is_body body) → (dangles body ≡ true → begins_else rest ≡ false) →
-      reads (AtBody owner) (ahead (spell_body around level body) rest) ≡ reads (HasBody owner body) rest
-  body_read (Braced inside) around level owner rest formed closed =
+  body_read : (body : Body) (own level : ℕ) (owner : BodyIn) (rest : List Token) → IsTrue (is_body body) → (dangles body ≡ true → begins_else rest ≡ false) →
+      reads (AtBody owner) (ahead (spell_body own level body) rest) ≡ reads (HasBody owner body) rest
+  body_read (Braced inside) own level owner rest formed closed =
       reads_step (AtBody owner) (Mark sign.OpenBrace) _ ∙ ap (reads (AtInner (InBody owner) NoInners)) (ahead_append (spell_inners level inside) _ rest) ∙
       inners_read inside level (InBody owner) (Mark sign.CloseBrace ∷ rest) formed refl ∙ reads_step (AtInner (InBody owner) inside) (Mark sign.CloseBrace) rest
-  body_read (Single statement) around level owner rest formed closed = statement_read statement level (AsBody owner) rest formed closed
+  body_read (Single statement) own level owner rest formed closed = statement_read statement level (AsBody owner) rest formed closed

@@ -1,5 +1,5 @@
 use Rattle.std.proofs.lemmas.Result.{err_from_is_err_and}
-use Rattle.cilk_parser.proofs.Bricks.ProgramParts.{item_lacks, more_items, no_items, text_stopped, whole_program}
+use Rattle.cilk_parser.proofs.Bricks.Programs.{item_lacks, more_items, no_items, text_stopped, whole_program}
 use Rattle.cilk_parser.proofs.parsing.program_of.Goals as goal
 
 pub loop-parser-init : goal.loop-parser-init

@@ -1,5 +1,5 @@
 use Rattle.std.proofs.Common.{length}
-use Rattle.cilk_parser.proofs.Bricks.ProgramParts.{HasItems}
+use Rattle.cilk_parser.proofs.Bricks.Programs.{HasItems}
 use Rattle.cilk_parser.proofs.parsing.program_of.Given as goal
 
 abbrev pub invariant-loop-parser : goal.invariant-loop-parser

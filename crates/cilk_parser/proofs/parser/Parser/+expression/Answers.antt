@@ -2,8 +2,8 @@ use Rattle.std.proofs.Common.{rules, refl, ap, sym, ◌∙◌, to_z-of_z, SFits,
 use Rattle.std.proofs.lemmas.Result.{MatchResult-weaker, err_from_is_err_and}
 use Rattle.cilk_tree.specs.declared.tree.Expr.TheVariants.{Get, Unary}
 use Rattle.cilk_parser.proofs.Bricks.Enclosed.{enclosed_lacks, enclosed_open, enclosed_reads}
-use Rattle.cilk_parser.proofs.Bricks.OperandParts.{number_reads, number_lacks, name_answers, name_lacks, group_over, inner_lacks, group_reads, other_lacks, prefix_over, prefix_lacks, prefix_reads, variable_reads, bracket_over, index_lacks, index_reads}
-use Rattle.cilk_parser.proofs.Bricks.OperatorParts.{operator_over, right_lacks, right_reads}
+use Rattle.cilk_parser.proofs.Bricks.OperandStarts.{number_reads, number_lacks, name_answers, name_lacks, group_over, inner_lacks, group_reads, other_lacks, prefix_over, prefix_lacks, prefix_reads, variable_reads, bracket_over, index_lacks, index_reads}
+use Rattle.cilk_parser.proofs.Bricks.NextOperators.{operator_over, right_lacks, right_reads}
 use Rattle.cilk_parser.proofs.Bricks.Stepping.{passed_shorter}
 use Rattle.cilk_parser.proofs.parser.Parser.+expression.Goals as goal
 
@@ -20,11 +20,11 @@ expression-returns-in_err-pass-clause-reads t c =
 pub expression-returns-in_err-right-clause-reads : goal.expression-returns-in_err-right-clause-reads
 expression-returns-in_err-right-clause-reads t c =
     let p = err_from_is_err_and c.from_residual-in_err-right.result c.from_residual-in_err-right.ensures.1 in
-    rw (p.1, p.2) (right_lacks _ _ _ _ _ _ c.loop-operator.invariant _ c.in-Some.ensures _ (c.in_ok-pass.ensures {u = tt}) _ c.strength.ensures.same _ c.in_err-right.ensures.reads)
+    rw (p.1, p.2) (right_lacks _ _ _ _ _ _ c.loop-operator.invariant _ c.in-Some.ensures _ (c.in_ok-pass.ensures {u = tt}) _ c.strength.ensures.value _ c.in_err-right.ensures.reads)
 
 pub expression-loop-operator-preserved : goal.expression-loop-operator-preserved
 expression-loop-operator-preserved t c =
-    right_reads _ _ _ _ _ _ c.loop-operator.invariant _ c.in-Some.ensures _ (c.in_ok-pass.ensures {u = tt}) _ c.strength.ensures.same _ _ _ c.in_ok-right.ensures.reads c.in_ok-right.ensures.stops (c.in_ok-left-2.ensures {u = tt})
+    right_reads _ _ _ _ _ _ c.loop-operator.invariant _ c.in-Some.ensures _ (c.in_ok-pass.ensures {u = tt}) _ c.strength.ensures.value _ _ _ c.in_ok-right.ensures.reads c.in_ok-right.ensures.stops (c.in_ok-left-2.ensures {u = tt})
 
 pub expression-loop-operator-smaller : goal.expression-loop-operator-smaller
 expression-loop-operator-smaller t c = let a = passed_shorter _ _ _ _ (c.in_ok-pass.ensures {u = tt}) in let b = c.in_ok-right.ensures.reads.shorter in omega arith

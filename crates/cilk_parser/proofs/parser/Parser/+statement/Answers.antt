@@ -39,13 +39,13 @@ inners-returns t c = list_reads _ _ _ _ c.loop-self.invariant _ (sym c.is_at.ens
 pub inner-returns-in_err-pass : goal.inner-returns-in_err-pass
 inner-returns-in_err-pass t c =
     let p = err_from_is_err_and c.from_residual.result c.from_residual.ensures.1 in
-    rw (p.1, p.2) (declaration_over _ _ (sym c.is_at_word.ensures ∙ c.if-is_at_word.true) _ (c.in_err-pass.ensures {u = tt}))
+    rw (p.1, p.2) (declaration_over _ _ (sym c.is_at_keyword.ensures ∙ c.if-is_at_keyword.true) _ (c.in_err-pass.ensures {u = tt}))
 
-pub inner-returns-then-is_at_word : goal.inner-returns-then-is_at_word
-inner-returns-then-is_at_word t c =
+pub inner-returns-then-is_at_keyword : goal.inner-returns-then-is_at_keyword
+inner-returns-then-is_at_keyword t c =
     MatchResult-weaker c.declaration.result c.declaration.ensures
-    (λ done read. declaration_reads _ _ (sym c.is_at_word.ensures ∙ c.if-is_at_word.true) _ (c.in_ok-pass.ensures {u = tt}) _ _ _ read)
-    (λ refusal lacks. declaration_lacks _ _ (sym c.is_at_word.ensures ∙ c.if-is_at_word.true) _ (c.in_ok-pass.ensures {u = tt}) refusal lacks)
+    (λ done read. declaration_reads _ _ (sym c.is_at_keyword.ensures ∙ c.if-is_at_keyword.true) _ (c.in_ok-pass.ensures {u = tt}) _ _ _ read)
+    (λ refusal lacks. declaration_lacks _ _ (sym c.is_at_keyword.ensures ∙ c.if-is_at_keyword.true) _ (c.in_ok-pass.ensures {u = tt}) refusal lacks)
 
 pub inner-statement-requires : goal.inner-statement-requires
 inner-statement-requires t c = (omega arith, tt)
@@ -53,8 +53,8 @@ inner-statement-requires t c = (omega arith, tt)
 pub inner-returns-then-not-is_at : goal.inner-returns-then-not-is_at
 inner-returns-then-not-is_at t c =
     MatchResult-weaker c.statement.result c.statement.ensures
-    (λ done read. stated_reads _ _ c.requires (sym c.is_at_word.ensures ∙ c.if-is_at_word.false) (sym c.is_at.ensures ∙ c.if-not-is_at.true) _ _ _ read)
-    (λ refusal lacks. stated_lacks _ _ c.requires (sym c.is_at_word.ensures ∙ c.if-is_at_word.false) (sym c.is_at.ensures ∙ c.if-not-is_at.true) refusal lacks)
+    (λ done read. stated_reads _ _ c.requires (sym c.is_at_keyword.ensures ∙ c.if-is_at_keyword.false) (sym c.is_at.ensures ∙ c.if-not-is_at.true) _ _ _ read)
+    (λ refusal lacks. stated_lacks _ _ c.requires (sym c.is_at_keyword.ensures ∙ c.if-is_at_keyword.false) (sym c.is_at.ensures ∙ c.if-not-is_at.true) refusal lacks)
 
 pub inner-returns-in_err-pass-2 : goal.inner-returns-in_err-pass-2
 inner-returns-in_err-pass-2 t c =
@@ -137,15 +137,15 @@ branch-returns-in_err-taken t c =
     let p = err_from_is_err_and c.from_residual-in_err-taken.result c.from_residual-in_err-taken.ensures.1 in
     rw (p.1, p.2) (head_without _ _ _ _ _ head_of_if _ _ c.requires _ (c.in_ok-pass.ensures {u = tt}) _ _ (c.in_ok-condition.ensures {u = tt}) _ (c.in_err-taken.ensures {u = tt}))
 
-pub branch-returns-then-not-is_at_word : goal.branch-returns-then-not-is_at_word
-branch-returns-then-not-is_at_word t c =
-    if_reads _ _ c.requires _ (c.in_ok-pass.ensures {u = tt}) _ _ (c.in_ok-condition.ensures {u = tt}) _ _ (c.in_ok-taken.ensures {u = tt}) (sym c.is_at_word.ensures ∙ c.if-not-is_at_word.true) _ _
+pub branch-returns-then-not-is_at_keyword : goal.branch-returns-then-not-is_at_keyword
+branch-returns-then-not-is_at_keyword t c =
+    if_reads _ _ c.requires _ (c.in_ok-pass.ensures {u = tt}) _ _ (c.in_ok-condition.ensures {u = tt}) _ _ (c.in_ok-taken.ensures {u = tt}) (sym c.is_at_keyword.ensures ∙ c.if-not-is_at_keyword.true) _ _
     ((c.in_ok-push.ensures {u = tt}).ok ∙ ap (λ none. c.args.into.now ++ If c.in_ok-condition.condition c.in_ok-taken.taken none ∷ []) c.new.ensures)
 
 pub branch-returns-in_err-pass-2 : goal.branch-returns-in_err-pass-2
 branch-returns-in_err-pass-2 t c =
     let p = err_from_is_err_and c.from_residual-in_err-pass-2.result c.from_residual-in_err-pass-2.ensures.1 in
-    rw (p.1, p.2) (else_over _ _ c.requires _ (c.in_ok-pass.ensures {u = tt}) _ _ (c.in_ok-condition.ensures {u = tt}) _ _ (c.in_ok-taken.ensures {u = tt}) (sym c.is_at_word.ensures ∙ c.if-not-is_at_word.false) _ (c.in_err-pass-2.ensures {u = tt}))
+    rw (p.1, p.2) (else_over _ _ c.requires _ (c.in_ok-pass.ensures {u = tt}) _ _ (c.in_ok-condition.ensures {u = tt}) _ _ (c.in_ok-taken.ensures {u = tt}) (sym c.is_at_keyword.ensures ∙ c.if-not-is_at_keyword.false) _ (c.in_err-pass-2.ensures {u = tt}))
 
 pub branch-body-requires-2 : goal.branch-body-requires-2
 branch-body-requires-2 t c =
@@ -158,10 +158,10 @@ branch-body-requires-2 t c =
 pub branch-returns-in_err-otherwise : goal.branch-returns-in_err-otherwise
 branch-returns-in_err-otherwise t c =
     let p = err_from_is_err_and c.from_residual-in_err-otherwise.result c.from_residual-in_err-otherwise.ensures.1 in
-    rw (p.1, p.2) (else_lacks _ _ c.requires _ (c.in_ok-pass.ensures {u = tt}) _ _ (c.in_ok-condition.ensures {u = tt}) _ _ (c.in_ok-taken.ensures {u = tt}) (sym c.is_at_word.ensures ∙ c.if-not-is_at_word.false) _ (c.in_ok-pass-2.ensures {u = tt}) _ (c.in_err-otherwise.ensures {u = tt}))
+    rw (p.1, p.2) (else_lacks _ _ c.requires _ (c.in_ok-pass.ensures {u = tt}) _ _ (c.in_ok-condition.ensures {u = tt}) _ _ (c.in_ok-taken.ensures {u = tt}) (sym c.is_at_keyword.ensures ∙ c.if-not-is_at_keyword.false) _ (c.in_ok-pass-2.ensures {u = tt}) _ (c.in_err-otherwise.ensures {u = tt}))
 
 pub branch-returns : goal.branch-returns
-branch-returns t c = else_reads _ _ c.requires _ (c.in_ok-pass.ensures {u = tt}) _ _ (c.in_ok-condition.ensures {u = tt}) _ _ (c.in_ok-taken.ensures {u = tt}) (sym c.is_at_word.ensures ∙ c.if-not-is_at_word.false) _ (c.in_ok-pass-2.ensures {u = tt}) _ _ (c.in_ok-otherwise.ensures {u = tt}) _ _ (c.in_ok-push-2.ensures {u = tt}).ok
+branch-returns t c = else_reads _ _ c.requires _ (c.in_ok-pass.ensures {u = tt}) _ _ (c.in_ok-condition.ensures {u = tt}) _ _ (c.in_ok-taken.ensures {u = tt}) (sym c.is_at_keyword.ensures ∙ c.if-not-is_at_keyword.false) _ (c.in_ok-pass-2.ensures {u = tt}) _ _ (c.in_ok-otherwise.ensures {u = tt}) _ _ (c.in_ok-push-2.ensures {u = tt}).ok
 
 -- ---- `while`
 

@@ -1,5 +1,5 @@
 use Rattle.std.proofs.lemmas.Result.{err_from_is_err_and}
-use Rattle.cilk_parser.proofs.Bricks.ArrayParts.{array_reads, bracket_lacks, closing_lacks, words_lacks}
+use Rattle.cilk_parser.proofs.Bricks.Arrays.{array_reads, bracket_lacks, closing_lacks, words_lacks}
 use Rattle.cilk_parser.proofs.parser.Parser.array.Goals as goal
 
 pub returns-in_err-sign : goal.returns-in_err-sign

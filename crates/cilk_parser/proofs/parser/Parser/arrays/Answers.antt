@@ -1,6 +1,6 @@
 use Rattle.std.proofs.Common.{sym, ◌∙◌}
 use Rattle.std.proofs.lemmas.Result.{err_from_is_err_and}
-use Rattle.cilk_parser.proofs.Bricks.ArrayParts.{arrays_answer, brackets_lack, comma_over, first_next, next_named, next_shorter, next_unnamed}
+use Rattle.cilk_parser.proofs.Bricks.Arrays.{arrays_answer, brackets_lack, comma_over, first_next, next_named, next_shorter, next_unnamed}
 use Rattle.cilk_parser.proofs.parser.Parser.arrays.Goals as goal
 
 pub loop-array-init : goal.loop-array-init

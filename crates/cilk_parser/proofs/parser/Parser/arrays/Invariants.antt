@@ -1,5 +1,5 @@
 use Rattle.std.proofs.Common.{length}
-use Rattle.cilk_parser.proofs.Bricks.ArrayParts.{HasNext}
+use Rattle.cilk_parser.proofs.Bricks.Arrays.{HasNext}
 use Rattle.cilk_parser.proofs.parser.Parser.arrays.Given as goal
 
 abbrev pub invariant-loop-array : goal.invariant-loop-array

@@ -1,6 +1,6 @@
 use Rattle.std.proofs.Common.{refl, sym, ◌∙◌}
 use Rattle.std.proofs.lemmas.Result.{err_from_is_err_and}
-use Rattle.cilk_parser.proofs.Bricks.ArrayParts.{array_name_answers, array_unnamed, int_over, no_bracket}
+use Rattle.cilk_parser.proofs.Bricks.Arrays.{array_name_answers, array_unnamed, int_over, no_bracket}
 use Rattle.cilk_parser.proofs.parser.Parser.first_array_name.Goals as goal
 
 pub returns-in_err-pass : goal.returns-in_err-pass

@@ -1,5 +1,5 @@
 use Rattle.std.proofs.lemmas.Result.{err_from_is_err_and}
-use Rattle.cilk_parser.proofs.Bricks.FunctionParts.{body_lacks, brace_lacks, function_reads, function_unnamed, parameters_lack, parenthesis_lacks}
+use Rattle.cilk_parser.proofs.Bricks.Functions.{body_lacks, brace_lacks, function_reads, function_unnamed, parameters_lack, parenthesis_lacks}
 use Rattle.cilk_parser.proofs.parser.Parser.function.Goals as goal
 
 pub returns-in_err-name : goal.returns-in_err-name

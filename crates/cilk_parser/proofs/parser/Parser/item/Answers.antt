@@ -1,4 +1,4 @@
-use Rattle.cilk_parser.proofs.Bricks.ProgramParts.{arrays_item, function_item}
+use Rattle.cilk_parser.proofs.Bricks.Programs.{arrays_item, function_item}
 use Rattle.cilk_parser.proofs.parser.Parser.item.Goals as goal
 
 pub returns-then-is_array_start : goal.returns-then-is_array_start

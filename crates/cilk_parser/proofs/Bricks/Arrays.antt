@@ -16,7 +16,7 @@ use Rattle.cilk_tree.specs.Syntax as syntax
 use Rattle.cilk_tree.specs.Syntax.{Commas, Array, Source, Then}
 use Rattle.cilk_parser.specs.declared.refusal.ParseRefusal.{ParseRefusal}
 use Rattle.cilk_parser.specs.Contexts.{with_last}
-use Rattle.cilk_parser.specs.Spots.{Spot, from, Refuses, unexpected_of, is_array_start, is_keyword, is_name_before, is_name_token, is_sign, is_words, is_words_token, HasPassed, IsOver, HasRead, LacksSign, HasNamed, LacksName, HasWords, LacksWords, stepping}
+use Rattle.cilk_parser.specs.Spots.{Spot, from, Refuses, unexpected_of, is_array_start, is_keyword, is_name_before, is_name_token, is_sign, is_size, is_size_token, HasPassed, IsOver, HasRead, LacksSign, HasNamed, LacksName, HasSize, LacksSize, stepping}
 use Rattle.cilk_parser.specs.Phrases.{Lacks, Parses, array_name_phrase, array_phrase, arrays_phrase}
 use Rattle.cilk_parser.specs.Run.{judge_token}
 use Rattle.cilk_parser.specs.Steps.{Items, ArraySize, AfterArray, Awaits, ArrayOpen, ArrayClose, AwaitsName, ArrayName, goes_on, is_mark, step, step_array, step_only, step_size}
@@ -88,11 +88,11 @@ array_name_answers old middle new starts passed found (Err refusal) answer = arr
 
 -- ---- the brackets
 
-words_there : (token : Token) → IsTrue (is_words_token token) → (words : ℕ) × (token ≡ Number (pos words))
+words_there : (token : Token) → IsTrue (is_size_token token) → (words : ℕ) × (token ≡ Number (pos words))
 words_there (Number (pos words)) there = (words, refl)
 words_there _ there = absurd (false≢true there)
 
-no_words : (before : Source) (others : Option (Commas Array)) (name : List ℕ) (token : Token) → is_words_token token ≡ false → step_size before others name token ≡ None
+no_words : (before : Source) (others : Option (Commas Array)) (name : List ℕ) (token : Token) → is_size_token token ≡ false → step_size before others name token ≡ None
 no_words before others name (Number (pos words)) absent = absurd (cc)
 no_words before others name _ absent = refl
 
@@ -109,17 +109,17 @@ module _ (name : List ℕ) (old : Spot) where
         step_size before others name token ≡ goes_on (counting 0 [] token) (Awaits (ArrayClose before others name words))
     goes_words before others words token is = ap (step_size before others name) is ∙ ap (λ t. goes_on (counting 0 [] t) (Awaits (ArrayClose before others name words))) (sym is)
 
-    pub words_lacks : (refusal : ParseRefusal) → LacksWords size refusal → Lacks (array_phrase name) old refusal
+    pub words_lacks : (refusal : ParseRefusal) → LacksSize size refusal → Lacks (array_phrase name) old refusal
     words_lacks refusal lacks (before, others) _ = refuses_as refusal _ _ (to_size before others) (elim lacks [
       | inl absent ↦
           subst (Refuses (stepping (step_size before others name) size)) (sym absent.1)
-          (unexpected_refuses (step_size before others name) size (λ placed places first. no_words before others name placed.token (subst (λ l. is_words l ≡ false) first absent.0)))
+          (unexpected_refuses (step_size before others name) size (λ placed places first. no_words before others name placed.token (subst (λ l. is_size l ≡ false) first absent.0)))
       | inr over ↦
-          let is = words_there over.1.placed.token (subst (λ l. IsTrue (is_words l)) over.1.first over.0) in
+          let is = words_there over.1.placed.token (subst (λ l. IsTrue (is_size l)) over.1.first over.0) in
           over_refuses (step_size before others name) (Awaits (ArrayClose before others name is.0)) 0 [] size refusal over.1 (goes_words before others is.0 over.1.placed.token is.1)
     ])
 
-    module _ (words : ℕ) (close : Spot) (read : HasWords words size close) where
+    module _ (words : ℕ) (close : Spot) (read : HasSize words size close) where
       to_close : (before : Source) (others : Option (Commas Array)) → from (Awaits (ArrayOpen before others name)) old ≡ from (Awaits (ArrayClose before others name words)) close
       to_close before others =
           to_size before others ∙ passes_on (step_size before others name) (Awaits (ArrayClose before others name words)) 0 [] size close read.passed (goes_words before others words read.passed.placed.token read.is)

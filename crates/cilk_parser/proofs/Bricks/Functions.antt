@@ -15,7 +15,7 @@ use Rattle.cilk_parser.specs.declared.refusal.ParseRefusal.{ParseRefusal}
 use Rattle.cilk_parser.specs.declared.starts.ItemStart.{ItemStart}
 use Rattle.cilk_parser.specs.declared.starts.ItemStart.TheVariants as item
 use Rattle.cilk_parser.specs.Contexts.{Heading, FunctionBody}
-use Rattle.cilk_parser.specs.Spots.{Spot, from, Refuses, unexpected_of, is_array_start, is_keyword, is_sign, is_word, HasPassed, IsOver, HasRead, LacksSign, HasNamed, LacksName, stepping}
+use Rattle.cilk_parser.specs.Spots.{Spot, from, Refuses, unexpected_of, is_array_start, is_keyword, is_sign, is_keyword_token, HasPassed, IsOver, HasRead, LacksSign, HasNamed, LacksName, stepping}
 use Rattle.cilk_parser.specs.Phrases.{HasParameter, Lacks, LacksParameter, Parses, function_kind_phrase, function_phrase, inners_phrase, parameters_phrase, result_phrase}
 use Rattle.cilk_parser.specs.Starts.{item_start, starts_item}
 use Rattle.cilk_parser.specs.Steps.{State, Items, AfterCilk, ParametersStart, AfterParameter, NextParameter, Awaits, ParametersOpen, VoidClose, BodyOpen, AwaitsName, FunctionName, ParameterName, Next, function_counts, goes_on, is_mark, step, step_cilk, step_next_parameter, step_only, step_parameter, step_parameters}
@@ -25,7 +25,7 @@ use Rattle.cilk_parser.proofs.Bricks.ItemHeads.{no_array_first, step_function}
 
 -- ---- `int` or `void` behind `cilk`
 
-no_result : (before : Source) (token : Token) → is_word word.Int token ≡ false → is_word word.Void token ≡ false → step_cilk before token ≡ None
+no_result : (before : Source) (token : Token) → is_keyword_token word.Int token ≡ false → is_keyword_token word.Void token ≡ false → step_cilk before token ≡ None
 no_result before (Word word.Int) no_int no_void = absurd (cc)
 no_result before (Word word.Void) no_int no_void = absurd (cc)
 no_result before _ no_int no_void = refl
@@ -97,20 +97,20 @@ module _ (old : Spot) (some : old.left ≢ []) (no_array : is_array_start old.le
       refuses_as (unexpected_of old.end old.left) _ _ (as_function before) (unexpected_refuses (step_function before) old (λ placed places first. starts_as before placed places item.Other first starts))
 
   module _ (next : Source → State) (goes : (before : Source) (placed : Placed) (rest : List Placed) → old.left ≡ placed ∷ rest → step_function before placed.token ≡ goes_on (counting 0 function_counts placed.token) (next before)) where
-    words_over : (refusal : ParseRefusal) → IsOver 0 function_counts old refusal → Lacks function_phrase old refusal
-    words_over refusal over before _ =
+    kind_over : (refusal : ParseRefusal) → IsOver 0 function_counts old refusal → Lacks function_phrase old refusal
+    kind_over refusal over before _ =
         refuses_as refusal _ _ (as_function before) (over_refuses (step_function before) (next before) 0 function_counts old refusal over (goes before over.placed over.rest over.first))
 
-    words_passed : (new : Spot) → HasPassed 0 function_counts old new → (before : Source) → from (Items before) old ≡ from (next before) new
-    words_passed new passed before = as_function before ∙ passes_on (step_function before) (next before) 0 function_counts old new passed (goes before passed.placed new.left passed.first)
+    kind_passed : (new : Spot) → HasPassed 0 function_counts old new → (before : Source) → from (Items before) old ≡ from (next before) new
+    kind_passed new passed before = as_function before ∙ passes_on (step_function before) (next before) 0 function_counts old new passed (goes before passed.placed new.left passed.first)
 
   module _ (starts : starts_item old.left ≡ item.Cilk) where
     pub cilk_over : (refusal : ParseRefusal) → IsOver 0 function_counts old refusal → Lacks function_phrase old refusal
-    cilk_over = words_over AfterCilk (λ before placed rest first. starts_as before placed rest item.Cilk first starts)
+    cilk_over = kind_over AfterCilk (λ before placed rest first. starts_as before placed rest item.Cilk first starts)
 
     module _ (middle : Spot) (passed : HasPassed 0 function_counts old middle) where
       to_cilk : (before : Source) → from (Items before) old ≡ from (AfterCilk before) middle
-      to_cilk = words_passed AfterCilk (λ before placed rest first. starts_as before placed rest item.Cilk first starts) middle passed
+      to_cilk = kind_passed AfterCilk (λ before placed rest first. starts_as before placed rest item.Cilk first starts) middle passed
 
       pub cilk_lacks : (refusal : ParseRefusal) → Lacks result_phrase middle refusal → Lacks function_phrase old refusal
       cilk_lacks refusal lacks before _ = refuses_as refusal _ _ (to_cilk before) (lacks before tt)
@@ -125,26 +125,26 @@ module _ (old : Spot) (some : old.left ≢ []) (no_array : is_array_start old.le
 
   module _ (starts : starts_item old.left ≡ item.Void) where
     pub void_over : (refusal : ParseRefusal) → IsOver 0 function_counts old refusal → Lacks function_phrase old refusal
-    void_over = words_over (λ before. AwaitsName (FunctionName before false false)) (λ before placed rest first. starts_as before placed rest item.Void first starts)
+    void_over = kind_over (λ before. AwaitsName (FunctionName before false false)) (λ before placed rest first. starts_as before placed rest item.Void first starts)
 
     pub void_reads : (new : Spot) → HasPassed 0 function_counts old new → Parses function_kind_phrase old new (false, false)
     void_reads new passed = record {
       syntax = (false, false);
       same = refl;
       shorter = passed_shorter 0 function_counts old new passed;
-      leads = λ before _. words_passed (λ others. AwaitsName (FunctionName others false false)) (λ others placed rest first. starts_as others placed rest item.Void first starts) new passed before;
+      leads = λ before _. kind_passed (λ others. AwaitsName (FunctionName others false false)) (λ others placed rest first. starts_as others placed rest item.Void first starts) new passed before;
     }
 
   module _ (starts : starts_item old.left ≡ item.Int) where
     pub int_over : (refusal : ParseRefusal) → IsOver 0 function_counts old refusal → Lacks function_phrase old refusal
-    int_over = words_over (λ before. AwaitsName (FunctionName before false true)) (λ before placed rest first. starts_as before placed rest item.Int first starts)
+    int_over = kind_over (λ before. AwaitsName (FunctionName before false true)) (λ before placed rest first. starts_as before placed rest item.Int first starts)
 
     pub int_reads : (new : Spot) → HasPassed 0 function_counts old new → Parses function_kind_phrase old new (false, true)
     int_reads new passed = record {
       syntax = (false, true);
       same = refl;
       shorter = passed_shorter 0 function_counts old new passed;
-      leads = λ before _. words_passed (λ others. AwaitsName (FunctionName others false true)) (λ others placed rest first. starts_as others placed rest item.Int first starts) new passed before;
+      leads = λ before _. kind_passed (λ others. AwaitsName (FunctionName others false true)) (λ others placed rest first. starts_as others placed rest item.Int first starts) new passed before;
     }
 
 -- ---- a parameter
@@ -154,7 +154,7 @@ abbrev step_one : Heading → Option (Commas (List ℕ)) → Token → Option Ne
 step_one heading before (Word word.Int) = goes_on (counting 0 (OneMore counted.Parameters ∷ []) (Word word.Int)) (AwaitsName (ParameterName heading before))
 step_one heading before _ = None
 
-same_first : (heading : Heading) (token : Token) → is_mark sign.CloseParen token ≡ false → is_word word.Void token ≡ false → step_parameters heading token ≡ step_one heading None token
+same_first : (heading : Heading) (token : Token) → is_mark sign.CloseParen token ≡ false → is_keyword_token word.Void token ≡ false → step_parameters heading token ≡ step_one heading None token
 same_first heading (Mark sign.CloseParen) no_close no_void = absurd (cc)
 same_first heading (Word word.Void) no_close no_void = absurd (cc)
 same_first heading _ no_close no_void = refl
@@ -162,7 +162,7 @@ same_first heading _ no_close no_void = refl
 same_next : (heading : Heading) (names : Commas (List ℕ)) (token : Token) → step_next_parameter heading names token ≡ step_one heading (Some names) token
 same_next heading names _ = refl
 
-no_parameter : (heading : Heading) (before : Option (Commas (List ℕ))) (token : Token) → is_word word.Int token ≡ false → step_one heading before token ≡ None
+no_parameter : (heading : Heading) (before : Option (Commas (List ℕ))) (token : Token) → is_keyword_token word.Int token ≡ false → step_one heading before token ≡ None
 no_parameter heading before (Word word.Int) absent = absurd (cc)
 no_parameter heading before _ absent = refl
 

@@ -1,7 +1,7 @@
 use Rattle.std.proofs.Common.{sym, ◌∙◌}
 use Rattle.std.proofs.lemmas.Result.{err_from_is_err_and}
-use Rattle.cilk_parser.proofs.Bricks.FunctionParts.{cilk_lacks, cilk_over, cilk_reads, function_absent, int_over, int_reads, void_over, void_reads}
-use Rattle.cilk_parser.proofs.parser.Parser.function_words.Goals as goal
+use Rattle.cilk_parser.proofs.Bricks.Functions.{cilk_lacks, cilk_over, cilk_reads, function_absent, int_over, int_reads, void_over, void_reads}
+use Rattle.cilk_parser.proofs.parser.Parser.function_kind.Goals as goal
 
 pub returns-in_err-pass-in-Cilk : goal.returns-in_err-pass-in-Cilk
 returns-in_err-pass-in-Cilk c =

@@ -1,6 +1,6 @@
 use Rattle.std.proofs.Common.{length}
-use Rattle.cilk_parser.proofs.Bricks.FunctionParts.{HasNames}
-use Rattle.cilk_parser.proofs.parser.Parser.parameters.Given as goal
+use Rattle.cilk_parser.proofs.Bricks.Functions.{HasNames}
+use Rattle.cilk_parser.proofs.parser.Parser.parameter_names.Given as goal
 
 abbrev pub invariant-loop-self : goal.invariant-loop-self
 invariant-loop-self l = HasNames l.fn.self l.self l.names

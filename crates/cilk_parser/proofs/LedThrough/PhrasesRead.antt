@@ -13,7 +13,7 @@ use Rattle.cilk_tree.specs.declared.count.Count.TheVariants.{Anew, OneMore}
 use Rattle.cilk_tree.specs.declared.count.Counted.TheVariants.{Operators}
 use Rattle.cilk_tree.specs.Levels.{Spelled, counting, mark, operator_sign, spell_expression, spell_whole, spell_argument, spell_commas, spell_any, spell_call, spell_addition, spell_right, spell_declarator, spell_simple}
 use Rattle.cilk_tree.specs.Syntax.{Commas, One, More, Expression, Numeral, Variable, Element, Group, Prefix, Infix, Call, Addition, Right, Value, Result, Fetched, Declarator, Bare, Valued, Up, Down, Simple, Assignment, Change, Step, Storing, is_grouped, each_of, is_call, is_addition, if_any, is_right, is_declarator, is_simple}
-use Rattle.cilk_parser.specs.Contexts.{with_last, SimpleIn, DeclareIn, AsDeclaration, AsForDeclaration, RightIn, Assigned, Declared, right_level, CallIn, ResultOf, Around, ValueOf, ArgumentOf, AddedAt, AddendOf, ChangedBy, StoredAt, StoredIn, least_strength}
+use Rattle.cilk_parser.specs.Contexts.{with_last, SimpleIn, DeclareIn, AsDeclaration, AsForDeclaration, RightIn, Assigned, Declared, right_level, CallIn, ResultOf, ExpressionIn, ValueOf, ArgumentOf, AddedAt, AddendOf, ChangedBy, StoredAt, StoredIn, least_strength}
 use Rattle.cilk_parser.specs.Run.{reads, walk}
 use Rattle.cilk_parser.specs.Steps.{State, AfterDeclarator, HasDeclarators, AtRight, AfterRightName, AtArguments, AfterName, Wants, Has, Awaits, AwaitsName, AddOpen, AddIndexOpen, AddComma, AddedName, SimpleEnd, StoreAssign, SpawnedName, DeclaratorName, Next, after_right, after_call, after_addition, call_of, behind, token_operator, step, step_argument, step_end, step_has, step_right, step_right_name}
 use Rattle.cilk_parser.proofs.LedThrough.Ahead.{ahead, ahead_append}
@@ -51,7 +51,7 @@ ends_part token e = absurd (cc)
 -- ---- where an expression begins
 
 -- The state does the same at the beginning of an expression as where one is wanted.
-pub record StartsAs (state : State) (around : Around) : Type 0 where
+pub record StartsAs (state : State) (around : ExpressionIn) : Type 0 where
   pub number : (value : ℤ) → step state (Number value) ≡ step (Wants around) (Number value)
   pub name : (name : List ℕ) (token : Token) (rest : List Token) → opens token ≡ false → reads state (Name name ∷ token ∷ rest) ≡ reads (Wants around) (Name name ∷ token ∷ rest)
   pub group : step state (Mark sign.OpenParen) ≡ step (Wants around) (Mark sign.OpenParen)
@@ -73,7 +73,7 @@ closed_operator op.Mul = refl
 closed_operator op.Div = refl
 closed_operator op.Rem = refl
 
-start_read : (state : State) (around : Around) → StartsAs state around → (e : Expression) (level : ℕ) (first : List Count) (token : Token) (rest : List Token) → opens token ≡ false →
+start_read : (state : State) (around : ExpressionIn) → StartsAs state around → (e : Expression) (level : ℕ) (first : List Count) (token : Token) (rest : List Token) → opens token ≡ false →
     reads state (ahead (spell_expression level first e) (token ∷ rest)) ≡ reads (Wants around) (ahead (spell_expression level first e) (token ∷ rest))
 start_read state around h (Numeral value) level first token rest closed = reads_same state (Wants around) (Number value) (token ∷ rest) (h.number value)
 start_read state around h (Variable name) level first token rest closed = h.name name token rest closed
@@ -89,14 +89,14 @@ start_read state around h (Infix left operator right) level first token rest clo
 -- ---- whole expressions
 
 -- An expression that is part of no other leads to where its end leads.
-pub value_read : (around : Around) → least_strength around ≡ 0 → (e : Expression) (level : ℕ) (first : List Count) (token : Token) (rest : List Token) →
+pub value_read : (around : ExpressionIn) → least_strength around ≡ 0 → (e : Expression) (level : ℕ) (first : List Count) (token : Token) (rest : List Token) →
     IsTrue (is_grouped e) → IsTrue (is_end token) → reads (Wants around) (ahead (spell_expression level first e) (token ∷ rest)) ≡ on_reads rest (step_end around e token)
 value_read around least e level first token rest grouped end =
     let ends = ends_part token end in
     expression_read e level first around (token ∷ rest) grouped (omega arith) (ends.other, rw ends.ends tt) ∙ end_read around e token rest ends.other ends.ends
 
 -- where the state does the same as where one is wanted
-pub whole_read : (state : State) (around : Around) → StartsAs state around → least_strength around ≡ 0 → (e : Expression) (level : ℕ) (first : List Count) (token : Token) (rest : List Token) →
+pub whole_read : (state : State) (around : ExpressionIn) → StartsAs state around → least_strength around ≡ 0 → (e : Expression) (level : ℕ) (first : List Count) (token : Token) (rest : List Token) →
     IsTrue (is_grouped e) → IsTrue (is_end token) → reads state (ahead (spell_expression level first e) (token ∷ rest)) ≡ on_reads rest (step_end around e token)
 whole_read state around h least e level first token rest grouped end =
     start_read state around h e level first token rest (ends_part token end).closed ∙ value_read around least e level first token rest grouped end

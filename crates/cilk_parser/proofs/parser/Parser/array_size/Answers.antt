@@ -3,7 +3,7 @@ use Rattle.std.proofs.Math.IntN.{nat_abs}
 use Rattle.std.specs.Int.{FitsUnsignedBits}
 use Rattle.cilk_tree.specs.declared.token.Token.TheVariants.{Number}
 use Rattle.cilk_parser.proofs.Bricks.Firsts.{first_there}
-use Rattle.cilk_parser.proofs.parser.Parser.words.Goals as goal
+use Rattle.cilk_parser.proofs.parser.Parser.array_size.Goals as goal
 
 same_number : (value : ℤ) (words : ℕ) → FitsUnsignedBits 64 value × (words ≡ nat_abs value) → value ≡ pos words
 same_number (pos n) words known = ap pos (sym known.1)
