@@ -10,11 +10,11 @@ use Rattle.cilk_tree.specs.Spelling.{BeginsWith}
 use Rattle.cilk_tree.specs.Syntax.{Empty, Source, IsWellFormed}
 use Rattle.cilk_parser.specs.Run.{all_behind, reads, walk}
 use Rattle.cilk_parser.specs.Steps.{State, Items, Next, pending, step}
-use Rattle.cilk_parser.proofs.Places.{there_in_front}
-use Rattle.cilk_parser.proofs.ReadSound.{WalkSound, walk_sound, read_sound}
-use Rattle.cilk_parser.proofs.SourcesRead.{reads_complete}
-use Rattle.cilk_parser.proofs.StepSound.{StepSound, step_sound}
-use Rattle.cilk_parser.proofs.Valid.{IsValid}
+use Rattle.cilk_parser.proofs.Answered.Places.{there_in_front}
+use Rattle.cilk_parser.proofs.Emitted.ReadSound.{WalkSound, walk_sound, read_sound}
+use Rattle.cilk_parser.proofs.LedThrough.SourcesRead.{reads_complete}
+use Rattle.cilk_parser.proofs.Emitted.StepSound.{StepSound, step_sound}
+use Rattle.cilk_parser.proofs.Emitted.Valid.{IsValid}
 use Rattle.cilk_parser.proofs.Walks.{walk_append}
 
 pub same_source : (source other : Source) → IsWellFormed source → IsWellFormed other → source_tokens source ≡ source_tokens other → source ≡ other

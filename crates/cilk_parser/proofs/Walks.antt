@@ -62,10 +62,3 @@ reads_same state other token rest e = ap (on_reads rest) e
 
 pub reads_after_walk : (state : State) (tokens rest : List Token) (next : Next) → walk state tokens ≡ Some next → reads state (tokens ++ rest) ≡ reads next.state rest
 reads_after_walk state tokens rest next e = reads_append state tokens rest ∙ ap (on_reads rest) e
-
-some_walked : (rest : List Token) (source : Source) (walked : Option Next) → on_reads rest walked ≡ Some source → (next : Next) × (walked ≡ Some next) × (reads next.state rest ≡ Some source)
-some_walked rest source None e = absurd (cc)
-some_walked rest source (Some next) e = (next, refl, e)
-
-pub walk_of_prefix : (state : State) (tokens rest : List Token) (source : Source) → reads state (tokens ++ rest) ≡ Some source → (next : Next) × (walk state tokens ≡ Some next) × (reads next.state rest ≡ Some source)
-walk_of_prefix state tokens rest source e = some_walked rest source (walk state tokens) (sym (reads_append state tokens rest) ∙ e)

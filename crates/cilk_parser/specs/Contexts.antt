@@ -12,7 +12,7 @@ abbrev pub with_last : {T : Type 0} → Option (Commas T) → T → Commas T
 with_last None last = One last
 with_last (Some before) last = More before last
 
--- what stands before the parameters of a function: the items before it, its words and its name
+-- what stands before the parameters of a function: the items before it, its kind and its name
 pub record Heading : Type 0 where
   pub before : Source
   pub «cilk» : Bool
@@ -112,26 +112,26 @@ call_level (Called outer) = statement_level outer
 
 -- What is open round an expression. The last four hold a part of one, the others a whole expression: one of them an argument behind others,
 -- two the index and the addend of an addition.
-pub data Around : Type 0 where
-  ValueOf : (outer : RightIn) → Around
-  ArgumentOf : (outer : CallIn) (spawned : Bool) (name : List ℕ) (before : Option (Commas Expression)) → Around
-  AddedAt : (outer : CallIn) (name : List ℕ) → Around
-  AddendOf : (outer : CallIn) (name : List ℕ) (index : Expression) → Around
-  ChangedBy : (outer : SimpleIn) (name : List ℕ) (direction : Direction) → Around
-  StoredAt : (outer : SimpleIn) (name : List ℕ) → Around
-  StoredIn : (outer : SimpleIn) (name : List ℕ) (index : Expression) → Around
-  IfCondition : (outer : StatementIn) → Around
-  WhileCondition : (outer : StatementIn) → Around
-  ForCondition : (outer : StatementIn) (start : Start) → Around
-  Printed : (outer : StatementIn) → Around
-  Returned : (outer : StatementIn) → Around
-  RightOf : (around : Around) (left : Expression) (operator : BinaryOp) → Around
-  Under : (around : Around) (operator : UnaryOp) → Around
-  InIndex : (around : Around) (name : List ℕ) → Around
-  InGroup : (around : Around) → Around
+pub data ExpressionIn : Type 0 where
+  ValueOf : (outer : RightIn) → ExpressionIn
+  ArgumentOf : (outer : CallIn) (spawned : Bool) (name : List ℕ) (before : Option (Commas Expression)) → ExpressionIn
+  AddedAt : (outer : CallIn) (name : List ℕ) → ExpressionIn
+  AddendOf : (outer : CallIn) (name : List ℕ) (index : Expression) → ExpressionIn
+  ChangedBy : (outer : SimpleIn) (name : List ℕ) (direction : Direction) → ExpressionIn
+  StoredAt : (outer : SimpleIn) (name : List ℕ) → ExpressionIn
+  StoredIn : (outer : SimpleIn) (name : List ℕ) (index : Expression) → ExpressionIn
+  IfCondition : (outer : StatementIn) → ExpressionIn
+  WhileCondition : (outer : StatementIn) → ExpressionIn
+  ForCondition : (outer : StatementIn) (start : Start) → ExpressionIn
+  Printed : (outer : StatementIn) → ExpressionIn
+  Returned : (outer : StatementIn) → ExpressionIn
+  RightOf : (around : ExpressionIn) (left : Expression) (operator : BinaryOp) → ExpressionIn
+  Under : (around : ExpressionIn) (operator : UnaryOp) → ExpressionIn
+  InIndex : (around : ExpressionIn) (name : List ℕ) → ExpressionIn
+  InGroup : (around : ExpressionIn) → ExpressionIn
 
 -- the level of the expression
-abbrev pub level_of : Around → ℕ
+abbrev pub level_of : ExpressionIn → ℕ
 level_of (ValueOf outer) = right_level outer
 level_of (ArgumentOf outer spawned name before) = call_level outer
 level_of (AddedAt outer name) = call_level outer + 1
@@ -150,7 +150,7 @@ level_of (InIndex around name) = level_of around + 1
 level_of (InGroup around) = level_of around + 1
 
 -- what its first token counts as besides
-abbrev pub first_counts : Around → List Count
+abbrev pub first_counts : ExpressionIn → List Count
 first_counts (ValueOf outer) = Anew Operators ∷ []
 first_counts (ArgumentOf outer spawned name before) = OneMore Arguments ∷ Anew Operators ∷ []
 first_counts (AddedAt outer name) = Anew Operators ∷ []
@@ -169,7 +169,7 @@ first_counts (InIndex around name) = []
 first_counts (InGroup around) = []
 
 -- how strongly it has to hold together
-abbrev pub least_strength : Around → ℕ
+abbrev pub least_strength : ExpressionIn → ℕ
 least_strength (RightOf around left operator) = operator_strength operator + 1
 least_strength (Under around operator) = 7
 least_strength (ValueOf outer) = 0

@@ -8,7 +8,7 @@ use Rattle.cilk_tree.specs.declared.token.Token.{Token}
 use Rattle.cilk_tree.specs.Counts.{is_long}
 use Rattle.cilk_tree.specs.Levels.{Spelled}
 use Rattle.cilk_tree.specs.Syntax.{Source}
-use Rattle.cilk_parser.specs.declared.reader.End.{End}
+use Rattle.cilk_parser.specs.declared.parser.End.{End}
 use Rattle.cilk_parser.specs.declared.tallies.Tallies.{Tallies}
 use Rattle.cilk_parser.specs.Tally.{all_counted_on, is_over}
 use Rattle.cilk_parser.specs.Steps.{State, Next, step, finish, pending}
@@ -16,23 +16,23 @@ use Rattle.cilk_parser.specs.Steps.{State, Next, step, finish, pending}
 -- ---- levels and counts judged
 
 -- The tokens keep the limits, and these are the counts behind them; or one does not, for this reason and at this offset.
-pub data Judged : Type 0 where
-  Within : (tallies : Tallies) → Judged
-  Over : (kind : Kind) (offset : ℕ) → Judged
+pub data Tallied : Type 0 where
+  Within : (tallies : Tallies) → Tallied
+  Over : (kind : Kind) (offset : ℕ) → Tallied
 
 -- A level above 64 comes before a count above its limit.
-abbrev pub judge_token : Tallies → Spelled → ℕ → Judged
+abbrev pub judge_token : Tallies → Spelled → ℕ → Tallied
 judge_token t spelled offset =
     if nat_lt 64 spelled.level then Over TooDeep offset
     else if is_over (all_counted_on t spelled.counts) || is_long spelled.token then Over TooMany offset
     else Within (all_counted_on t spelled.counts)
 
-abbrev pub judge_on : Judged → (Tallies → Judged) → Judged
+abbrev pub judge_on : Tallied → (Tallies → Tallied) → Tallied
 judge_on (Within t) on = on t
 judge_on (Over kind offset) on = Over kind offset
 
 -- the tokens in order, each with its place
-abbrev pub judge : Tallies → List Spelled → List Placed → Judged
+abbrev pub judge : Tallies → List Spelled → List Placed → Tallied
 judge t [] places = Within t
 judge t (spelled ∷ more) [] = Within t
 judge t (spelled ∷ more) (placed ∷ places) = judge_on (judge_token t spelled placed.offset) (λ next. judge next more places)
@@ -48,7 +48,7 @@ abbrev pub at_end : End → Option Source → Answer
 at_end end source = elim end.ending as (λ _. Answer) [ Reached ↦ elim source as (λ _. Answer) [ Some read ↦ Accepted read | None ↦ Refused Unexpected end.size ] | Stopped kind place ↦ Refused kind place ]
 
 -- the answer, where the tokens that wait to be judged keep the limits
-abbrev pub if_within : Judged → Answer → Answer
+abbrev pub if_within : Tallied → Answer → Answer
 if_within (Within t) answer = answer
 if_within (Over kind offset) answer = Refused kind offset
 
@@ -63,7 +63,7 @@ abbrev pub read_on : State → Tallies → List Spelled → List Placed → Read
 read_on state t emitted waiting = record { state = state; tallies = t; waiting = drop (length emitted) waiting }
 
 -- behind a token, with what was judged, and with how to go on from the next reading
-abbrev pub run_judged : Next → List Placed → (Reading → Answer) → Judged → Answer
+abbrev pub run_judged : Next → List Placed → (Reading → Answer) → Tallied → Answer
 run_judged next waiting on (Over kind offset) = Refused kind offset
 run_judged next waiting on (Within t) = on (read_on next.state t next.emitted waiting)
 

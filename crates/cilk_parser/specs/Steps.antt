@@ -1,4 +1,4 @@
--- A machine that reads a program token by token. It serves the proofs of the reader alone: where it stands between two tokens, and where it
+-- A machine that reads a program token by token. It serves the proofs of the parser alone: where it stands between two tokens, and where it
 -- goes with a token.
 use Rattle.std.specs.Prelude.{ℕ, pos, ◌+◌, Bool, true, false, nat_lt, bytes_eq, Option, Some, None, option_map, if◌then◌else◌, List, [], ◌∷◌, ◌++◌}
 use Rattle.cilk_tree.specs.declared.token.Keyword.TheVariants as word
@@ -16,7 +16,7 @@ use Rattle.cilk_tree.specs.Levels.{Spelled, counting, plain, mark, word_at}
 use Rattle.cilk_tree.specs.Syntax as syntax
 use Rattle.cilk_tree.specs.Syntax.{Commas, Empty, Then, Expression, Numeral, Variable, Element, Group, Prefix, Infix, Call, Addition, Right, Value, Result, Fetched, Declarator, Bare, Valued, Direction, Up, Down, Simple, Assignment, Change, Step, Storing, Start, NoStart, SimpleStart, DeclaringStart, Statement, Nothing, Simply, Calling, Adding, Syncing, IfAlone, IfElse, WhileLoop, ForLoop, Printing, Returning, Inner, Declaration, Block, Stated, Inners, NoInners, ThenInner, Body, Braced, Single, NoParameters, VoidParameters, Named, Array, Function, Defined, Source, operator_strength}
 use Rattle.cilk_tree.specs.Token.{sign_text}
-use Rattle.cilk_parser.specs.Contexts.{with_last, Heading, InnersIn, FunctionBody, InBlock, InBody, BodyIn, IfTaken, IfOtherwise, WhileBody, ForBody, StatementIn, InInners, AsBody, inners_level, statement_level, owner_level, closing_level, SimpleIn, AsStatement, AsForStart, AsForLast, simple_level, DeclareIn, AsDeclaration, AsForDeclaration, declare_level, RightIn, Assigned, Declared, right_level, CallIn, ResultOf, Called, call_level, Around, ValueOf, ArgumentOf, AddedAt, AddendOf, ChangedBy, StoredAt, StoredIn, IfCondition, WhileCondition, ForCondition, Printed, Returned, RightOf, Under, InIndex, InGroup, level_of, first_counts}
+use Rattle.cilk_parser.specs.Contexts.{with_last, Heading, InnersIn, FunctionBody, InBlock, InBody, BodyIn, IfTaken, IfOtherwise, WhileBody, ForBody, StatementIn, InInners, AsBody, inners_level, statement_level, owner_level, closing_level, SimpleIn, AsStatement, AsForStart, AsForLast, simple_level, DeclareIn, AsDeclaration, AsForDeclaration, declare_level, RightIn, Assigned, Declared, right_level, CallIn, ResultOf, Called, call_level, ExpressionIn, ValueOf, ArgumentOf, AddedAt, AddendOf, ChangedBy, StoredAt, StoredIn, IfCondition, WhileCondition, ForCondition, Printed, Returned, RightOf, Under, InIndex, InGroup, level_of, first_counts}
 
 -- ---- where the machine stands
 
@@ -76,8 +76,8 @@ pub data State : Type 0 where
   AtForCondition : (outer : StatementIn) (start : Start) → State
   AtForLast : (outer : StatementIn) (start : Start) (condition : Option Expression) → State
   AfterReturn : (outer : StatementIn) → State
-  Wants : (around : Around) → State
-  Has : (around : Around) (operand : Expression) → State
+  Wants : (around : ExpressionIn) → State
+  Has : (around : ExpressionIn) (operand : Expression) → State
   Awaits : (awaited : Awaited) → State
   AwaitsName : (awaited : NameAwaited) → State
 
@@ -310,7 +310,7 @@ sign_operator sign.Slash = Some op.Div
 sign_operator sign.Percent = Some op.Rem
 sign_operator _ = None
 
-abbrev pub step_wants : Around → Token → Option Next
+abbrev pub step_wants : ExpressionIn → Token → Option Next
 step_wants around (Number value) = goes_on (counting (level_of around) (first_counts around) (Number value)) (Has around (Numeral value))
 step_wants around (Name name) = goes_on (counting (level_of around) (first_counts around) (Name name)) (Has around (Variable name))
 step_wants around (Mark sign.OpenParen) = goes_on (counting (level_of around) (first_counts around) (Mark sign.OpenParen)) (Wants (InGroup around))
@@ -319,7 +319,7 @@ step_wants around (Mark sign.Bang) = goes_on (counting (level_of around) (first_
 step_wants around _ = None
 
 -- The operator takes the operand, or where it binds no stronger than the one before, the whole that ends there.
-abbrev pub with_operator : Around → Expression → BinaryOp → Around
+abbrev pub with_operator : ExpressionIn → Expression → BinaryOp → ExpressionIn
 with_operator (RightOf around left before) operand operator =
     if nat_lt (operator_strength before) (operator_strength operator)
     then RightOf (RightOf around left before) operand operator
@@ -369,7 +369,7 @@ abbrev pub step_only : Spelled → State → Token → Option Next
 step_only spelled state token = if is_same_sign spelled.token token then goes_on spelled state else None
 
 -- the token ends the expression
-abbrev pub step_end : Around → Expression → Token → Option Next
+abbrev pub step_end : ExpressionIn → Expression → Token → Option Next
 step_end (RightOf around left operator) operand token = step_end around (Infix left operator operand) token
 step_end (Under around operator) operand token = step_end around (Prefix operator operand) token
 step_end (InGroup around) operand token = step_only (mark (level_of around) sign.CloseParen) (Has around (Group operand)) token
@@ -388,7 +388,7 @@ step_end (Printed outer) operand token = step_only (mark (statement_level outer)
 step_end (Returned outer) operand token = step_only (mark (statement_level outer) sign.Semicolon) (after_statement outer (Returning (Some operand))) token
 
 -- an operator goes on with the operand, another token ends it
-abbrev pub step_operator : Around → Expression → Token → Option BinaryOp → Option Next
+abbrev pub step_operator : ExpressionIn → Expression → Token → Option BinaryOp → Option Next
 step_operator around operand token (Some operator) =
     goes_on (counting (level_of (with_operator around operand operator)) (OneMore Operators ∷ []) token) (Wants (with_operator around operand operator))
 step_operator around operand token None = step_end around operand token
@@ -400,11 +400,11 @@ token_operator (Number value) = None
 token_operator (Word word) = None
 token_operator (Mark sign) = sign_operator sign
 
-abbrev pub step_operand : Around → Expression → Token → Option Next
+abbrev pub step_operand : ExpressionIn → Expression → Token → Option Next
 step_operand around operand token = step_operator around operand token (token_operator token)
 
 -- a name before an index
-abbrev pub step_has : Around → Expression → Token → Option Next
+abbrev pub step_has : ExpressionIn → Expression → Token → Option Next
 step_has around (Variable name) (Mark sign.OpenBracket) = goes_on (mark (level_of around) sign.OpenBracket) (Wants (InIndex around name))
 step_has around operand token = step_operand around operand token
 

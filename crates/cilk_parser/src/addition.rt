@@ -1,8 +1,8 @@
-ghost use Rattle.cilk_parser.specs.Parts.{HasAddition, LacksAddition};
+ghost use Rattle.cilk_parser.specs.Phrases.{Lacks, Parses, addition_phrase};
 ghost use Rattle.std.specs.Prelude.{MatchResult};
 
 use crate::opening::Opening;
-use crate::reader::Reader;
+use crate::parser::Parser;
 use crate::refusal::ParseRefusal;
 use cilk_tree::{Expr, Name, Sign};
 
@@ -14,19 +14,17 @@ pub(crate) struct Addition {
     pub(crate) addend: Expr,
 }
 
-impl<'a> Reader<'a> {
+impl<'a> Parser<'a> {
     /// Reads `(a[i], e)` behind `fetch_add`. The index is one level deeper, since it stands in brackets.
     pub(crate) fn added(&mut self, level: u64) -> Result<Addition, ParseRefusal>
-        ensures { MatchResult result (λ addition. HasAddition level self.old self.new addition) (λ refusal. LacksAddition level self.old refusal) }
+        ensures { MatchResult result (λ addition. Parses (addition_phrase level) self.old self.new addition) (λ refusal. Lacks (addition_phrase level) self.old refusal) }
     {
         self.sign(Sign::OpenParen, level)?;
         let name = self.name(level, &[])?;
         self.sign(Sign::OpenBracket, level)?;
-        let index = self.expression(0, level + 1, Opening::Whole)?;
-        self.sign(Sign::CloseBracket, level)?;
+        let index = self.enclosed(level + 1, Opening::Whole, Sign::CloseBracket, level)?;
         self.sign(Sign::Comma, level)?;
-        let addend = self.expression(0, level, Opening::Whole)?;
-        self.sign(Sign::CloseParen, level)?;
+        let addend = self.enclosed(level, Opening::Whole, Sign::CloseParen, level)?;
         Ok(Addition {
             name,
             index,

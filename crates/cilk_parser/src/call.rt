@@ -1,8 +1,9 @@
-ghost use Rattle.cilk_parser.specs.Parts.{HasArguments, HasCall, HasOpened, HasSpawn, LacksArguments, LacksCall, LacksOpened, LacksSpawn, is_name_before};
+ghost use Rattle.cilk_parser.specs.Spots.{is_name_before};
+ghost use Rattle.cilk_parser.specs.Phrases.{Lacks, Parses, arguments_phrase, call_phrase, opened_phrase, spawn_phrase};
 ghost use Rattle.std.specs.Prelude.{◌≡◌, IsTrue, MatchResult};
 
 use crate::opening::Opening;
-use crate::reader::Reader;
+use crate::parser::Parser;
 use crate::refusal::ParseRefusal;
 use cilk_tree::{Count, Counted, Expr, Name, Sign};
 use sqlite_items::Items;
@@ -14,10 +15,10 @@ pub(crate) struct Call {
     pub(crate) arguments: Items<Expr>,
 }
 
-impl<'a> Reader<'a> {
+impl<'a> Parser<'a> {
     /// Reads arguments and the parenthesis behind them.
     pub(crate) fn arguments(&mut self, level: u64) -> Result<Items<Expr>, ParseRefusal>
-        ensures { MatchResult result (λ trees. HasArguments level self.old self.new trees) (λ refusal. LacksArguments level self.old refusal) }
+        ensures { MatchResult result (λ trees. Parses (arguments_phrase level) self.old self.new trees) (λ refusal. Lacks (arguments_phrase level) self.old refusal) }
     {
         let mut arguments = Items::new(self.alloc());
         if self.is_at(Sign::CloseParen) {
@@ -37,7 +38,7 @@ impl<'a> Reader<'a> {
 
     /// Reads the parenthesis behind the name that is called, and the arguments.
     fn opened(&mut self, level: u64) -> Result<Items<Expr>, ParseRefusal>
-        ensures { MatchResult result (λ trees. HasOpened level self.old self.new trees) (λ refusal. LacksOpened level self.old refusal) }
+        ensures { MatchResult result (λ trees. Parses (opened_phrase level) self.old self.new trees) (λ refusal. Lacks (opened_phrase level) self.old refusal) }
     {
         if !self.is_at(Sign::OpenParen) {
             return Err(self.unexpected());
@@ -46,19 +47,11 @@ impl<'a> Reader<'a> {
         self.arguments(level)
     }
 
-    /// Reads the name and the arguments behind `spawn`.
-    pub(crate) fn spawned(&mut self, level: u64) -> Result<Call, ParseRefusal>
-        ensures { MatchResult result (λ call. HasSpawn level self.old self.new call) (λ refusal. LacksSpawn level self.old refusal) }
-    {
-        let name = self.name(level, &[])?;
-        let arguments = self.opened(level)?;
-        Ok(Call { name, arguments })
-    }
-
-    /// Reads a call whose result is assigned.
-    pub(crate) fn called(&mut self, level: u64) -> Result<Call, ParseRefusal>
-        requires { IsTrue (is_name_before Sign.OpenParen self.old.left) }
-        ensures { MatchResult result (λ call. HasCall level self.old self.new call) (λ refusal. LacksCall level self.old refusal) }
+    /// Reads the name that is called or spawned, and the arguments.
+    pub(crate) fn call(&mut self, level: u64) -> Result<Call, ParseRefusal>
+        ensures spawned { MatchResult result (λ call. Parses (spawn_phrase level) self.old self.new call) (λ refusal. Lacks (spawn_phrase level) self.old refusal) }
+        ensures called { IsTrue (is_name_before Sign.OpenParen self.old.left) →
+            MatchResult result (λ call. Parses (call_phrase level) self.old self.new call) (λ refusal. Lacks (call_phrase level) self.old refusal) }
     {
         let name = self.name(level, &[])?;
         let arguments = self.opened(level)?;

@@ -1,43 +1,58 @@
-ghost use Rattle.cilk_parser.specs.Parts.{HasExpression, HasOperator, HasVariable, LacksExpression, LacksVariable, stops_below};
+ghost use Rattle.cilk_parser.specs.Phrases.{HasOperator, HasVariable, Lacks, LacksVariable, Parses, enclosed_phrase, expression_phrase, stops_below};
 ghost use Rattle.cilk_parser.specs.Starts.{starts_operand};
 ghost use Rattle.cilk_parser.specs.Steps.{sign_operator};
-ghost use Rattle.cilk_tree.specs.Syntax.{operator_strength};
 ghost use Rattle.std.specs.Prelude.{◌≡◌, ◌≤◌, ℕ, IfOk, IsTrue, MatchOption, MatchResult};
 
 use crate::opening::Opening;
-use crate::reader::Reader;
+use crate::parser::Parser;
 use crate::refusal::ParseRefusal;
 use crate::starts::OperandStart;
 use cilk_tree::{BinaryOp, Count, Counted, Expr, Name, Sign, Token, UnaryOp};
 use sqlite_items::Boxed;
 use std::alloc::{AllocError, Global};
 
-impl<'a> Reader<'a> {
+impl<'a> Parser<'a> {
     /// Reads an expression whose operators bind at least as strongly as `least`, up to where it cannot go on. `level`
     /// is the level of its tokens.
     #[cycle(expression)]
     pub(crate) fn expression(
         &mut self,
-        least: u64,
+        least: u8,
         level: u64,
         opening: Opening,
     ) -> Result<Expr, ParseRefusal>
-        ensures reads { MatchResult result (λ tree. HasExpression least level opening self.old self.new tree) (λ refusal. LacksExpression least level opening self.old refusal) }
+        ensures reads { MatchResult result (λ tree. Parses (expression_phrase least level opening) self.old self.new tree) (λ refusal. Lacks (expression_phrase least level opening) self.old refusal) }
         ensures stops { IfOk result (λ _. IsTrue (stops_below least self.new.left)) }
     {
         let mut left = self.operand(level, opening)?;
         while let Some(operator) = self.operator(least) {
             self.pass(level, &[Count::OneMore(Counted::Operators)])?;
-            let right = self.expression(strength(operator) + 1, level, Opening::Part)?;
+            let right = self.expression(operator.strength() + 1, level, Opening::Inside)?;
             left = binary(self.alloc(), operator, left, right)?;
         }
         Ok(left)
     }
 
+    /// Reads an expression of this level, and the sign that closes it, which has the level `closing_level`.
+    #[cycle(expression)]
+    pub(crate) fn enclosed(
+        &mut self,
+        level: u64,
+        opening: Opening,
+        closing: Sign,
+        closing_level: u64,
+    ) -> Result<Expr, ParseRefusal>
+        ensures { MatchResult result (λ tree. Parses (enclosed_phrase level opening closing closing_level) self.old self.new tree) (λ refusal. Lacks (enclosed_phrase level opening closing closing_level) self.old refusal) }
+    {
+        let inner = self.expression(0, level, opening)?;
+        self.sign(closing, closing_level)?;
+        Ok(inner)
+    }
+
     /// Reads what is no operation of two operands.
     #[cycle(expression)]
     fn operand(&mut self, level: u64, opening: Opening) -> Result<Expr, ParseRefusal>
-        ensures { (least : ℕ) → MatchResult result (λ tree. HasExpression least level opening self.old self.new tree) (λ refusal. LacksExpression least level opening self.old refusal) }
+        ensures { (least : ℕ) → MatchResult result (λ tree. Parses (expression_phrase least level opening) self.old self.new tree) (λ refusal. Lacks (expression_phrase least level opening) self.old refusal) }
     {
         match self.operand_start() {
             OperandStart::Number(value) => {
@@ -58,12 +73,10 @@ impl<'a> Reader<'a> {
     #[cycle(expression)]
     fn group(&mut self, level: u64, opening: Opening) -> Result<Expr, ParseRefusal>
         requires { starts_operand self.old.left ≡ OperandStart.Group }
-        ensures { (least : ℕ) → MatchResult result (λ tree. HasExpression least level opening self.old self.new tree) (λ refusal. LacksExpression least level opening self.old refusal) }
+        ensures { (least : ℕ) → MatchResult result (λ tree. Parses (expression_phrase least level opening) self.old self.new tree) (λ refusal. Lacks (expression_phrase least level opening) self.old refusal) }
     {
         self.pass(level, opening.counts())?;
-        let inner = self.expression(0, level + 1, Opening::Part)?;
-        self.sign(Sign::CloseParen, level)?;
-        Ok(inner)
+        self.enclosed(level + 1, Opening::Inside, Sign::CloseParen, level)
     }
 
     /// Reads a unary operator and its operand.
@@ -75,10 +88,10 @@ impl<'a> Reader<'a> {
         opening: Opening,
     ) -> Result<Expr, ParseRefusal>
         requires { starts_operand self.old.left ≡ OperandStart.Prefix operator }
-        ensures { (least : ℕ) → MatchResult result (λ tree. HasExpression least level opening self.old self.new tree) (λ refusal. LacksExpression least level opening self.old refusal) }
+        ensures { (least : ℕ) → MatchResult result (λ tree. Parses (expression_phrase least level opening) self.old self.new tree) (λ refusal. Lacks (expression_phrase least level opening) self.old refusal) }
     {
         self.pass(level, opening.operator_counts())?;
-        let operand = self.operand(level + 1, Opening::Part)?;
+        let operand = self.operand(level + 1, Opening::Inside)?;
         Ok(Expr::Unary(operator, Boxed::new(self.alloc(), operand)?))
     }
 
@@ -92,8 +105,7 @@ impl<'a> Reader<'a> {
             return Ok(Expr::Local(name));
         }
         self.pass(level, &[])?;
-        let index = self.expression(0, level + 1, Opening::Part)?;
-        self.sign(Sign::CloseBracket, level)?;
+        let index = self.enclosed(level + 1, Opening::Inside, Sign::CloseBracket, level)?;
         Ok(Expr::Get(name, Boxed::new(self.alloc(), index)?))
     }
 
@@ -106,14 +118,14 @@ impl<'a> Reader<'a> {
     }
 
     /// The operator that stands first, where it binds at least as strongly as `least`.
-    fn operator(&self, least: u64) -> Option<BinaryOp>
+    fn operator(&self, least: u8) -> Option<BinaryOp>
         ensures { MatchOption result (IsTrue (stops_below least self.now.left)) (λ operator. HasOperator least self.now.left operator) }
     {
         let Token::Mark(sign) = self.first()? else {
             return None;
         };
         let operator = operator_of(*sign)?;
-        (strength(operator) >= least).then_some(operator)
+        (operator.strength() >= least).then_some(operator)
     }
 }
 
@@ -136,21 +148,6 @@ fn operator_of(sign: Sign) -> Option<BinaryOp>
         Sign::Slash => Some(BinaryOp::Div),
         Sign::Percent => Some(BinaryOp::Rem),
         _ => None,
-    }
-}
-
-/// How strongly the operator binds.
-fn strength(operator: BinaryOp) -> u64
-    ensures same { result ≡ operator_strength operator }
-    ensures most { result ≤ 6 }
-{
-    match operator {
-        BinaryOp::Or => 1,
-        BinaryOp::And => 2,
-        BinaryOp::Eq | BinaryOp::Ne => 3,
-        BinaryOp::Lt | BinaryOp::Le | BinaryOp::Gt | BinaryOp::Ge => 4,
-        BinaryOp::Add | BinaryOp::Sub => 5,
-        BinaryOp::Mul | BinaryOp::Div | BinaryOp::Rem => 6,
     }
 }
 

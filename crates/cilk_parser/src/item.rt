@@ -1,8 +1,9 @@
-ghost use Rattle.cilk_parser.specs.Parts.{HasArray, HasArrayName, HasArrays, HasFunction, HasFunctionWords, HasItem, HasParameter, HasParameters, HasResult, LacksArray, LacksArrayName, LacksArrays, LacksFunction, LacksItem, LacksParameter, LacksParameters, LacksResult, is_array_start};
+ghost use Rattle.cilk_parser.specs.Spots.{is_array_start, is_keyword, is_sign};
+ghost use Rattle.cilk_parser.specs.Phrases.{HasParameter, Lacks, LacksParameter, Parses, array_name_phrase, array_phrase, arrays_phrase, function_kind_phrase, function_phrase, item_phrase, parameters_phrase, result_phrase};
 ghost use Rattle.cilk_parser.specs.Starts.{starts_item};
 ghost use Rattle.std.specs.Prelude.{◌≡◌, ◌≢◌, [], false, IsTrue, MatchResult};
 
-use crate::reader::Reader;
+use crate::parser::Parser;
 use crate::refusal::ParseRefusal;
 use crate::starts::ItemStart;
 use cilk_tree::{Count, Counted, Function, Keyword, Name, Program, Shared, Sign};
@@ -15,11 +16,11 @@ const FUNCTION: [Count; 3] = [
     Count::Anew(Counted::Variables),
 ];
 
-impl<'a> Reader<'a> {
+impl<'a> Parser<'a> {
     /// Reads an item, and adds it to the program.
     pub(crate) fn item(&mut self, program: &mut Program) -> Result<(), ParseRefusal>
         requires { self.old.left ≢ [] }
-        ensures { MatchResult result (λ _. HasItem self.old self.new program.old program.new) (λ refusal. LacksItem self.old refusal) }
+        ensures { MatchResult result (λ _. Parses item_phrase self.old self.new (program.old, program.new)) (λ refusal. Lacks item_phrase self.old refusal) }
     {
         if self.is_array_start() {
             return self.arrays(&mut program.shared);
@@ -33,13 +34,13 @@ impl<'a> Reader<'a> {
     fn is_array_start(&self) -> bool
         ensures { result ≡ is_array_start self.now.left }
     {
-        self.is_at_word(Keyword::Int) && !self.is_before_call()
+        self.is_at_keyword(Keyword::Int) && !self.is_before_call()
     }
 
     /// Reads shared arrays, and adds them.
     fn arrays(&mut self, shared: &mut Items<Shared>) -> Result<(), ParseRefusal>
         requires { IsTrue (is_array_start self.old.left) }
-        ensures { MatchResult result (λ _. HasArrays self.old self.new shared.old shared.new) (λ refusal. LacksArrays self.old refusal) }
+        ensures { MatchResult result (λ _. Parses arrays_phrase self.old self.new (shared.old, shared.new)) (λ refusal. Lacks arrays_phrase self.old refusal) }
     {
         let mut name = self.first_array_name()?;
         loop {
@@ -56,7 +57,7 @@ impl<'a> Reader<'a> {
     /// Reads `int` and the name of an array. A name counts as that of an array where a bracket follows.
     fn first_array_name(&mut self) -> Result<Name, ParseRefusal>
         requires { IsTrue (is_array_start self.old.left) }
-        ensures { MatchResult result (λ name. HasArrayName self.old self.new name) (λ refusal. LacksArrayName self.old refusal) }
+        ensures { MatchResult result (λ name. Parses array_name_phrase self.old self.new name) (λ refusal. Lacks array_name_phrase self.old refusal) }
     {
         self.pass(0, &[])?;
         if self.is_name_before(Sign::OpenBracket) {
@@ -68,10 +69,10 @@ impl<'a> Reader<'a> {
 
     /// Reads the number of words of an array in its brackets.
     fn array(&mut self, name: Name) -> Result<Shared, ParseRefusal>
-        ensures { MatchResult result (λ array. HasArray name self.old self.new array) (λ refusal. LacksArray name self.old refusal) }
+        ensures { MatchResult result (λ array. Parses (array_phrase name) self.old self.new array) (λ refusal. Lacks (array_phrase name) self.old refusal) }
     {
         self.sign(Sign::OpenBracket, 0)?;
-        let words = self.words()?;
+        let words = self.array_size()?;
         self.sign(Sign::CloseBracket, 0)?;
         Ok(Shared { name, words })
     }
@@ -80,9 +81,9 @@ impl<'a> Reader<'a> {
     fn function(&mut self) -> Result<Function, ParseRefusal>
         requires some { self.old.left ≢ [] }
         requires no_array { is_array_start self.old.left ≡ false }
-        ensures { MatchResult result (λ function. HasFunction self.old self.new function) (λ refusal. LacksFunction self.old refusal) }
+        ensures { MatchResult result (λ function. Parses function_phrase self.old self.new function) (λ refusal. Lacks function_phrase self.old refusal) }
     {
-        let (cilk, gives) = self.function_words()?;
+        let (cilk, gives) = self.function_kind()?;
         let name = self.name(0, &[])?;
         self.sign(Sign::OpenParen, 0)?;
         let params = self.parameters()?;
@@ -98,10 +99,10 @@ impl<'a> Reader<'a> {
     }
 
     /// Reads what stands before the name of a function: whether it is a `cilk` procedure, and whether it gives a value.
-    fn function_words(&mut self) -> Result<(bool, bool), ParseRefusal>
+    fn function_kind(&mut self) -> Result<(bool, bool), ParseRefusal>
         requires some { self.old.left ≢ [] }
         requires no_array { is_array_start self.old.left ≡ false }
-        ensures { MatchResult result (λ words. HasFunctionWords self.old self.new words.0 words.1) (λ refusal. LacksFunction self.old refusal) }
+        ensures { MatchResult result (λ kind. Parses function_kind_phrase self.old self.new (kind.0, kind.1)) (λ refusal. Lacks function_phrase self.old refusal) }
     {
         match self.item_start() {
             ItemStart::Cilk => {
@@ -122,10 +123,10 @@ impl<'a> Reader<'a> {
 
     /// Reads `int` or `void`, and says whether it is `int`.
     fn gives(&mut self) -> Result<bool, ParseRefusal>
-        ensures { MatchResult result (λ gives. HasResult self.old self.new gives) (λ refusal. LacksResult self.old refusal) }
+        ensures { MatchResult result (λ gives. Parses result_phrase self.old self.new gives) (λ refusal. Lacks result_phrase self.old refusal) }
     {
-        let gives = self.is_at_word(Keyword::Int);
-        if !gives && !self.is_at_word(Keyword::Void) {
+        let gives = self.is_at_keyword(Keyword::Int);
+        if !gives && !self.is_at_keyword(Keyword::Void) {
             return Err(self.unexpected());
         }
         self.pass(0, &[])?;
@@ -134,18 +135,27 @@ impl<'a> Reader<'a> {
 
     /// Reads parameters and the parenthesis behind them.
     fn parameters(&mut self) -> Result<Items<Name>, ParseRefusal>
-        ensures { MatchResult result (λ names. HasParameters self.old self.new names) (λ refusal. LacksParameters self.old refusal) }
+        ensures { MatchResult result (λ names. Parses parameters_phrase self.old self.new names) (λ refusal. Lacks parameters_phrase self.old refusal) }
     {
-        let mut names = Items::new(self.alloc());
-        if self.is_at_word(Keyword::Void) {
+        if self.is_at_keyword(Keyword::Void) {
             self.pass(0, &[])?;
             self.sign(Sign::CloseParen, 0)?;
-            return Ok(names);
+            return Ok(Items::new(self.alloc()));
         }
         if self.is_at(Sign::CloseParen) {
             self.pass(0, &[])?;
-            return Ok(names);
+            return Ok(Items::new(self.alloc()));
         }
+        self.parameter_names()
+    }
+
+    /// Reads the names of one parameter or more, and the parenthesis behind them.
+    fn parameter_names(&mut self) -> Result<Items<Name>, ParseRefusal>
+        requires no_void { is_keyword Keyword.Void self.old.left ≡ false }
+        requires no_close { is_sign Sign.CloseParen self.old.left ≡ false }
+        ensures { MatchResult result (λ names. Parses parameters_phrase self.old self.new names) (λ refusal. Lacks parameters_phrase self.old refusal) }
+    {
+        let mut names = Items::new(self.alloc());
         names.push(self.parameter()?)?;
         while self.is_at(Sign::Comma) {
             self.pass(0, &[])?;
@@ -159,7 +169,7 @@ impl<'a> Reader<'a> {
     fn parameter(&mut self) -> Result<Name, ParseRefusal>
         ensures { MatchResult result (λ name. HasParameter self.old self.new name) (λ refusal. LacksParameter self.old refusal) }
     {
-        if !self.is_at_word(Keyword::Int) {
+        if !self.is_at_keyword(Keyword::Int) {
             return Err(self.unexpected());
         }
         self.pass(0, &[Count::OneMore(Counted::Parameters)])?;

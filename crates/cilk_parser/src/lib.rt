@@ -6,14 +6,14 @@ mod call;
 mod expression;
 mod item;
 mod opening;
+mod parser;
 mod parsing;
-mod reader;
 mod refusal;
 mod simple;
 mod starts;
 mod statement;
 mod tallies;
 
+pub use parser::End;
 pub use parsing::parse;
-pub use reader::End;
 pub use refusal::ParseRefusal;

@@ -1,4 +1,4 @@
-ghost use Rattle.cilk_parser.specs.Parts.{opening_counts};
+ghost use Rattle.cilk_parser.specs.Phrases.{opening_counts};
 ghost use Rattle.cilk_tree.specs.declared.count.Count.TheVariants.{OneMore};
 ghost use Rattle.cilk_tree.specs.declared.count.Counted.TheVariants.{Operators};
 ghost use Rattle.std.specs.Prelude.{◌≡◌, ◌≤◌, [], ◌∷◌, ◌++◌, length};
@@ -6,9 +6,9 @@ ghost use Rattle.std.specs.Prelude.{◌≡◌, ◌≤◌, [], ◌∷◌, ◌++�
 use cilk_tree::{Count, Counted};
 
 /// How an expression begins: as a part of one, as a whole one, or as an argument.
-#[derive(Clone, Copy, Debug, PartialEq, Eq)]
+#[derive(Clone, Copy)]
 pub(crate) enum Opening {
-    Part,
+    Inside,
     Whole,
     Argument,
 }
@@ -20,7 +20,7 @@ impl Opening {
         ensures few { length result.now ≤ 3 }
     {
         match self {
-            Opening::Part => &[],
+            Opening::Inside => &[],
             Opening::Whole => &[Count::Anew(Counted::Operators)],
             Opening::Argument => &[
                 Count::OneMore(Counted::Arguments),
@@ -35,7 +35,7 @@ impl Opening {
         ensures few { length result.now ≤ 3 }
     {
         match self {
-            Opening::Part => &[Count::OneMore(Counted::Operators)],
+            Opening::Inside => &[Count::OneMore(Counted::Operators)],
             Opening::Whole => &[
                 Count::Anew(Counted::Operators),
                 Count::OneMore(Counted::Operators),

@@ -1,5 +1,6 @@
 ghost use Rattle.cilk_parser.specs.Faults.{IsRefusedFor};
-ghost use Rattle.cilk_parser.specs.Parts.{Refuses, answer_on, HasProgram};
+ghost use Rattle.cilk_parser.specs.Spots.{Refuses};
+ghost use Rattle.cilk_parser.specs.Phrases.{HasProgram, answer_on};
 ghost use Rattle.cilk_tree.specs.Lexeme.{Divides, tokens_of};
 ghost use Rattle.cilk_tree.specs.Spelling.{IsFault, IsProgram};
 ghost use Rattle.cilk_tree.specs.declared.ending.Ending.TheVariants.{Reached};
@@ -7,7 +8,7 @@ ghost use Rattle.cilk_tree.specs.declared.kind.Kind.{Kind};
 ghost use Rattle.cilk_tree.specs.declared.tree.Program.{Program};
 ghost use Rattle.std.specs.Prelude.{◌≡◌, List, ℕ, length, IfErr, IfOk, MatchResult};
 
-use crate::reader::{End, Reader};
+use crate::parser::{End, Parser};
 use crate::refusal::ParseRefusal;
 use cilk_tree::{Placed, Program};
 use sqlite_items::Items;
@@ -32,14 +33,14 @@ pub fn parse(alloc: Global, places: &[Placed], end: End) -> Result<Program, Pars
 fn program_of(alloc: Global, places: &[Placed], end: End) -> Result<Program, ParseRefusal>
     ensures { MatchResult result (λ program. HasProgram end places.now program) (λ refusal. Refuses (answer_on end places.now) refusal) }
 {
-    let mut reader = Reader::new(alloc, places, end);
+    let mut parser = Parser::new(alloc, places, end);
     let mut program = Program {
         shared: Items::new(alloc),
         functions: Items::new(alloc),
     };
-    while !reader.is_done() {
-        reader.item(&mut program)?;
+    while !parser.is_done() {
+        parser.item(&mut program)?;
     }
-    reader.finish()?;
+    parser.finish()?;
     Ok(program)
 }

@@ -1,33 +1,33 @@
-ghost use Rattle.cilk_parser.specs.Parts.{HasDeclarator, HasDeclaration, HasRight, HasSimple, LacksDeclarator, LacksDeclaration, LacksRight, LacksSimple};
+ghost use Rattle.cilk_parser.specs.Phrases.{Lacks, LacksSimple, Parses, declaration_phrase, declarator_phrase, right_phrase, simple_phrase};
 ghost use Rattle.cilk_parser.specs.Starts.{starts_simple};
 ghost use Rattle.std.specs.Prelude.{◌≡◌, IfOk, MatchResult, ℤ};
 
 use crate::expression::binary;
 use crate::opening::Opening;
-use crate::reader::Reader;
+use crate::parser::Parser;
 use crate::refusal::ParseRefusal;
 use crate::starts::SimpleStart;
 use cilk_tree::{BinaryOp, Count, Counted, Expr, Keyword, Name, Sign, Stmt};
 use sqlite_items::Items;
 use std::alloc::{AllocError, Global};
 
-impl<'a> Reader<'a> {
+impl<'a> Parser<'a> {
     /// Reads what stands behind `=`, as a statement that sets the target.
     pub(crate) fn right(&mut self, level: u64, target: Name) -> Result<Stmt, ParseRefusal>
-        ensures { MatchResult result (λ tree. HasRight level target self.old self.new tree) (λ refusal. LacksRight level self.old refusal) }
+        ensures { MatchResult result (λ tree. Parses (right_phrase level) self.old self.new (target, tree)) (λ refusal. Lacks (right_phrase level) self.old refusal) }
     {
-        if self.is_at_word(Keyword::Spawn) {
+        if self.is_at_keyword(Keyword::Spawn) {
             self.pass(level, &[])?;
-            let call = self.spawned(level)?;
+            let call = self.call(level)?;
             return Ok(Stmt::Spawn(Some(target), call.name, call.arguments));
         }
-        if self.is_at_word(Keyword::FetchAdd) {
+        if self.is_at_keyword(Keyword::FetchAdd) {
             self.pass(level, &[])?;
             let addition = self.added(level)?;
             return Ok(Stmt::Add(Some(target), addition.name, addition.index, addition.addend));
         }
         if self.is_at_call() {
-            let call = self.called(level)?;
+            let call = self.call(level)?;
             return Ok(Stmt::Call(Some(target), call.name, call.arguments));
         }
         let value = self.expression(0, level, Opening::Whole)?;
@@ -40,7 +40,7 @@ impl<'a> Reader<'a> {
         level: u64,
         into: &mut Items<Stmt>,
     ) -> Result<(), ParseRefusal>
-        ensures { MatchResult result (λ _. HasDeclaration level self.old self.new into.old into.new) (λ refusal. LacksDeclaration level self.old refusal) }
+        ensures { MatchResult result (λ _. Parses (declaration_phrase level) self.old self.new (into.old, into.new)) (λ refusal. Lacks (declaration_phrase level) self.old refusal) }
     {
         loop {
             self.declarator(level, into)?;
@@ -53,7 +53,7 @@ impl<'a> Reader<'a> {
 
     /// Reads a name that is declared, with its value where it has one.
     fn declarator(&mut self, level: u64, into: &mut Items<Stmt>) -> Result<(), ParseRefusal>
-        ensures { MatchResult result (λ _. HasDeclarator level self.old self.new into.old into.new) (λ refusal. LacksDeclarator level self.old refusal) }
+        ensures { MatchResult result (λ _. Parses (declarator_phrase level) self.old self.new (into.old, into.new)) (λ refusal. Lacks (declarator_phrase level) self.old refusal) }
     {
         let name = self.name(level, &[Count::OneMore(Counted::Variables)])?;
         if !self.is_at(Sign::Assign) {
@@ -69,7 +69,7 @@ impl<'a> Reader<'a> {
 
     /// Reads an assignment, a step or a store behind its name, up to the sign behind it.
     pub(crate) fn simple(&mut self, level: u64, name: Name) -> Result<Stmt, ParseRefusal>
-        ensures { MatchResult result (λ tree. HasSimple level name self.old self.new tree) (λ refusal. LacksSimple level name self.old refusal) }
+        ensures { MatchResult result (λ tree. Parses (simple_phrase level name) self.old self.new tree) (λ refusal. LacksSimple level name self.old refusal) }
     {
         match self.simple_start() {
             SimpleStart::Assign => {
@@ -89,7 +89,7 @@ impl<'a> Reader<'a> {
     /// Reads `+= e` or `-= e`. The sign is the first operator of the value, which is one level deeper.
     fn change(&mut self, operator: BinaryOp, level: u64, name: Name) -> Result<Stmt, ParseRefusal>
         requires { starts_simple self.old.left ≡ SimpleStart.Change operator }
-        ensures { MatchResult result (λ tree. HasSimple level name self.old self.new tree) (λ refusal. LacksSimple level name self.old refusal) }
+        ensures { MatchResult result (λ tree. Parses (simple_phrase level name) self.old self.new tree) (λ refusal. LacksSimple level name self.old refusal) }
     {
         self.pass(
             level,
@@ -98,18 +98,17 @@ impl<'a> Reader<'a> {
                 Count::OneMore(Counted::Operators),
             ],
         )?;
-        let value = self.expression(0, level + 1, Opening::Part)?;
+        let value = self.expression(0, level + 1, Opening::Inside)?;
         Ok(changed(self.alloc(), operator, name, value)?)
     }
 
     /// Reads `[i] = e`.
     fn store(&mut self, level: u64, name: Name) -> Result<Stmt, ParseRefusal>
         requires { starts_simple self.old.left ≡ SimpleStart.Index }
-        ensures { MatchResult result (λ tree. HasSimple level name self.old self.new tree) (λ refusal. LacksSimple level name self.old refusal) }
+        ensures { MatchResult result (λ tree. Parses (simple_phrase level name) self.old self.new tree) (λ refusal. LacksSimple level name self.old refusal) }
     {
         self.pass(level, &[])?;
-        let index = self.expression(0, level + 1, Opening::Whole)?;
-        self.sign(Sign::CloseBracket, level)?;
+        let index = self.enclosed(level + 1, Opening::Whole, Sign::CloseBracket, level)?;
         self.sign(Sign::Assign, level)?;
         let value = self.expression(0, level, Opening::Whole)?;
         Ok(Stmt::Put(name, index, value))

@@ -4,7 +4,7 @@ ghost use Rattle.std.specs.Prelude.{◌≡◌};
 use cilk_tree::{BinaryOp, Keyword, Sign, Token, UnaryOp};
 
 /// How an operand begins.
-#[derive(Clone, Copy, Debug, PartialEq, Eq)]
+#[derive(Clone, Copy)]
 pub(crate) enum OperandStart {
     Number(i64),
     Name,
@@ -32,7 +32,7 @@ impl OperandStart {
 }
 
 /// How a statement begins that is no declaration and no block.
-#[derive(Clone, Copy, Debug, PartialEq, Eq)]
+#[derive(Clone, Copy)]
 pub(crate) enum StatementStart {
     Empty,
     Name,
@@ -74,7 +74,7 @@ impl StatementStart {
 }
 
 /// What follows the name that begins an assignment, a step or a store. A step or a change has its operator.
-#[derive(Clone, Copy, Debug, PartialEq, Eq)]
+#[derive(Clone, Copy)]
 pub(crate) enum SimpleStart {
     Assign,
     Change(BinaryOp),
@@ -103,7 +103,7 @@ impl SimpleStart {
 }
 
 /// How an item begins.
-#[derive(Clone, Copy, Debug, PartialEq, Eq)]
+#[derive(Clone, Copy)]
 pub(crate) enum ItemStart {
     Cilk,
     Void,

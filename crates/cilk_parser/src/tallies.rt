@@ -4,7 +4,7 @@ ghost use Rattle.std.specs.Prelude.{◌≡◌, ◌≤◌, false, length};
 use cilk_tree::{Count, Counted};
 
 /// How many there are of each that is counted.
-#[derive(Clone, Copy, Debug)]
+#[derive(Clone, Copy)]
 pub(crate) struct Tallies {
     pub(crate) operators: u64,
     pub(crate) parameters: u64,

@@ -7,7 +7,7 @@ use Rattle.cilk_tree.specs.declared.token.Token.{Token}
 use Rattle.cilk_tree.specs.Lexeme.{gap_text, is_gap, IsEnding, StartsWith, EndsWith, Divides}
 use Rattle.cilk_reader.specs.Heads.{IsGapBefore, StartsAt}
 use Rattle.cilk_reader.proofs.Gaps.{gap_unique}
-use Rattle.cilk_parser.proofs.Offsets.{lexeme_some}
+use Rattle.cilk_tree.proofs.LexemeSizes.{lexeme_some}
 use Rattle.cilk_reader.proofs.Lexemes.{token_plain, ending_plain, same_start, same_ending, token_or_ending}
 
 -- ---- a token or an end after a gap

@@ -19,11 +19,13 @@ use Rattle.cilk_tree.specs.declared.token.Token.TheVariants.{Name, Number, Word,
 use Rattle.cilk_tree.specs.Lexeme.{is_blank, is_digit, is_letter, is_word, starts, is_name, IsNumeral, IsLexeme, ends_before, opens_comment, has_longer_sign, is_bad_byte, IsBadNumber, IsEnding}
 use Rattle.cilk_tree.specs.Token.{keyword_text, sign_text}
 use Rattle.cilk_reader.specs.Heads.{begins_piece, StartsAt}
-use Rattle.cilk_parser.proofs.Offsets.{lexeme_some}
+use Rattle.cilk_tree.proofs.LexemeSizes.{lexeme_some}
 use Rattle.cilk_reader.proofs.Gaps.{prefix_from, prefix_split, plain_from}
 use Rattle.cilk_reader.proofs.Numbers.{decimal_digits}
-use Rattle.cilk_reader.proofs.Runs.{run_unique, starts_weaker, starts_apart, starts_no, starts_from_all, starts_append, starts_some, all_weaker}
-use Rattle.cilk_reader.proofs.Tables.{of_keywords, of_signs, keyword_injective, sign_injective, not_reserved, longest}
+use Rattle.cilk_reader.proofs.Runs.{run_unique, starts_weaker, starts_apart, starts_no, starts_from_all, starts_append, all_weaker}
+use Rattle.cilk_tree.proofs.LexemeSizes.{starts_some}
+use Rattle.cilk_reader.proofs.Tables.{not_reserved, longest}
+use Rattle.cilk_tree.proofs.Tables.{of_keywords, of_signs, keyword_injective, sign_injective}
 
 -- ---- kinds of bytes
 

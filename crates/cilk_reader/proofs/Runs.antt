@@ -59,10 +59,6 @@ pub starts_append : (p : ℕ → Bool) (front rest : List ℕ) → IsTrue (start
 starts_append p [] rest h = cc
 starts_append p (x ∷ front) rest h = h
 
-pub starts_some : (p : ℕ → Bool) (bytes : List ℕ) → IsTrue (starts p bytes) → 0 < length bytes
-starts_some p [] h = cc
-starts_some p (x ∷ xs) h = omega arith
-
 pub all_weaker : (p q : ℕ → Bool) (bytes : List ℕ) → ((byte : ℕ) → p byte ≡ true → q byte ≡ true) → IsTrue (list_all p bytes) → IsTrue (list_all q bytes)
 all_weaker p q [] weaker h = refl
 all_weaker p q (x ∷ xs) weaker h =

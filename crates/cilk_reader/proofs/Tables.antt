@@ -1,18 +1,17 @@
--- What stands in the tables of the reserved words and of the signs, and what is found there.
-use Rattle.std.proofs.Common.{◌≡◌, ℕ, ◌<◌, ◌≤◌, suc, zero, nat_eq, nat_le, Bool, true, not, leb, ◌&&◌, IsTrue, IsFalse, List, [], ◌∷◌, ◌++◌, length, drop, get_or, Option, Some, None, MatchOption, sym, refl, ap, ◌∙◌, subst, ⊎_elim, arith}
-use Rattle.std.specs.List.{Contains, AllWithin, HoldsAt, find, list_all, list_any, starts_with}
+-- What is found in the tables of the reserved words and of the signs.
+use Rattle.std.proofs.Common.{◌≡◌, ℕ, ◌<◌, ◌≤◌, suc, zero, nat_eq, nat_le, Bool, true, not, leb, ◌&&◌, IsTrue, IsFalse, List, [], ◌∷◌, ◌++◌, length, drop, get_or, Option, Some, None, MatchOption, refl, subst, ⊎_elim, arith}
+use Rattle.std.specs.List.{Contains, AllWithin, HoldsAt, list_all, list_any, starts_with}
 use Rattle.std.specs.Str.{bytes_eq}
 use Rattle.std.proofs.str.Laws.{order}
-use Rattle.std.proofs.lemmas.Bool.{and_parts, and_from, or_from, not_from_false, lt-leb, both_ways, not-true, leb-true, leb-false, false_from_ne_true, true_from_ne_false}
-use Rattle.std.proofs.lemmas.List.Folds.{list_any_at, list_all_at}
+use Rattle.std.proofs.lemmas.Bool.{and_parts, and_from, or_from, not_from_false, lt-leb, both_ways, not-true, leb-true, leb-false, false_from_ne_true}
+use Rattle.std.proofs.lemmas.List.Folds.{list_any_at}
 use Rattle.std.proofs.lemmas.List.Sums.{AllPass-from_list_all}
-use Rattle.std.proofs.lemmas.Option.{same_Some}
 use Rattle.cilk_tree.specs.declared.token.Keyword.{Keyword}
-use Rattle.cilk_tree.specs.declared.token.Keyword.TheVariants.{Cilk, CilkFor, Else, FetchAdd, For, If, Int, Print, Return, Spawn, Sync, Void, While}
 use Rattle.cilk_tree.specs.declared.token.Sign.{Sign}
 use Rattle.cilk_tree.specs.declared.token.Sign.TheVariants.{Plus, Minus, Star, Slash, Percent, Assign, Equal, NotEqual, Less, LessEqual, Greater, GreaterEqual, AndAnd, OrOr, Bang, PlusPlus, MinusMinus, PlusAssign, MinusAssign, OpenParen, CloseParen, OpenBracket, CloseBracket, OpenBrace, CloseBrace, Comma, Semicolon}
 use Rattle.cilk_tree.specs.Lexeme.{is_reserved, has_longer_sign}
 use Rattle.cilk_tree.specs.Token.{keyword_text, all_keywords, sign_text, all_signs}
+use Rattle.cilk_tree.proofs.Tables.{keyword_listed, sign_listed}
 
 -- the signs in the order in which they are tried: a longer one before a shorter one
 abbrev pub signs : List Sign
@@ -21,60 +20,41 @@ signs =
     ∷ Plus ∷ Minus ∷ Star ∷ Slash ∷ Percent ∷ Assign ∷ Less ∷ Greater ∷ Bang
     ∷ OpenParen ∷ CloseParen ∷ OpenBracket ∷ CloseBracket ∷ OpenBrace ∷ CloseBrace ∷ Comma ∷ Semicolon ∷ []
 
-keyword_listed : (word : Keyword) → Contains all_keywords word
-keyword_listed Cilk = (0, omega arith, refl)
-keyword_listed CilkFor = (1, omega arith, refl)
-keyword_listed Else = (2, omega arith, refl)
-keyword_listed FetchAdd = (3, omega arith, refl)
-keyword_listed For = (4, omega arith, refl)
-keyword_listed If = (5, omega arith, refl)
-keyword_listed Int = (6, omega arith, refl)
-keyword_listed Print = (7, omega arith, refl)
-keyword_listed Return = (8, omega arith, refl)
-keyword_listed Spawn = (9, omega arith, refl)
-keyword_listed Sync = (10, omega arith, refl)
-keyword_listed Void = (11, omega arith, refl)
-keyword_listed While = (12, omega arith, refl)
-
--- each sign stands in both tables
-sign_listed : (sign : Sign) → Contains all_signs sign × Contains signs sign
-sign_listed Plus = ((0, omega arith, refl), (10, omega arith, refl))
-sign_listed Minus = ((1, omega arith, refl), (11, omega arith, refl))
-sign_listed Star = ((2, omega arith, refl), (12, omega arith, refl))
-sign_listed Slash = ((3, omega arith, refl), (13, omega arith, refl))
-sign_listed Percent = ((4, omega arith, refl), (14, omega arith, refl))
-sign_listed Assign = ((5, omega arith, refl), (15, omega arith, refl))
-sign_listed Equal = ((6, omega arith, refl), (0, omega arith, refl))
-sign_listed NotEqual = ((7, omega arith, refl), (1, omega arith, refl))
-sign_listed Less = ((8, omega arith, refl), (16, omega arith, refl))
-sign_listed LessEqual = ((9, omega arith, refl), (2, omega arith, refl))
-sign_listed Greater = ((10, omega arith, refl), (17, omega arith, refl))
-sign_listed GreaterEqual = ((11, omega arith, refl), (3, omega arith, refl))
-sign_listed AndAnd = ((12, omega arith, refl), (4, omega arith, refl))
-sign_listed OrOr = ((13, omega arith, refl), (5, omega arith, refl))
-sign_listed Bang = ((14, omega arith, refl), (18, omega arith, refl))
-sign_listed PlusPlus = ((15, omega arith, refl), (6, omega arith, refl))
-sign_listed MinusMinus = ((16, omega arith, refl), (7, omega arith, refl))
-sign_listed PlusAssign = ((17, omega arith, refl), (8, omega arith, refl))
-sign_listed MinusAssign = ((18, omega arith, refl), (9, omega arith, refl))
-sign_listed OpenParen = ((19, omega arith, refl), (19, omega arith, refl))
-sign_listed CloseParen = ((20, omega arith, refl), (20, omega arith, refl))
-sign_listed OpenBracket = ((21, omega arith, refl), (21, omega arith, refl))
-sign_listed CloseBracket = ((22, omega arith, refl), (22, omega arith, refl))
-sign_listed OpenBrace = ((23, omega arith, refl), (23, omega arith, refl))
-sign_listed CloseBrace = ((24, omega arith, refl), (24, omega arith, refl))
-sign_listed Comma = ((25, omega arith, refl), (25, omega arith, refl))
-sign_listed Semicolon = ((26, omega arith, refl), (26, omega arith, refl))
+-- each sign stands there
+sign_tried : (sign : Sign) → Contains signs sign
+sign_tried Plus = (10, omega arith, refl)
+sign_tried Minus = (11, omega arith, refl)
+sign_tried Star = (12, omega arith, refl)
+sign_tried Slash = (13, omega arith, refl)
+sign_tried Percent = (14, omega arith, refl)
+sign_tried Assign = (15, omega arith, refl)
+sign_tried Equal = (0, omega arith, refl)
+sign_tried NotEqual = (1, omega arith, refl)
+sign_tried Less = (16, omega arith, refl)
+sign_tried LessEqual = (2, omega arith, refl)
+sign_tried Greater = (17, omega arith, refl)
+sign_tried GreaterEqual = (3, omega arith, refl)
+sign_tried AndAnd = (4, omega arith, refl)
+sign_tried OrOr = (5, omega arith, refl)
+sign_tried Bang = (18, omega arith, refl)
+sign_tried PlusPlus = (6, omega arith, refl)
+sign_tried MinusMinus = (7, omega arith, refl)
+sign_tried PlusAssign = (8, omega arith, refl)
+sign_tried MinusAssign = (9, omega arith, refl)
+sign_tried OpenParen = (19, omega arith, refl)
+sign_tried CloseParen = (20, omega arith, refl)
+sign_tried OpenBracket = (21, omega arith, refl)
+sign_tried CloseBracket = (22, omega arith, refl)
+sign_tried OpenBrace = (23, omega arith, refl)
+sign_tried CloseBrace = (24, omega arith, refl)
+sign_tried Comma = (25, omega arith, refl)
+sign_tried Semicolon = (26, omega arith, refl)
 
 -- ---- what holds of each item of a table
 
 -- what holds of each item of a table holds of one that is listed there
 of_listed : {X : Type 0} (P : X → Type 0) (xs : List X) (x : X) → AllWithin P xs 0 (length xs) → Contains xs x → P x
 of_listed P xs x all (k, within, is) = subst P is (all k x (omega arith) within)
-
-all_listed : {X : Type 0} (p : X → Bool) (xs : List X) (x : X) → IsTrue (list_all p xs) → Contains xs x → IsTrue (p x)
-all_listed p xs x all (k, within, is) =
-    subst (λ y. IsTrue (p y)) is (true_from_ne_false _ (λ fails. both_ways _ (list_all_at p xs k x within fails) all))
 
 any_listed : {X : Type 0} (p : X → Bool) (xs : List X) (x : X) → IsFalse (list_any p xs) → Contains xs x → IsFalse (p x)
 any_listed p xs x none (k, within, is) =
@@ -84,66 +64,6 @@ any_of_none : {X : Type 0} (p : X → Bool) (xs : List X) → ((x : X) → Conta
 any_of_none p [] none = refl
 any_of_none p (x ∷ xs) none =
     or_from _ _ (none x (0, omega arith, refl)) (any_of_none p xs (λ y listed. none y (suc listed.0, omega (arith, listed.1), listed.2)))
-
-pub of_keywords : (p : Keyword → Bool) → IsTrue (list_all p all_keywords) → (word : Keyword) → IsTrue (p word)
-of_keywords p all word = all_listed p all_keywords word all (keyword_listed word)
-
-pub of_signs : (p : Sign → Bool) → IsTrue (list_all p all_signs) → (sign : Sign) → IsTrue (p sign)
-of_signs p all sign = all_listed p all_signs sign all (sign_listed sign).0
-
--- ---- no two items are written alike
-
-keyword_of_text : (word : Keyword) → find (λ w. bytes_eq (keyword_text w) (keyword_text word)) all_keywords ≡ Some word
-keyword_of_text Cilk = refl
-keyword_of_text CilkFor = refl
-keyword_of_text Else = refl
-keyword_of_text FetchAdd = refl
-keyword_of_text For = refl
-keyword_of_text If = refl
-keyword_of_text Int = refl
-keyword_of_text Print = refl
-keyword_of_text Return = refl
-keyword_of_text Spawn = refl
-keyword_of_text Sync = refl
-keyword_of_text Void = refl
-keyword_of_text While = refl
-
-pub keyword_injective : (word other : Keyword) → keyword_text word ≡ keyword_text other → word ≡ other
-keyword_injective word other same =
-    same_Some word other (sym (keyword_of_text word) ∙ ap (λ bs. find (λ w. bytes_eq (keyword_text w) bs) all_keywords) same ∙ keyword_of_text other)
-
-sign_of_text : (sign : Sign) → find (λ s. bytes_eq (sign_text s) (sign_text sign)) all_signs ≡ Some sign
-sign_of_text Plus = refl
-sign_of_text Minus = refl
-sign_of_text Star = refl
-sign_of_text Slash = refl
-sign_of_text Percent = refl
-sign_of_text Assign = refl
-sign_of_text Equal = refl
-sign_of_text NotEqual = refl
-sign_of_text Less = refl
-sign_of_text LessEqual = refl
-sign_of_text Greater = refl
-sign_of_text GreaterEqual = refl
-sign_of_text AndAnd = refl
-sign_of_text OrOr = refl
-sign_of_text Bang = refl
-sign_of_text PlusPlus = refl
-sign_of_text MinusMinus = refl
-sign_of_text PlusAssign = refl
-sign_of_text MinusAssign = refl
-sign_of_text OpenParen = refl
-sign_of_text CloseParen = refl
-sign_of_text OpenBracket = refl
-sign_of_text CloseBracket = refl
-sign_of_text OpenBrace = refl
-sign_of_text CloseBrace = refl
-sign_of_text Comma = refl
-sign_of_text Semicolon = refl
-
-pub sign_injective : (sign other : Sign) → sign_text sign ≡ sign_text other → sign ≡ other
-sign_injective sign other same =
-    same_Some sign other (sym (sign_of_text sign) ∙ ap (λ bs. find (λ s. bytes_eq (sign_text s) bs) all_signs) same ∙ sign_of_text other)
 
 -- ---- what a look-up finds
 
@@ -183,7 +103,7 @@ begins_sign text sign = starts_with nat_eq text (sign_text sign)
 -- no sign that the text begins with is longer than the first of the table
 longest_from_first : (text : List ℕ) (sign : Sign) → FirstOf (λ sign. text ≡ sign_text sign ++ drop (length (sign_text sign)) text) (λ sign. IsFalse (begins_sign text sign)) signs (Some sign) → (other : Sign) → IsTrue (begins_sign text other) → sign_len other ≤ sign_len sign
 longest_from_first text sign (begins, k, within, here, before) other h =
-    let listed = (sign_listed other).1 in
+    let listed = sign_tried other in
     ⊎_elim
     (λ earlier. absurd (both_ways _ (subst (λ s. IsFalse (begins_sign text s)) listed.2 (before listed.0 other (omega arith) earlier)) h))
     (λ later. subst (λ s. sign_len other ≤ sign_len s) (here other) (subst (λ s. sign_len s ≤ sign_len (get_or signs k other)) listed.2 (falls_at sign_len signs k listed.0 other refl later listed.1)))
@@ -206,11 +126,11 @@ is_longer_from size text sign longer h = and_from _ _ (not_from_false _ (lt-leb 
 pub longest : (size : ℕ) (text : List ℕ) → IsFalse (has_longer_sign size text) → (sign : Sign) → IsTrue (begins_sign text sign) → sign_len sign ≤ size
 longest size text none sign h =
     ⊎_elim
-    (λ longer. absurd (both_ways _ (any_listed (is_longer size text) all_signs sign none (sign_listed sign).0) (is_longer_from size text sign longer h)))
+    (λ longer. absurd (both_ways _ (any_listed (is_longer size text) all_signs sign none (sign_listed sign)) (is_longer_from size text sign longer h)))
     (λ short. short)
     (order size (sign_len sign))
 
 pub sign_from_first : (text : List ℕ) (r : Option Sign) → FirstOf (λ sign. text ≡ sign_text sign ++ drop (length (sign_text sign)) text) (λ sign. IsFalse (begins_sign text sign)) signs r → MatchOption r (IsFalse (has_longer_sign 0 text)) (λ sign. (text ≡ sign_text sign ++ drop (length (sign_text sign)) text) × IsFalse (has_longer_sign (length (sign_text sign)) text))
 sign_from_first text None first =
-    no_longer 0 text (λ sign h. absurd (both_ways _ (of_listed (λ s. IsFalse (begins_sign text s)) signs sign first (sign_listed sign).1) h))
+    no_longer 0 text (λ sign h. absurd (both_ways _ (of_listed (λ s. IsFalse (begins_sign text s)) signs sign first (sign_tried sign)) h))
 sign_from_first text (Some sign) first = (first.0, no_longer (sign_len sign) text (longest_from_first text sign first))

@@ -1,4 +1,5 @@
 pub mod Division
+pub mod LexemeSizes
 pub mod Lines
 pub mod PlainExpressions
 pub mod PlainPrograms
@@ -6,3 +7,4 @@ pub mod PlainStatements
 pub mod PrintedExpressions
 pub mod PrintedPrograms
 pub mod PrintedStatements
+pub mod Tables

@@ -1,3 +1,6 @@
+ghost use Rattle.cilk_tree.specs.Syntax.{operator_strength};
+ghost use Rattle.std.specs.Prelude.{◌≡◌, ◌<◌};
+
 use crate::name::Name;
 use sqlite_items::{Boxed, Items};
 
@@ -84,4 +87,21 @@ pub enum BinaryOp {
     Mul,
     Div,
     Rem,
+}
+
+impl BinaryOp {
+    /// How strongly the operator binds its operands.
+    pub fn strength(self) -> u8
+        ensures value { result ≡ operator_strength self }
+        ensures few { result < 7 }
+    {
+        match self {
+            BinaryOp::Or => 1,
+            BinaryOp::And => 2,
+            BinaryOp::Eq | BinaryOp::Ne => 3,
+            BinaryOp::Lt | BinaryOp::Le | BinaryOp::Gt | BinaryOp::Ge => 4,
+            BinaryOp::Add | BinaryOp::Sub => 5,
+            BinaryOp::Mul | BinaryOp::Div | BinaryOp::Rem => 6,
+        }
+    }
 }

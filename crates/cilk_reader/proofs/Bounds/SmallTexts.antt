@@ -3,7 +3,7 @@ use Rattle.std.proofs.Common.{ℕ, ◌+◌, ◌≤◌, List, [], ◌∷◌, ◌+
 use Rattle.cilk_tree.specs.declared.ending.Ending.{Ending}
 use Rattle.cilk_tree.specs.declared.token.Placed.{Placed}
 use Rattle.cilk_tree.specs.Lexeme.{gap_text, Divides}
-use Rattle.cilk_parser.proofs.Offsets.{lexeme_some}
+use Rattle.cilk_tree.proofs.LexemeSizes.{lexeme_some}
 
 -- a text is divided into no more tokens than it has bytes
 pub divided_is_small : (offset : ℕ) (text : List ℕ) (places : List Placed) (ending : Ending) → Divides offset text places ending → length places ≤ length text

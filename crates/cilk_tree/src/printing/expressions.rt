@@ -1,8 +1,8 @@
-ghost use Rattle.std.specs.Prelude.{◌≡◌, ◌<◌, ◌++◌, codes, OnOk};
+ghost use Rattle.std.specs.Prelude.{◌≡◌, ◌++◌, codes, OnOk};
 ghost use Rattle.std.specs.Fmt.{signed_decimal};
 ghost use Rattle.cilk_tree.specs.Canonical.{plain_expression, grouped, gap_between, expression_text, expr_text};
 ghost use Rattle.cilk_tree.specs.Levels.{operator_sign, unary_sign};
-ghost use Rattle.cilk_tree.specs.Syntax.{operator_strength, strength};
+ghost use Rattle.cilk_tree.specs.Syntax.{strength};
 ghost use Rattle.cilk_tree.specs.Token.{sign_text};
 
 use crate::token::Sign;
@@ -36,7 +36,7 @@ pub(crate) fn push_expression(
             push_operand(alloc, text, UNARY, operand.get())
         }
         Expr::Binary(operator, left, right) => {
-            let least = strength_between(*operator);
+            let least = operator.strength();
             push_operand(alloc, text, least, left.get())?;
             push_between(text, *operator)?;
             push_operand(alloc, text, least + 1, right.get())
@@ -91,22 +91,7 @@ fn strength_of(expr: &Expr) -> u8
     match expr {
         Expr::Number(_) | Expr::Local(_) | Expr::Get(_, _) => 8,
         Expr::Unary(_, _) => UNARY,
-        Expr::Binary(operator, _, _) => strength_between(*operator),
-    }
-}
-
-/// How strongly the operator binds its operands.
-fn strength_between(operator: BinaryOp) -> u8
-    ensures value { result ≡ operator_strength operator }
-    ensures few { result < 7 }
-{
-    match operator {
-        BinaryOp::Or => 1,
-        BinaryOp::And => 2,
-        BinaryOp::Eq | BinaryOp::Ne => 3,
-        BinaryOp::Lt | BinaryOp::Le | BinaryOp::Gt | BinaryOp::Ge => 4,
-        BinaryOp::Add | BinaryOp::Sub => 5,
-        BinaryOp::Mul | BinaryOp::Div | BinaryOp::Rem => 6,
+        Expr::Binary(operator, _, _) => operator.strength(),
     }
 }
 

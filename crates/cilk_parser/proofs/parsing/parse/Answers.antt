@@ -1,4 +1,4 @@
-use Rattle.cilk_parser.proofs.Parsed.{finds_only, finds_program, has_no_fault, reaches_end, refuses_text}
+use Rattle.cilk_parser.proofs.Answered.Parsed.{finds_only, finds_program, has_no_fault, reaches_end, refuses_text}
 use Rattle.cilk_parser.proofs.parsing.parse.Goals as goal
 
 pub returns-clause-whole : goal.returns-clause-whole

@@ -1,0 +1,25 @@
+-- What the code reads is what the machine does.
+pub mod Additions
+pub mod Arrays
+pub mod Beginnings
+pub mod BehindOperand
+pub mod Blocks
+pub mod Bodies
+pub mod Calls
+pub mod Conditions
+pub mod Declarations
+pub mod Enclosed
+pub mod Firsts
+pub mod Functions
+pub mod Heads
+pub mod ItemHeads
+pub mod Lists
+pub mod NextOperators
+pub mod OperandStarts
+pub mod Owners
+pub mod Programs
+pub mod RightNames
+pub mod Rights
+pub mod Simples
+pub mod Statements
+pub mod Stepping
