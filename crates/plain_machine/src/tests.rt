@@ -1,4 +1,4 @@
-ghost use Rattle.std.specs.Prelude.{◌≤◌, [], ◌∷◌, pos};
+ghost use Rattle.std.specs.Prelude.{◌≤◌, [], ◌∷◌, false, pos};
 ghost use Rattle.machine_code.specs.Valid.{IsValid};
 ghost use Rattle.machine_code.specs.declared.instr.Instr.TheVariants.{Const, PrintTop, Return};
 
