@@ -36,7 +36,7 @@ pub acts_in_order : ActsInOrder
 acts_in_order most program memory budget =
     let d = done most program memory budget in
     let log = (elision_within most program memory budget).world.log in
-    (d.acts, ap (filter_map printed_by) d.acts ∙ printed_alike (reverse log))
+    (d.acts, d.rows, ap (filter_map printed_by) d.acts ∙ printed_alike (reverse log))
 
 pub elision_reads_serially : ElisionReadsSerially
 elision_reads_serially most program memory budget =
