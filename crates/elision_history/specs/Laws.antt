@@ -1,5 +1,5 @@
 -- Laws of the elision's own history.
-use Rattle.std.specs.Prelude.{◌≡◌, ℕ, ℤ, Option, Some, map}
+use Rattle.std.specs.Prelude.{◌≡◌, ℕ, ℤ, Option, Some, map, List}
 use Rattle.cilk_meaning.specs.declared.ends.NodeEnd.TheVariants.{Finished}
 use Rattle.cilk_meaning.specs.Elision.{elision_within}
 use Rattle.cilk_meaning.specs.Instance.{Limits, wants_within}
@@ -10,7 +10,7 @@ use Rattle.span_tree.specs.declared.act.Act.{Act}
 use Rattle.span_tree.specs.declared.act.Act.TheVariants.{Read, Add}
 use Rattle.span_tree.specs.declared.act.Place.{Place}
 use Rattle.span_tree.specs.History.{History, act_at, serial_acts, serial_order}
-use Rattle.span_tree.specs.Memory.{ReadsSerially, last_write, output_of}
+use Rattle.span_tree.specs.Memory.{HasNoRace, IsLocationConsistent, ReadsSerially, last_write, output_of}
 use Rattle.span_tree.specs.Program.{IsComplete, IsHistory, Starts}
 
 -- However it ends, the elision's history is a history of the program; where it finished, a complete one.
@@ -44,6 +44,12 @@ MemoryIsLastWrites = (most : Limits) (program : Program) (memory : ℕ → ℤ) 
 abbrev pub CompleteIsElision : Type 0
 CompleteIsElision = (most : Limits) (program : Program) (memory : ℕ → ℤ) (history : History) →
     IsComplete (wants_within most program) program.main history → ReadsSerially memory history →
+    (budget : ℕ) × ((elision_within most program memory budget).end ≡ Finished) × (history_of program (elision_within most program memory budget) ≡ history)
+
+-- A complete history of the program that is location consistent and has no race is the elision's, which finishes then.
+abbrev pub RaceFreeIsElision : Type 0
+RaceFreeIsElision = (most : Limits) (program : Program) (memory : ℕ → ℤ) (history : History) (orders : List (List Place)) →
+    IsComplete (wants_within most program) program.main history → IsLocationConsistent memory history orders → HasNoRace history →
     (budget : ℕ) × ((elision_within most program memory budget).end ≡ Finished) × (history_of program (elision_within most program memory budget) ≡ history)
 
 -- Reads, and adds, of the same are answered alike.
