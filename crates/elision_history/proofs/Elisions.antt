@@ -9,6 +9,7 @@ use Rattle.cilk_meaning.specs.Resolved.{Program}
 use Rattle.cilk_meaning.specs.World.{End}
 use Rattle.cilk_meaning.proofs.Elisions.{elision_is_service}
 use Rattle.span_tree.specs.Memory.{ReadsLastWrites, last_write, printed_by}
+use Rattle.span_tree.proofs.RaceFree.{race_free_is_serial}
 use Rattle.elision_history.specs.Laws.{ActsInOrder, CompleteIsElision, ElisionIsHistory, ElisionReadsSerially, MemoryIsLastWrites, RaceFreeIsElision}
 use Rattle.elision_history.specs.Logged.{history_of}
 use Rattle.elision_history.proofs.Acting.{Done, service_done, printed_alike}
