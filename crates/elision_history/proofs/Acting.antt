@@ -1,7 +1,7 @@
 -- The service makes its acts in serial order, and answers from the last writes.
-use Rattle.std.proofs.Common.{◌≡◌, ◌⊎◌, ℕ, suc, List, [], ◌∷◌, ◌++◌, length, reverse, Some, None, refl, sym, ap, ◌∙◌, subst, inl, inr}
+use Rattle.std.proofs.Common.{map, ◌≡◌, ◌⊎◌, ℕ, suc, List, [], ◌∷◌, ◌++◌, length, reverse, Some, None, refl, sym, ap, ◌∙◌, subst, inl, inr}
 use Rattle.std.proofs.lemmas.Bool.{eqb-true}
-use Rattle.std.proofs.lemmas.List.{reverse-append}
+use Rattle.std.proofs.lemmas.List.{append-nil, map-append, reverse-append}
 use Rattle.std.proofs.lemmas.List.Elements.{filter_map-append}
 use Rattle.std.specs.List.{filter_map, cons_option}
 use Rattle.std.specs.Prelude.{ℤ, Bool, true, false, ◌==◌, ◌+ℤ◌, if◌then◌else◌, unwrap_or}
@@ -14,20 +14,32 @@ use Rattle.cilk_meaning.specs.World as world
 use Rattle.cilk_meaning.specs.World.{World, End, Event, with_word, sum_or_old, printed}
 use Rattle.cilk_meaning.proofs.Keeps.{IsInvariant, serve_keeps}
 use Rattle.span_tree.specs.declared.act.Act.{Act}
+use Rattle.span_tree.specs.declared.act.Place.{Place}
 use Rattle.span_tree.specs.declared.act.Act.TheVariants.{Read, Write, Add, Print, Spawn, Sync}
-use Rattle.span_tree.specs.History.{History, serial_acts}
+use Rattle.span_tree.specs.History.{History, serial_acts, serial_order}
 use Rattle.span_tree.specs.Memory.{IsAnsweredFrom, ReadsLastWrites, last_write, left_in, printed_by}
 use Rattle.span_tree.specs.Program.{Starts}
-use Rattle.span_tree.specs.Recording.{with_act, IsRunning, spawns_none}
-use Rattle.span_tree.proofs.Growing.{act_acts, child_acts}
-use Rattle.elision_history.specs.Logged.{act_in, logged}
+use Rattle.span_tree.specs.Recording.{with_act, with_child, next_place, IsRunning, spawns_none}
+use Rattle.span_tree.proofs.Growing.{act_acts, act_order, child_acts, child_order}
+use Rattle.elision_history.specs.Logged.{act_in, logged, row_in}
 use Rattle.elision_history.proofs.Histories.{Inv, step_kept, return_kept, first_kept}
 
 -- the acts of a log, in the order in which they were made
 abbrev pub acts_in : List Event → List Act
 acts_in log = filter_map act_in (reverse log)
 
+-- the rows of the places of a history, in serial order
+abbrev pub serial_rows : History → List ℕ
+serial_rows h = map (λ (place : Place). place.row) (serial_order h)
+
+-- the rows in which the acts of a log were made, in order
+abbrev pub rows_in : List Event → List ℕ
+rows_in log = filter_map row_in (reverse log)
+
 -- ---- one event more
+
+one_row_more : (event : Event) (log : List Event) → rows_in (event ∷ log) ≡ rows_in log ++ cons_option (row_in event) []
+one_row_more event log = ap (filter_map row_in) (reverse-append (event ∷ []) log) ∙ filter_map-append row_in (reverse log) (event ∷ [])
 
 one_more : (event : Event) (log : List Event) → acts_in (event ∷ log) ≡ acts_in log ++ cons_option (act_in event) []
 one_more event log = ap (filter_map act_in) (reverse-append (event ∷ []) log) ∙ filter_map-append act_in (reverse log) (event ∷ [])
@@ -97,15 +109,26 @@ module _ (starts : Starts) (main : ℕ) (start : ℕ → ℤ) where
   record Good (left : ℕ) (s : State) : Type 0 where
     kept : Inv starts main left s
     acts : serial_acts (logged main s.world.log) ≡ acts_in s.world.log
+    rows : serial_rows (logged main s.world.log) ≡ rows_in s.world.log
     answers : Answers start s.world.memory (acts_in s.world.log)
 
   pub record Done (e : End) : Type 0 where
     pub acts : serial_acts (logged main e.world.log) ≡ acts_in e.world.log
+    pub rows : serial_rows (logged main e.world.log) ≡ rows_in e.world.log
     pub holds : (word : ℕ) → e.world.memory word ≡ last_write word (start word) (acts_in e.world.log)
     pub reads : ReadsLastWrites start (acts_in e.world.log)
 
   done : (left : ℕ) (s : State) (how : NodeEnd) → Good left s → Done (record { end = how; world = s.world })
-  done left s how good = record { acts = good.acts; holds = good.answers.holds; reads = good.answers.reads }
+  done left s how good = record { acts = good.acts; rows = good.rows; holds = good.answers.holds; reads = good.answers.reads }
+
+  rows_more : (h more : History) (row : ℕ) (event : Event) (log : List Event) → serial_order more ≡ serial_order h ++ next_place row h ∷ [] → row_in event ≡ Some row → serial_rows h ≡ rows_in log →
+      serial_rows more ≡ rows_in (event ∷ log)
+  rows_more h more row event log order is same =
+      ap (map (λ (place : Place). place.row)) order ∙ map-append (λ (place : Place). place.row) (serial_order h) (next_place row h ∷ []) ∙ ap (λ l. l ++ row ∷ []) same
+      ∙ sym (one_row_more event log ∙ ap (λ o. rows_in log ++ cons_option o []) is)
+
+  quiet_rows : (h : History) (log : List Event) (row : ℕ) → serial_rows h ≡ rows_in log → serial_rows h ≡ rows_in (world.Ticks row ∷ log)
+  quiet_rows h log row same = same ∙ sym (one_row_more (world.Ticks row) log ∙ append-nil (rows_in log))
 
   -- an act that spawns nothing
   act_more : (h : History) (row : ℕ) (act : Act) (event : Event) (log : List Event) → IsRunning h row → spawns_none act ≡ true → act_in event ≡ Some act → serial_acts h ≡ acts_in log →
@@ -119,23 +142,16 @@ module _ (starts : Starts) (main : ℕ) (start : ℕ → ℤ) where
       subst (λ l. Answers start memory' l) (sym (one_more event log ∙ ap (λ o. acts_in log ++ cons_option o []) is)) (answers_more start memory memory' (acts_in log) act answers answered left)
 
   quiet_words : (memory : ℕ → ℤ) (log : List Event) (row : ℕ) → Answers start memory (acts_in log) → Answers start memory (acts_in (world.Ticks row ∷ log))
-  quiet_words memory log row answers = subst (λ l. Answers start memory l) (sym (one_more (world.Ticks row) log ∙ nil (acts_in log))) answers
-    where
-      nil : (xs : List Act) → xs ++ [] ≡ xs
-      nil [] = refl
-      nil (x ∷ xs) = ap (λ l. x ∷ l) (nil xs)
+  quiet_words memory log row answers = subst (λ l. Answers start memory l) (sym (one_more (world.Ticks row) log ∙ append-nil (acts_in log))) answers
 
   quiet_acts : (h : History) (log : List Event) (row : ℕ) → serial_acts h ≡ acts_in log → serial_acts h ≡ acts_in (world.Ticks row ∷ log)
-  quiet_acts h log row same = same ∙ sym (one_more (world.Ticks row) log ∙ nil (acts_in log))
-    where
-      nil : (xs : List Act) → xs ++ [] ≡ xs
-      nil [] = refl
-      nil (x ∷ xs) = ap (λ l. x ∷ l) (nil xs)
+  quiet_acts h log row same = same ∙ sym (one_more (world.Ticks row) log ∙ append-nil (acts_in log))
 
   step_good : (left : ℕ) (s : State) (request : Request) → now s.running.goes ≡ Some (Asks request) → Good (suc left) s → Good left (served starts request s)
   step_good left s request is good = record {
     kept = step_kept starts main left s request is good.kept;
     acts = acts request;
+    rows = rows request;
     answers = answers request;
   }
     where
@@ -152,6 +168,23 @@ module _ (starts : Starts) (main : ℕ) (start : ℕ → ℤ) where
       acts wanted.Sync = act_more (logged main s.world.log) s.running.row _ _ s.world.log good.kept.running refl refl good.acts
       acts wanted.Call = quiet_acts (logged main s.world.log) s.world.log s.running.row good.acts
       acts wanted.LoopTurn = quiet_acts (logged main s.world.log) s.world.log s.running.row good.acts
+
+      row_more : (made : Act) (event : Event) → spawns_none made ≡ true → row_in event ≡ Some s.running.row → serial_rows (with_act s.running.row made (logged main s.world.log)) ≡ rows_in (event ∷ s.world.log)
+      row_more made event plain is =
+          rows_more (logged main s.world.log) (with_act s.running.row made (logged main s.world.log)) s.running.row event s.world.log
+          (act_order (logged main s.world.log) good.kept.running.numbered s.running.row made good.kept.running.runs plain) is good.rows
+
+      rows : (r : Request) → serial_rows (logged main (served starts r s).world.log) ≡ rows_in (served starts r s).world.log
+      rows (wanted.Read word) = row_more (Read word (s.world.memory word)) (world.Acts s.running.row (world.Read word (s.world.memory word))) refl refl
+      rows (wanted.Write word value) = row_more (Write word value) (world.Acts s.running.row (world.Write word value)) refl refl
+      rows (wanted.Add word addend) = row_more (Add word (s.world.memory word) addend) (world.Acts s.running.row (world.Add word (s.world.memory word) addend)) refl refl
+      rows (wanted.Print value) = row_more (Print value) (world.Acts s.running.row (world.Print value)) refl refl
+      rows (wanted.Spawn target f vs) =
+          rows_more (logged main s.world.log) (with_child s.running.row f vs (logged main s.world.log)) s.running.row (world.Acts s.running.row (world.Spawn s.world.rows f vs)) s.world.log
+          (child_order (logged main s.world.log) good.kept.running.numbered s.running.row f vs good.kept.running.runs) refl good.rows
+      rows wanted.Sync = row_more Sync (world.Acts s.running.row world.Sync) refl refl
+      rows wanted.Call = quiet_rows (logged main s.world.log) s.world.log s.running.row good.rows
+      rows wanted.LoopTurn = quiet_rows (logged main s.world.log) s.world.log s.running.row good.rows
 
       answers : (r : Request) → Answers start (served starts r s).world.memory (acts_in (served starts r s).world.log)
       answers (wanted.Read word) = words_more s.world.memory s.world.memory s.world.log (world.Acts s.running.row (world.Read word (s.world.memory word))) (Read word (s.world.memory word)) refl good.answers (good.answers.holds word) (λ w. refl)
@@ -172,7 +205,7 @@ module _ (starts : Starts) (main : ℕ) (start : ℕ → ℤ) where
     lost = λ left s is good. done left s _ good;
     trapped = λ left s kind is good. done left s _ good;
     finished = λ left e v w is good. done left (record { running = e; waiting = []; world = w }) _ good;
-    returned = λ left e p ps v w is good. record { kept = return_kept starts main (logged main w.log) e p ps w.rows good.kept v is; acts = good.acts; answers = good.answers };
+    returned = λ left e p ps v w is good. record { kept = return_kept starts main (logged main w.log) e p ps w.rows good.kept v is; acts = good.acts; rows = good.rows; answers = good.answers };
     step = step_good;
   }
 
@@ -181,6 +214,7 @@ module _ (starts : Starts) (main : ℕ) (start : ℕ → ℤ) where
       serve_keeps starts Good Done good_kept budget (first_state starts main start) (record {
         kept = first_kept starts main start;
         acts = refl;
+        rows = refl;
         answers = record { holds = λ word. refl; reads = λ front back act e. absurd (nothing front back act e) };
       })
     where

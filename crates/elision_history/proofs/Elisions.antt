@@ -9,7 +9,8 @@ use Rattle.cilk_meaning.specs.Resolved.{Program}
 use Rattle.cilk_meaning.specs.World.{End}
 use Rattle.cilk_meaning.proofs.Elisions.{elision_is_service}
 use Rattle.span_tree.specs.Memory.{ReadsLastWrites, last_write, printed_by}
-use Rattle.elision_history.specs.Laws.{ActsInOrder, CompleteIsElision, ElisionIsHistory, ElisionReadsSerially, MemoryIsLastWrites}
+use Rattle.span_tree.proofs.RaceFree.{race_free_is_serial}
+use Rattle.elision_history.specs.Laws.{ActsInOrder, CompleteIsElision, ElisionIsHistory, ElisionReadsSerially, MemoryIsLastWrites, RaceFreeIsElision}
 use Rattle.elision_history.specs.Logged.{history_of}
 use Rattle.elision_history.proofs.Acting.{Done, service_done, printed_alike}
 use Rattle.elision_history.proofs.Simulation.{Replayed, replayed}
@@ -36,7 +37,7 @@ pub acts_in_order : ActsInOrder
 acts_in_order most program memory budget =
     let d = done most program memory budget in
     let log = (elision_within most program memory budget).world.log in
-    (d.acts, ap (filter_map printed_by) d.acts ∙ printed_alike (reverse log))
+    (d.acts, d.rows, ap (filter_map printed_by) d.acts ∙ printed_alike (reverse log))
 
 pub elision_reads_serially : ElisionReadsSerially
 elision_reads_serially most program memory budget =
@@ -54,3 +55,7 @@ complete_is_elision most program memory history complete reads =
     let r : Replayed starts program.main history complete.0 complete.1 complete.2 memory reads = replayed starts program.main history complete.0 complete.1 complete.2 memory reads in
     let is : elision_within most program memory r.ticks ≡ r.end = elision_is_service most program memory r.ticks ∙ r.is_end in
     (r.ticks, subst (λ (e : End). e.end ≡ Finished) (sym is) r.finished, ap (λ (e : End). history_of program e) is ∙ r.tells)
+
+pub race_free_is_elision : RaceFreeIsElision
+race_free_is_elision most program memory history orders complete consistent free =
+    complete_is_elision most program memory history complete (race_free_is_serial memory history orders (complete.1).numbered consistent free)

@@ -19,10 +19,6 @@ use Rattle.span_tree.proofs.Ways.{below, below_is}
 
 -- ---- lists
 
-pub nil : {A : Type 0} (xs : List A) → xs ++ [] ≡ xs
-nil [] = refl
-nil (x ∷ xs) = ap (λ l. x ∷ l) (nil xs)
-
 -- an item of a list of numbers that rise by one
 pub range_at : (a n : ℕ) (xs ys : List ℕ) (c : ℕ) → xs ++ c ∷ ys ≡ range_with_len a n → c ≡ a + length xs
 range_at a zero [] ys c e = absurd cc

@@ -1,6 +1,7 @@
 -- The service along a complete history.
 use Rattle.std.proofs.Common.{◌≡◌, ◌≢◌, ◌⊎◌, ℕ, zero, suc, ◌+◌, ◌<◌, ◌≤◌, List, [], ◌∷◌, ◌++◌, length, Option, Some, None, refl, sym, ap, ◌∙◌, subst, inl, inr, arith, append_assoc, length-append}
 use Rattle.std.proofs.lemmas.Bool.{cases_lt}
+use Rattle.std.proofs.lemmas.List.{append-nil}
 use Rattle.std.proofs.lemmas.List.Elements.{filter_map-append}
 use Rattle.std.proofs.lemmas.List.FromFn.{length-range_with_len}
 use Rattle.std.specs.List.{filter_map, range_with_len}
@@ -25,7 +26,7 @@ use Rattle.elision_history.specs.Logged.{logged}
 use Rattle.elision_history.proofs.Acting.{last_more, wrote, added}
 use Rattle.elision_history.proofs.Growth.{is_there}
 use Rattle.elision_history.proofs.Histories.{returned_more}
-use Rattle.elision_history.proofs.Replay.{nil, range_at, Rest, Ends, Tick, Act', run_front, acts_from, alone, under, under_is, serve_step, serve_back, serve_end, SameHead, Grown, one_row, same_history}
+use Rattle.elision_history.proofs.Replay.{range_at, Rest, Ends, Tick, Act', run_front, acts_from, alone, under, under_is, serve_step, serve_back, serve_end, SameHead, Grown, one_row, same_history}
 
 -- the children's values are determined
 same_deposits : (returned : ℕ → Option ℤ) (block : Block) (ds es : List Deposit) → HaveReturned returned block ds → HaveReturned returned block es → ds ≡ es
@@ -90,7 +91,7 @@ module _ (starts : Starts) (main : ℕ) (h : History) (returned : ℕ → Option
   }
 
   plain_spawned : (A : List Act) (made : Act) → spawns_none made ≡ true → length (filter_map spawned_by (A ++ made ∷ [])) ≡ length (filter_map spawned_by A)
-  plain_spawned A made plain = ap length (filter_map-append spawned_by A (made ∷ []) ∙ none made plain ∙ nil (filter_map spawned_by A))
+  plain_spawned A made plain = ap length (filter_map-append spawned_by A (made ∷ []) ∙ none made plain ∙ append-nil (filter_map spawned_by A))
     where
       none : (made : Act) → spawns_none made ≡ true → filter_map spawned_by A ++ filter_map spawned_by (made ∷ []) ≡ filter_map spawned_by A ++ []
       none (act.Spawn child) e = absurd cc
@@ -180,10 +181,10 @@ module _ (starts : Starts) (main : ℕ) (h : History) (returned : ℕ → Option
       ticks = 0;
       world = w;
       kept' = kept;
-      good = subst (λ l. Good w l) (sym (nil A)) good;
+      good = subst (λ l. Good w l) (sym (append-nil A)) good;
       grown = record {
         longer = omega arith;
-        mine = sym (here.split ∙ nil (row_at (logged main w.log) q).acts);
+        mine = sym (here.split ∙ append-nil (row_at (logged main w.log) q).acts);
         others = λ r lt ne. refl;
         new = λ r le lt. absurd (omega (arith, le, lt));
         heads = here.heads;
@@ -472,7 +473,7 @@ module _ (starts : Starts) (main : ℕ) (h : History) (returned : ℕ → Option
       let begin = starts depth (row_at h c).proc (row_at h c).args in
       let run = subst (λ d. AloneRun h returned c (starts d (row_at h c).proc (row_at h c).args) (row_at h c).acts is.block is.goes) same is.alone_run in
       let front : Rest h returned c is.goes ((row_at h c).acts ++ []) 0 [] begin = run_front h returned c is.goes begin is.goes (row_at h c).acts [] is.block run (Ends (length (row_at h c).acts) is.block) in
-      let rest : Rest h returned c is.goes (row_at h c).acts 0 [] begin = subst (λ l. Rest h returned c is.goes l 0 [] begin) (nil (row_at h c).acts) front in (
+      let rest : Rest h returned c is.goes (row_at h c).acts 0 [] begin = subst (λ l. Rest h returned c is.goes l 0 [] begin) (append-nil (row_at h c).acts) front in (
         is.goes,
         is.returns v value,
         runs_on n c depth is.goes inside near deep children (row_at h c).acts 0 [] begin rest [] w A back tt good here
@@ -495,7 +496,7 @@ module _ (starts : Starts) (main : ℕ) (h : History) (returned : ℕ → Option
       rows_run (length h) 0 0 main_value.0 (world.first_world start) [] [] (omega arith) history.numbered.some Main main_value.1
       (record { rows = refl; spawned = refl; holds = λ word. refl })
       (record { inside = omega arith; size = refl; split = refl; heads = first_heads })
-      (sym (nil (serial_acts h)))
+      (sym (append-nil (serial_acts h)))
 
   abbrev last : History
   last = logged main (main_ran.2).world.log

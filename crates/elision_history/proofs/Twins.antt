@@ -1,6 +1,7 @@
 -- Two complete histories of one program whose reads and adds are answered alike go along together.
 use Rattle.std.proofs.Common.{◌≡◌, ◌≢◌, ◌⊎◌, ℕ, zero, suc, ◌+◌, ◌<◌, ◌≤◌, List, [], ◌∷◌, ◌++◌, length, Option, Some, None, refl, sym, ap, ◌∙◌, subst, inl, inr, arith, append_assoc, length-append}
 use Rattle.std.proofs.lemmas.Bool.{cases_lt}
+use Rattle.std.proofs.lemmas.List.{append-nil}
 use Rattle.std.proofs.lemmas.List.Elements.{filter_map-append}
 use Rattle.std.proofs.lemmas.List.FromFn.{length-range_with_len}
 use Rattle.std.specs.List.{filter_map, range_with_len}
@@ -18,7 +19,7 @@ use Rattle.span_tree.proofs.Ways.{some_same, parent_of}
 use Rattle.span_tree.proofs.Growing.{same_or}
 use Rattle.elision_history.specs.Laws.{AnsweredAlike, AnswersDetermine}
 use Rattle.elision_history.proofs.Growth.{is_there}
-use Rattle.elision_history.proofs.Replay.{nil, range_at, alone, Rest, Ends, Tick, Act', run_front, acts_from, under, under_is, one_row, same_history}
+use Rattle.elision_history.proofs.Replay.{range_at, alone, Rest, Ends, Tick, Act', run_front, acts_from, under, under_is, one_row, same_history}
 use Rattle.elision_history.proofs.Simulation.{one_depth, regroup}
 use Rattle.span_tree.specs.Recording.{spawns_none}
 
@@ -425,7 +426,7 @@ module _ (starts : Starts) (main : ℕ) (h1 h2 : History) (r1 r2 : ℕ → Optio
       let begin = starts depth (row_at h c).proc (row_at h c).args in
       let same : row.depth ≡ depth = one_depth h is.numbered.main c row.depth depth row.has_depth deep in
       let run = subst (λ d. AloneRun h r c (starts d (row_at h c).proc (row_at h c).args) (row_at h c).acts row.block row.goes) same row.alone_run in
-      subst (λ l. Rest h r c row.goes l 0 [] begin) (nil (row_at h c).acts) (run_front h r c row.goes begin row.goes (row_at h c).acts [] row.block run (Ends (length (row_at h c).acts) row.block))
+      subst (λ l. Rest h r c row.goes l 0 [] begin) (append-nil (row_at h c).acts) (run_front h r c row.goes begin row.goes (row_at h c).acts [] row.block run (Ends (length (row_at h c).acts) row.block))
 
   zero_plus : (k : ℕ) → 0 + k ≡ k
   zero_plus k = omega arith
@@ -452,7 +453,7 @@ module _ (starts : Starts) (main : ℕ) (h1 h2 : History) (r1 r2 : ℕ → Optio
   mains : Alike [] (row_at h1 0).acts (row_at h2 0).acts value_of_main1.0 value_of_main2.0
   mains =
       rows_twin (length h1) 0 0 [] [] [] value_of_main1.0 value_of_main2.0 (omega arith) one.numbered.some two.numbered.some Main Main
-      (one.main_is ∙ sym two.main_is) (one.numbered.main_args ∙ sym two.numbered.main_args) value_of_main1.1 value_of_main2.1 (sym (nil (serial_acts h1))) (sym (nil (serial_acts h2)))
+      (one.main_is ∙ sym two.main_is) (one.numbered.main_args ∙ sym two.numbered.main_args) value_of_main1.1 value_of_main2.1 (sym (append-nil (serial_acts h1))) (sym (append-nil (serial_acts h2)))
 
   same_serial : serial_acts h1 ≡ serial_acts h2
   same_serial = under_is h1 one.numbered 0 ∙ mains.walk ∙ sym (under_is h2 two.numbered 0)

@@ -48,3 +48,11 @@ act_in (Ticks row) = None
 -- the acts of an elision in the order in which they were made
 abbrev pub acts_made : End → List Act
 acts_made end = filter_map act_in (events_of end)
+
+abbrev pub row_in : Event → Option ℕ
+row_in (Acts row act) = Some row
+row_in (Ticks row) = None
+
+-- the rows that made them
+abbrev pub rows_made : End → List ℕ
+rows_made end = filter_map row_in (events_of end)

@@ -1,6 +1,6 @@
 //! Laws of the elision's history, each the contract of a function that does nothing.
 
-ghost use Rattle.elision_history.specs.Laws.{ActsInOrder, AnswersDetermine, CompleteIsElision, ElisionIsHistory, ElisionReadsSerially, MemoryIsLastWrites};
+ghost use Rattle.elision_history.specs.Laws.{ActsInOrder, AnswersDetermine, CompleteIsElision, ElisionIsHistory, ElisionReadsSerially, MemoryIsLastWrites, RaceFreeIsElision};
 
 /// The elision's history is one of the program, and complete where it finished.
 pub fn elision_is_history()
@@ -30,4 +30,9 @@ pub fn complete_is_elision()
 /// A complete history is determined by what its reads and adds are answered.
 pub fn answers_determine()
     ensures { AnswersDetermine }
+{}
+
+/// A complete and location consistent history without races is the elision's.
+pub fn race_free_is_elision()
+    ensures { RaceFreeIsElision }
 {}

@@ -5,6 +5,7 @@ pub mod Growing
 pub mod Keeping
 pub mod Orders
 pub mod Parted
+pub mod RaceFree
 pub mod Running
 pub mod ThreePlaces
 pub mod Ways

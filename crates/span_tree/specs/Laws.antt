@@ -1,9 +1,10 @@
 -- Laws of the serial order and of the dag.
-use Rattle.std.specs.Prelude.{◌≡◌, ◌≢◌, ◌⊎◌, ◌↔◌, ℕ, Some}
+use Rattle.std.specs.Prelude.{◌≡◌, ◌≢◌, ◌⊎◌, ◌↔◌, ℕ, Some, ℤ, List}
 use Rattle.std.specs.List.{Contains}
 use Rattle.span_tree.specs.declared.act.Act.TheVariants.{Spawn}
 use Rattle.span_tree.specs.declared.act.Place.{Place}
 use Rattle.span_tree.specs.Dag.{IsBefore, IsParallel, Precedes}
+use Rattle.span_tree.specs.Memory.{HasNoRace, IsLocationConsistent, ReadsSerially}
 use Rattle.span_tree.specs.History.{History, IsNumbered, IsPlace, act_at, row_at, serial_order}
 
 -- The serial order has each place, once, and nothing else.
@@ -44,3 +45,9 @@ pub data IsWithin (history : History) (row : ℕ) : Place → Type 0 where
 abbrev pub NotParallelBelow : Type 0
 NotParallelBelow = (history : History) → IsNumbered history → (x y : Place) (child : ℕ) → act_at history x ≡ Some (Spawn child) → IsPlace history y →
     IsWithin history child y → ¬ IsParallel history x y
+
+-- Where no two accesses race, a location consistent history reads serially: each Read and each Add is answered by the last write in serial
+-- order, whatever order the words' lists have.
+abbrev pub RaceFreeIsSerial : Type 0
+RaceFreeIsSerial = (start : ℕ → ℤ) (history : History) (orders : List (List Place)) → IsNumbered history →
+    IsLocationConsistent start history orders → HasNoRace history → ReadsSerially start history

@@ -14,7 +14,8 @@ use std::marker::Model;
 
 /// The history of a run: a row for each instance, numbered in serial preorder. Contracts see the rows.
 ///
-/// An act takes about 40 bytes, and a row about 60 beside its arguments, in tables that may have room for twice as many.
+/// An act takes 40 bytes in tables that may have room for twice as many. A row takes 64 beside its arguments, and its
+/// table has room for four acts at least.
 #[derive(Debug, Drop)]
 pub struct History {
     alloc: Global,

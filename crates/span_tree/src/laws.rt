@@ -1,6 +1,6 @@
 //! Laws of the serial order and of the dag, each the contract of a function that does nothing.
 
-ghost use Rattle.span_tree.specs.Laws.{NotParallelInRow, NotParallelBelow, OneIsFirst, OneOfThree, OrderIsOfPlaces, ParallelIsSymmetric, PrecedesOn, ThreePlaces};
+ghost use Rattle.span_tree.specs.Laws.{NotParallelInRow, NotParallelBelow, OneIsFirst, OneOfThree, OrderIsOfPlaces, ParallelIsSymmetric, PrecedesOn, RaceFreeIsSerial, ThreePlaces};
 
 /// The serial order has each place once, and nothing else.
 pub fn order_is_of_places()
@@ -40,4 +40,9 @@ pub fn not_parallel_in_row()
 /// A Spawn act and what lies below it are never parallel.
 pub fn not_parallel_below()
     ensures { NotParallelBelow }
+{}
+
+/// A location consistent history without races reads serially.
+pub fn race_free_is_serial()
+    ensures { RaceFreeIsSerial }
 {}
