@@ -18,7 +18,7 @@ use Rattle.cilk_tree.specs.declared.tree.Stmt.{Stmt}
 use Rattle.cilk_tree.specs.Levels.{mark}
 use Rattle.cilk_tree.specs.Sugar.{expression_tree, commas_list, argument_trees, right_tree, declarator_trees, simple_tree, one_simple, if_there, start_trees, condition_tree, statement_trees, inner_trees, inners_trees, body_trees, parameter_names, function_tree, one_array, item_arrays, item_functions, source_tree}
 use Rattle.cilk_tree.specs.Syntax as syntax
-use Rattle.cilk_tree.specs.Syntax.{Commas, One, More, Empty, Then, Expression, Variable, Right, Result, Declarator, Simple, Start, DeclaringStart, Statement, Inner, Declaration, Inners, NoInners, ThenInner, Body, Parameters, Array, Item, Defined, Source, operator_strength}
+use Rattle.cilk_tree.specs.Syntax.{Commas, One, More, Empty, Then, Expression, Variable, Right, Result, Declarator, Simple, Start, DeclaringStart, Statement, Inner, Declaration, Inners, NoInners, ThenInner, Body, Parameters, Array, Item, Defined, Source, operator_strength, IfAlone, IfElse}
 use Rattle.cilk_parser.specs.declared.addition.Addition.{Addition}
 use Rattle.cilk_parser.specs.declared.call.Call.{Call}
 use Rattle.cilk_parser.specs.declared.opening.Opening.{Opening}
@@ -26,7 +26,7 @@ use Rattle.cilk_parser.specs.declared.opening.Opening.TheVariants.{Inside, Whole
 use Rattle.cilk_parser.specs.declared.parser.End.{End}
 use Rattle.cilk_parser.specs.declared.refusal.ParseRefusal.{ParseRefusal}
 use Rattle.cilk_parser.specs.declared.statement.ForHead.{ForHead}
-use Rattle.cilk_parser.specs.Contexts.{with_last, Heading, InnersIn, BodyIn, ForBody, StatementIn, inners_level, body_level, statement_level, owner_level, closing_level, SimpleIn, AsStatement, AsForStart, AsForLast, simple_level, DeclareIn, AsDeclaration, AsForDeclaration, declare_level, RightIn, right_level, CallIn, call_level, ExpressionIn, level_of, first_counts, least_strength}
+use Rattle.cilk_parser.specs.Contexts.{with_last, Heading, InnersIn, BodyIn, IfTaken, ForBody, StatementIn, inners_level, body_level, statement_level, owner_level, closing_level, SimpleIn, AsStatement, AsForStart, AsForLast, simple_level, DeclareIn, AsDeclaration, AsForDeclaration, declare_level, RightIn, right_level, CallIn, call_level, ExpressionIn, level_of, first_counts, least_strength}
 use Rattle.cilk_parser.specs.Run.{Answer, Accepted}
 use Rattle.cilk_parser.specs.Spots.{Spot, Refuses, from, is_keyword, is_sign, stepping}
 use Rattle.cilk_parser.specs.Steps.{State, Items, AfterCilk, AfterArray, ParametersStart, AfterParameter, NextParameter, AtInner, AtBody, HasBody, HasDeclarators, AtRight, AtArguments, AfterName, AtForStart, AtForCondition, AtForLast, Wants, Has, Awaits, AwaitsName, AddOpen, ArrayOpen, BodyOpen, CallOpen, SimpleEnd, FunctionName, DeclaratorName, SpawnedName, after_addition, after_call, after_right, after_statement, after_inners, call_of, finish, step, step_end, step_only, step_operand, step_statement, token_operator}
@@ -208,6 +208,21 @@ inners_phrase level closing =
 -- what an `if`, an `else` or a loop holds, whose own level is `owner`
 abbrev pub body_phrase : ℕ → ℕ → Phrase BodyIn Body (List Stmt)
 body_phrase level owner = between (λ outer. (body_level outer ≡ level) × (owner_level outer ≡ owner)) AtBody HasBody (λ body trees. trees ≡ body_trees body)
+
+-- the `if` with what its `else` holds, where it has one
+abbrev pub if_statement : Expression → Body → Option Body → Statement
+if_statement condition taken None = IfAlone condition taken
+if_statement condition taken (Some body) = IfElse condition taken body
+
+-- `else` and what it holds were read behind the body of an `if`, or there is none.
+pub record HasElse (level : ℕ) (old new : Spot) (trees : List Stmt) : Type 0 where
+  pub otherwise : Option Body
+  pub same : trees ≡ if_there body_trees otherwise
+  pub no_longer : length new.left ≤ length old.left
+  pub leads : (outer : StatementIn) (condition : Expression) (taken : Body) → statement_level outer ≡ level → from (HasBody (IfTaken outer condition) taken) old ≡ from (after_statement outer (if_statement condition taken otherwise)) new
+
+abbrev pub LacksElse : ℕ → Spot → ParseRefusal → Type 0
+LacksElse level old refusal = (outer : StatementIn) (condition : Expression) (taken : Body) → statement_level outer ≡ level → Refuses (from (HasBody (IfTaken outer condition) taken) old) refusal
 
 -- An expression in parentheses stands between these two states, whatever it is.
 pub record IsCondition (level : ℕ) (around : ExpressionIn) (before : State) (after : Expression → State) : Type 0 where

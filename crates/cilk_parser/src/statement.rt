@@ -1,5 +1,5 @@
 ghost use Rattle.cilk_parser.specs.Spots.{is_sign};
-ghost use Rattle.cilk_parser.specs.Phrases.{Lacks, Parses, body_phrase, condition_phrase, for_condition_phrase, for_head_phrase, for_last_phrase, for_start_phrase, inner_phrase, inners_phrase, statement_phrase};
+ghost use Rattle.cilk_parser.specs.Phrases.{HasElse, Lacks, LacksElse, Parses, body_phrase, condition_phrase, for_condition_phrase, for_head_phrase, for_last_phrase, for_start_phrase, inner_phrase, inners_phrase, statement_phrase};
 ghost use Rattle.cilk_parser.specs.Starts.{starts_statement};
 ghost use Rattle.std.specs.Prelude.{◌≡◌, ◌++◌, ◌∷◌, [], false, IfOk, MatchResult};
 
@@ -87,14 +87,21 @@ impl<'a> Parser<'a> {
         self.pass(level, &[])?;
         let condition = self.condition(level)?;
         let taken = self.body(level + 1, level)?;
-        if !self.is_at_keyword(Keyword::Else) {
-            into.push(Stmt::If(condition, taken, Items::new(self.alloc())))?;
-            return Ok(());
-        }
-        self.pass(level, &[])?;
-        let otherwise = self.body(level + 1, level)?;
+        let otherwise = self.otherwise(level)?;
         into.push(Stmt::If(condition, taken, otherwise))?;
         Ok(())
+    }
+
+    /// Reads `else` and what it holds, where one follows.
+    #[cycle(statement)]
+    fn otherwise(&mut self, level: u64) -> Result<Items<Stmt>, ParseRefusal>
+        ensures { MatchResult result (λ trees. HasElse level self.old self.new trees) (λ refusal. LacksElse level self.old refusal) }
+    {
+        if !self.is_at_keyword(Keyword::Else) {
+            return Ok(Items::new(self.alloc()));
+        }
+        self.pass(level, &[])?;
+        self.body(level + 1, level)
     }
 
     /// Reads a `while`.

@@ -1,5 +1,5 @@
 -- No lexeme is empty.
-use Rattle.std.proofs.Common.{◌≡◌, ℕ, ◌<◌, nat_lt, Bool, ◌&&◌, not, IsTrue, List, [], ◌∷◌, length, sym, refl, subst, arith}
+use Rattle.std.proofs.Common.{ℕ, ◌<◌, nat_lt, Bool, ◌&&◌, not, IsTrue, List, [], ◌∷◌, length, sym, refl, subst, arith}
 use Rattle.std.specs.List.{list_all}
 use Rattle.std.proofs.lemmas.Bool.{and_parts, false≢true, ltb-true}
 use Rattle.std.proofs.lemmas.Fmt.{decimal_nonempty}

@@ -1,5 +1,5 @@
 -- The tables of the reserved words and of the signs: each stands in the table of all, and no two are written alike.
-use Rattle.std.proofs.Common.{◌≡◌, ℕ, ◌<◌, suc, Bool, true, false, IsTrue, if◌then◌else◌, List, [], ◌∷◌, Option, Some, None, sym, refl, ap, ◌∙◌, subst, arith}
+use Rattle.std.proofs.Common.{◌≡◌, suc, Bool, true, false, IsTrue, if◌then◌else◌, List, [], ◌∷◌, Some, sym, refl, ap, ◌∙◌, subst, arith}
 use Rattle.std.specs.List.{Contains, find, list_all}
 use Rattle.std.specs.Str.{bytes_eq}
 use Rattle.std.proofs.lemmas.Bool.{both_ways, true_from_ne_false}

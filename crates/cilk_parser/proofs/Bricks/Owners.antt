@@ -1,5 +1,5 @@
 -- `if` and the loops, which hold bodies.
-use Rattle.std.proofs.Common.{◌≡◌, ℕ, ◌+◌, false, IsTrue, List, [], ◌∷◌, ◌++◌, refl, ap, ◌∙◌, arith}
+use Rattle.std.proofs.Common.{◌≡◌, ℕ, ◌+◌, false, IsTrue, Option, Some, None, List, [], ◌∷◌, ◌++◌, refl, ap, ◌∙◌, arith}
 use Rattle.cilk_tree.specs.declared.token.Keyword.TheVariants as word
 use Rattle.cilk_tree.specs.declared.token.Sign.TheVariants as sign
 use Rattle.cilk_tree.specs.declared.token.Token.{Token}
@@ -8,14 +8,15 @@ use Rattle.cilk_tree.specs.declared.tree.Expr.{Expr}
 use Rattle.cilk_tree.specs.declared.tree.Stmt.{Stmt}
 use Rattle.cilk_tree.specs.declared.tree.Stmt.TheVariants as stmt
 use Rattle.cilk_tree.specs.Levels.{plain, mark}
-use Rattle.cilk_tree.specs.Syntax.{Expression, IfAlone, IfElse, WhileLoop, ForLoop}
+use Rattle.cilk_tree.specs.Sugar.{body_trees, expression_tree, if_there, statement_trees}
+use Rattle.cilk_tree.specs.Syntax.{Expression, Body, WhileLoop, ForLoop}
 use Rattle.cilk_parser.specs.declared.refusal.ParseRefusal.{ParseRefusal}
 use Rattle.cilk_parser.specs.declared.statement.ForHead.{ForHead}
 use Rattle.cilk_parser.specs.declared.starts.StatementStart.{StatementStart}
 use Rattle.cilk_parser.specs.declared.starts.StatementStart.TheVariants as statement
 use Rattle.cilk_parser.specs.Contexts.{ExpressionIn, BodyIn, IfTaken, IfOtherwise, WhileBody, ForBody, IfCondition, WhileCondition, StatementIn, body_level, owner_level, statement_level}
 use Rattle.cilk_parser.specs.Spots.{Spot, from, HasPassed, IsOver, HasRead, LacksSign, is_keyword, stepping}
-use Rattle.cilk_parser.specs.Phrases.{IsCondition, Lacks, Parses, body_phrase, condition_phrase, for_condition_phrase, for_head_phrase, for_last_phrase, for_start_phrase, statement_phrase}
+use Rattle.cilk_parser.specs.Phrases.{HasElse, LacksElse, if_statement, IsCondition, Lacks, Parses, body_phrase, condition_phrase, for_condition_phrase, for_head_phrase, for_last_phrase, for_start_phrase, statement_phrase}
 use Rattle.cilk_parser.specs.Starts.{starts_statement}
 use Rattle.cilk_parser.specs.Steps.{Awaited, Awaits, AtBody, AtForCondition, AtForLast, AtForStart, ForOpen, HasBody, IfOpen, WhileOpen, goes_on, step, step_statement}
 use Rattle.cilk_parser.proofs.Bricks.Beginnings.{IsBegun, begun_for, begun_if, begun_over, begun_passed, begun_while, keyword_begins, known_passed, known_over}
@@ -75,55 +76,59 @@ module _ (level : ℕ) (old : Spot) (there : starts_statement old.left ≡ state
         behind_head statement.While (Word word.While) WhileOpen WhileCondition WhileBody head_of_while level old there middle passed later tree condition new trees body outer same ∙ while_ends outer condition.syntax body.syntax new;
   }
 
+-- ---- `else`
+
+pub no_else : (level : ℕ) (old : Spot) → is_keyword word.Else old.left ≡ false → HasElse level old old []
+no_else level old absent = record { otherwise = None; same = refl; no_longer = omega arith; leads = λ outer condition taken same. if_ends outer condition taken old absent }
+
+module _ (level : ℕ) (old : Spot) (there : IsTrue (is_keyword word.Else old.left)) where
+  goes_otherwise : (outer : StatementIn) (condition : Expression) (taken : Body) → statement_level outer ≡ level →
+      step (HasBody (IfTaken outer condition) taken) (Word word.Else) ≡ goes_on (plain level (Word word.Else)) (AtBody (IfOtherwise outer condition taken))
+  unfolding step
+  goes_otherwise outer condition taken same = ap (λ l. goes_on (plain l (Word word.Else)) (AtBody (IfOtherwise outer condition taken))) same
+
+  pub else_over : (refusal : ParseRefusal) → IsOver level [] old refusal → LacksElse level old refusal
+  else_over refusal over outer condition taken same =
+      known_over (HasBody (IfTaken outer condition) taken) refl (Word word.Else) level level [] (AtBody (IfOtherwise outer condition taken)) refl (goes_otherwise outer condition taken same) old (keyword_begins word.Else old.left there) refusal over
+
+  module _ (middle : Spot) (passed : HasPassed level [] old middle) where
+    to_otherwise : (outer : StatementIn) (condition : Expression) (taken : Body) → statement_level outer ≡ level → from (HasBody (IfTaken outer condition) taken) old ≡ from (AtBody (IfOtherwise outer condition taken)) middle
+    to_otherwise outer condition taken same =
+        known_passed (HasBody (IfTaken outer condition) taken) refl (Word word.Else) level level [] (AtBody (IfOtherwise outer condition taken)) refl (goes_otherwise outer condition taken same) old (keyword_begins word.Else old.left there) middle passed
+
+    pub else_lacks : (refusal : ParseRefusal) → Lacks (body_phrase (level + 1) level) middle refusal → LacksElse level old refusal
+    else_lacks refusal lacks outer condition taken same = refuses_as refusal _ _ (to_otherwise outer condition taken same) (lacks (IfOtherwise outer condition taken) (ap (λ l. l + 1) same, same))
+
+    pub else_reads : (new : Spot) (trees : List Stmt) → Parses (body_phrase (level + 1) level) middle new trees → HasElse level old new trees
+    else_reads new trees body = record {
+      otherwise = Some body.syntax;
+      same = body.same;
+      no_longer = let a = passed_shorter level [] old middle passed in let b = body.shorter in omega arith;
+      leads = λ outer condition taken same.
+          to_otherwise outer condition taken same ∙ body.leads (IfOtherwise outer condition taken) (ap (λ l. l + 1) same, same) ∙ else_ends outer condition taken body.syntax new;
+    }
+
 -- ---- `if`
+
+if_trees : (condition : Expression) (taken : Body) (otherwise : Option Body) → stmt.If (expression_tree condition) (body_trees taken) (if_there body_trees otherwise) ∷ [] ≡ statement_trees (if_statement condition taken otherwise)
+if_trees condition taken None = refl
+if_trees condition taken (Some body) = refl
 
 module _ (level : ℕ) (old : Spot) (there : starts_statement old.left ≡ statement.If) (middle : Spot) (passed : HasPassed level [] old middle) (later : Spot) (tree : Expr) (condition : Parses (condition_phrase level) middle later tree)
     (third : Spot) (trees : List Stmt) (taken : Parses (body_phrase (level + 1) level) later third trees) where
   behind_taken : (outer : StatementIn) → statement_level outer ≡ level → stepping (step_statement outer) old ≡ from (HasBody (IfTaken outer condition.syntax) taken.syntax) third
   behind_taken = behind_head statement.If (Word word.If) IfOpen IfCondition IfTaken head_of_if level old there middle passed later tree condition third trees taken
 
-  -- No `else` follows.
-  pub if_reads : is_keyword word.Else third.left ≡ false → (before now : List Stmt) → now ≡ before ++ stmt.If tree trees [] ∷ [] → Parses (statement_phrase level) old third (before, now)
-  if_reads absent before now added = record {
-    syntax = IfAlone condition.syntax taken.syntax;
-    same = added ∙ rw (condition.same, taken.same) refl;
-    shorter = let a = passed_shorter level [] old middle passed in let b = condition.shorter in let d = taken.shorter in omega arith;
-    leads = λ outer same. behind_taken outer same ∙ if_ends outer condition.syntax taken.syntax third absent;
+  pub if_lacks : (refusal : ParseRefusal) → LacksElse level third refusal → Lacks (statement_phrase level) old refusal
+  if_lacks refusal lacks outer same = refuses_as refusal _ _ (behind_taken outer same) (lacks outer condition.syntax taken.syntax same)
+
+  pub if_reads : (new : Spot) (others : List Stmt) → HasElse level third new others → (before now : List Stmt) → now ≡ before ++ stmt.If tree trees others ∷ [] → Parses (statement_phrase level) old new (before, now)
+  if_reads new others read before now added = record {
+    syntax = if_statement condition.syntax taken.syntax read.otherwise;
+    same = added ∙ rw (condition.same, taken.same, read.same) (ap (λ one. before ++ one) (if_trees condition.syntax taken.syntax read.otherwise));
+    shorter = let a = passed_shorter level [] old middle passed in let b = condition.shorter in let d = taken.shorter in let e = read.no_longer in omega arith;
+    leads = λ outer same. behind_taken outer same ∙ read.leads outer condition.syntax taken.syntax same;
   }
-
-  module _ (otherwise : IsTrue (is_keyword word.Else third.left)) where
-    goes_otherwise : (outer : StatementIn) → statement_level outer ≡ level →
-        step (HasBody (IfTaken outer condition.syntax) taken.syntax) (Word word.Else) ≡ goes_on (plain level (Word word.Else)) (AtBody (IfOtherwise outer condition.syntax taken.syntax))
-    unfolding step
-    goes_otherwise outer same = ap (λ l. goes_on (plain l (Word word.Else)) (AtBody (IfOtherwise outer condition.syntax taken.syntax))) same
-
-    pub else_over : (refusal : ParseRefusal) → IsOver level [] third refusal → Lacks (statement_phrase level) old refusal
-    else_over refusal over outer same =
-        refuses_as refusal _ _ (behind_taken outer same)
-        (known_over (HasBody (IfTaken outer condition.syntax) taken.syntax) refl (Word word.Else) level level [] (AtBody (IfOtherwise outer condition.syntax taken.syntax)) refl (goes_otherwise outer same) third (keyword_begins word.Else third.left otherwise) refusal over)
-
-    module _ (fourth : Spot) (beyond : HasPassed level [] third fourth) where
-      to_otherwise : (outer : StatementIn) → statement_level outer ≡ level → stepping (step_statement outer) old ≡ from (AtBody (IfOtherwise outer condition.syntax taken.syntax)) fourth
-      to_otherwise outer same =
-          behind_taken outer same ∙
-          known_passed (HasBody (IfTaken outer condition.syntax) taken.syntax) refl (Word word.Else) level level [] (AtBody (IfOtherwise outer condition.syntax taken.syntax)) refl (goes_otherwise outer same) third (keyword_begins word.Else third.left otherwise) fourth beyond
-
-      pub else_lacks : (refusal : ParseRefusal) → Lacks (body_phrase (level + 1) level) fourth refusal → Lacks (statement_phrase level) old refusal
-      else_lacks refusal lacks outer same = refuses_as refusal _ _ (to_otherwise outer same) (lacks (IfOtherwise outer condition.syntax taken.syntax) (ap (λ l. l + 1) same, same))
-
-      pub else_reads : (new : Spot) (others : List Stmt) → Parses (body_phrase (level + 1) level) fourth new others → (before now : List Stmt) → now ≡ before ++ stmt.If tree trees others ∷ [] → Parses (statement_phrase level) old new (before, now)
-      else_reads new others body before now added = record {
-        syntax = IfElse condition.syntax taken.syntax body.syntax;
-        same = added ∙ rw (condition.same, taken.same, body.same) refl;
-        shorter =
-            let a = passed_shorter level [] old middle passed in
-            let b = passed_shorter level [] third fourth beyond in
-            let d = condition.shorter in
-            let e = taken.shorter in
-            let f = body.shorter in
-            omega arith;
-        leads = λ outer same. to_otherwise outer same ∙ body.leads (IfOtherwise outer condition.syntax taken.syntax) (ap (λ l. l + 1) same, same) ∙ else_ends outer condition.syntax taken.syntax body.syntax new;
-      }
 
 -- ---- `for`
 

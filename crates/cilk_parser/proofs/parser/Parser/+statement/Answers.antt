@@ -1,9 +1,8 @@
 use Rattle.std.proofs.Common.{[], ◌∷◌, ◌++◌, ap, sym, ◌∙◌, arith}
 use Rattle.std.proofs.lemmas.Result.{MatchResult-weaker, err_from_is_err_and}
-use Rattle.cilk_tree.specs.declared.tree.Stmt.TheVariants.{If}
 use Rattle.cilk_parser.proofs.Bricks.Beginnings.{empty_over, empty_reads, other_refuses}
 use Rattle.cilk_parser.proofs.Bricks.Blocks.{begins_list, block_lacks, block_over, block_reads, braced_lacks, braced_over, braced_reads, declaration_lacks, declaration_over, declaration_reads, goes_on_list, list_lacks, list_over, list_reads, single_lacks, single_reads, stated_lacks, stated_reads}
-use Rattle.cilk_parser.proofs.Bricks.Owners.{else_lacks, else_over, else_reads, for_lacks_body, for_reads, head_lacks, head_of_if, head_of_while, head_over, head_without, if_reads, while_reads}
+use Rattle.cilk_parser.proofs.Bricks.Owners.{else_lacks, else_over, else_reads, for_lacks_body, for_reads, head_lacks, head_of_if, head_of_while, head_over, head_without, if_lacks, if_reads, no_else, while_reads}
 use Rattle.cilk_parser.proofs.Bricks.Stepping.{passed_shorter}
 use Rattle.cilk_parser.proofs.parser.Parser.+statement.Goals as goal
 
@@ -137,31 +136,40 @@ branch-returns-in_err-taken t c =
     let p = err_from_is_err_and c.from_residual-in_err-taken.result c.from_residual-in_err-taken.ensures.1 in
     rw (p.1, p.2) (head_without _ _ _ _ _ head_of_if _ _ c.requires _ (c.in_ok-pass.ensures {u = tt}) _ _ (c.in_ok-condition.ensures {u = tt}) _ (c.in_err-taken.ensures {u = tt}))
 
-pub branch-returns-then-not-is_at_keyword : goal.branch-returns-then-not-is_at_keyword
-branch-returns-then-not-is_at_keyword t c =
-    if_reads _ _ c.requires _ (c.in_ok-pass.ensures {u = tt}) _ _ (c.in_ok-condition.ensures {u = tt}) _ _ (c.in_ok-taken.ensures {u = tt}) (sym c.is_at_keyword.ensures ∙ c.if-not-is_at_keyword.true) _ _
-    ((c.in_ok-push.ensures {u = tt}).ok ∙ ap (λ none. c.args.into.now ++ If c.in_ok-condition.condition c.in_ok-taken.taken none ∷ []) c.new.ensures)
-
-pub branch-returns-in_err-pass-2 : goal.branch-returns-in_err-pass-2
-branch-returns-in_err-pass-2 t c =
-    let p = err_from_is_err_and c.from_residual-in_err-pass-2.result c.from_residual-in_err-pass-2.ensures.1 in
-    rw (p.1, p.2) (else_over _ _ c.requires _ (c.in_ok-pass.ensures {u = tt}) _ _ (c.in_ok-condition.ensures {u = tt}) _ _ (c.in_ok-taken.ensures {u = tt}) (sym c.is_at_keyword.ensures ∙ c.if-not-is_at_keyword.false) _ (c.in_err-pass-2.ensures {u = tt}))
-
-pub branch-body-requires-2 : goal.branch-body-requires-2
-branch-body-requires-2 t c =
+pub branch-otherwise-requires : goal.branch-otherwise-requires
+branch-otherwise-requires t c =
     let a = passed_shorter _ _ _ _ (c.in_ok-pass.ensures {u = tt}) in
     let b = (c.in_ok-condition.ensures {u = tt}).shorter in
     let d = (c.in_ok-taken.ensures {u = tt}).shorter in
-    let e = passed_shorter _ _ _ _ (c.in_ok-pass-2.ensures {u = tt}) in
     (omega arith, tt)
 
 pub branch-returns-in_err-otherwise : goal.branch-returns-in_err-otherwise
 branch-returns-in_err-otherwise t c =
     let p = err_from_is_err_and c.from_residual-in_err-otherwise.result c.from_residual-in_err-otherwise.ensures.1 in
-    rw (p.1, p.2) (else_lacks _ _ c.requires _ (c.in_ok-pass.ensures {u = tt}) _ _ (c.in_ok-condition.ensures {u = tt}) _ _ (c.in_ok-taken.ensures {u = tt}) (sym c.is_at_keyword.ensures ∙ c.if-not-is_at_keyword.false) _ (c.in_ok-pass-2.ensures {u = tt}) _ (c.in_err-otherwise.ensures {u = tt}))
+    rw (p.1, p.2) (if_lacks _ _ c.requires _ (c.in_ok-pass.ensures {u = tt}) _ _ (c.in_ok-condition.ensures {u = tt}) _ _ (c.in_ok-taken.ensures {u = tt}) _ (c.in_err-otherwise.ensures {u = tt}))
 
 pub branch-returns : goal.branch-returns
-branch-returns t c = else_reads _ _ c.requires _ (c.in_ok-pass.ensures {u = tt}) _ _ (c.in_ok-condition.ensures {u = tt}) _ _ (c.in_ok-taken.ensures {u = tt}) (sym c.is_at_keyword.ensures ∙ c.if-not-is_at_keyword.false) _ (c.in_ok-pass-2.ensures {u = tt}) _ _ (c.in_ok-otherwise.ensures {u = tt}) _ _ (c.in_ok-push-2.ensures {u = tt}).ok
+branch-returns t c =
+    if_reads _ _ c.requires _ (c.in_ok-pass.ensures {u = tt}) _ _ (c.in_ok-condition.ensures {u = tt}) _ _ (c.in_ok-taken.ensures {u = tt}) _ _ (c.in_ok-otherwise.ensures {u = tt}) _ _ (c.in_ok-push.ensures {u = tt}).ok
+
+-- ---- `else`
+
+pub otherwise-returns-then-not-is_at_keyword : goal.otherwise-returns-then-not-is_at_keyword
+otherwise-returns-then-not-is_at_keyword t c = rw c.new.ensures (no_else _ _ (sym c.is_at_keyword.ensures ∙ c.if-not-is_at_keyword.true))
+
+pub otherwise-returns-in_err-pass : goal.otherwise-returns-in_err-pass
+otherwise-returns-in_err-pass t c =
+    let p = err_from_is_err_and c.from_residual.result c.from_residual.ensures.1 in
+    rw (p.1, p.2) (else_over _ _ (sym c.is_at_keyword.ensures ∙ c.if-not-is_at_keyword.false) _ (c.in_err-pass.ensures {u = tt}))
+
+pub otherwise-body-requires : goal.otherwise-body-requires
+otherwise-body-requires t c = let a = passed_shorter _ _ _ _ (c.in_ok-pass.ensures {u = tt}) in (omega arith, tt)
+
+pub otherwise-returns : goal.otherwise-returns
+otherwise-returns t c =
+    let there = sym c.is_at_keyword.ensures ∙ c.if-not-is_at_keyword.false in
+    let passed = c.in_ok-pass.ensures {u = tt} in
+    MatchResult-weaker c.body.result c.body.ensures (λ trees read. else_reads _ _ there _ passed _ trees read) (λ refusal lacks. else_lacks _ _ there _ passed refusal lacks)
 
 -- ---- `while`
 

@@ -17,6 +17,9 @@ decreases-statement l = 4 * length l.self.now.left + 1
 abbrev pub decreases-branch : goal.decreases-branch
 decreases-branch l = 4 * length l.self.now.left
 
+abbrev pub decreases-otherwise : goal.decreases-otherwise
+decreases-otherwise l = 4 * length l.self.now.left + 3
+
 abbrev pub decreases-while_loop : goal.decreases-while_loop
 decreases-while_loop l = 4 * length l.self.now.left
 
