@@ -11,7 +11,6 @@ use Rattle.machine_code.proofs.Steps.{goes_same}
 use Rattle.plain_machine.specs.Lasting.{HasLasted, Lasts, locals_of}
 use Rattle.plain_machine.specs.Shown.{WantsNext}
 use Rattle.plain_machine.specs.Standing.{StandsIn, own_locals, own_locals_of}
-use Rattle.plain_machine.specs.Stepping.{HasStepped, HasResumed}
 use Rattle.plain_machine.specs.Starting.{CanStart, IsTarget}
 use Rattle.plain_machine.proofs.Depositing.{own_length, values_stand}
 use Rattle.plain_machine.proofs.Finding.{IsEnd, Keeps, ends_so, first_length, goes_keeps, leading, not_stuck}
@@ -23,7 +22,7 @@ values_own : (deposits : List Deposit) (running : Activation) (callers : List Ac
 values_own deposits running [] = own_length deposits [] running.locals
 values_own deposits running (caller ∷ callers) = values_own deposits caller callers
 
-pub values_keep : (code : Code) (deposits : List Deposit) (f : Frame) → StandsIn code f → Keeps code f (with_values deposits f)
+values_keep : (code : Code) (deposits : List Deposit) (f : Frame) → StandsIn code f → Keeps code f (with_values deposits f)
 values_keep code deposits f s = record { stands = values_stand code deposits f s; depth = refl; own = values_own deposits f.running f.callers }
 
 module _ (code : Code) (run next : Run) (s : StandsIn code run.frame) where
@@ -36,14 +35,14 @@ module _ (code : Code) (run next : Run) (s : StandsIn code run.frame) where
   step_keeps (Ends want) is e = absurd cc
   step_keeps Stuck is e = absurd cc
 
-  led_keeps : (request : Request) (follows : Answer → Option Frame) (answer : Answer) (o : Option Frame) → look code run.frame ≡ Requests request follows → follows answer ≡ o →
+  resumed_keeps : (request : Request) (follows : Answer → Option Frame) (answer : Answer) (o : Option Frame) → look code run.frame ≡ Requests request follows → follows answer ≡ o →
       resumed_with o (block_after request run.block) ≡ Some next → Keeps code run.frame next.frame
-  led_keeps request follows answer None is led e = absurd cc
-  led_keeps request follows answer (Some g) is led e = same_run g (block_after request run.block) ((leading code run.frame s request follows is).keeps answer g led) e
+  resumed_keeps request follows answer None is led e = absurd cc
+  resumed_keeps request follows answer (Some g) is led e = same_run g (block_after request run.block) ((leading code run.frame s request follows is).keeps answer g led) e
 
   answer_keeps : (answer : Answer) (move : Move) → look code run.frame ≡ move → answered move answer run.block ≡ Some next → Keeps code run.frame next.frame
   answer_keeps answer (GoesOn g) is e = absurd cc
-  answer_keeps answer (Requests request follows) is e = led_keeps request follows answer (follows answer) is refl e
+  answer_keeps answer (Requests request follows) is e = resumed_keeps request follows answer (follows answer) is refl e
   answer_keeps answer (Ends want) is e = absurd cc
   answer_keeps answer Stuck is e = absurd cc
 
@@ -69,13 +68,6 @@ events_keep : (code : Code) (events : List Event) (run last : Run) → StandsIn 
 events_keep code [] run last s e = subst (λ (r : Run). Keeps code run.frame r.frame) (let same : run ≡ last = cc in same) (record { stands = s; depth = refl; own = refl })
 events_keep code (event ∷ events) run last s e =
     some_keeps code run last events (happens code event run) s (λ next is. happens_keeps code run next s event is) (λ next stands is. events_keep code events next last stands is) e
-
--- So a frame keeps this from want to want.
-pub stepped_keeps : (code : Code) (f g : Frame) → StandsIn code f → HasStepped code f g → Keeps code f g
-stepped_keeps code f g s steps = events_keep code _ (record { frame = f; block = [] }) (record { frame = g; block = [] }) s (steps.comes [])
-
-pub resumed_keeps : (code : Code) (request : Request) (answer : Answer) (f g : Frame) → StandsIn code f → HasResumed code request answer f g → Keeps code f g
-resumed_keeps code request answer f g s goes = events_keep code _ (record { frame = f; block = [] }) (record { frame = g; block = block_after request [] }) s (goes.comes [])
 
 pub lasts : (code : Code) (depth procedure : ℕ) (arguments : List ℤ) (events : List Event) (run : Run) → HasLasted code depth procedure arguments events run → Lasts code depth procedure run.frame
 lasts code depth procedure arguments events run h =

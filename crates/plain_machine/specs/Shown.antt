@@ -1,5 +1,5 @@
 -- What contracts see of a frame, and the words of the calls in the words of the meaning.
-use Rattle.std.specs.Prelude.{Bool, false, ◌≡◌, ℤ, true, Some, List, []}
+use Rattle.std.specs.Prelude.{◌≡◌, ℤ, true, Some, List, []}
 use Rattle.cilk_meaning.specs.Serve.{now}
 use Rattle.cilk_meaning.specs.Wants.{Request, Read, Write, Add, Print, Spawn, Sync, Call, LoopTurn, Want, Asks, Returns, Traps, Value, Children, Done, suits}
 use Rattle.cilk_meaning.specs.Wants as wanted
@@ -55,15 +55,3 @@ pub record Suits (code : Code) (frame : Frame) (answer : Answer) : Type 0 where
   pub request : Request
   pub next : WantsNext code frame (Asks request)
   pub suits : suits request (meant request answer) ≡ true
-
--- and in the words of the calls
-abbrev pub gets : declared.Want → Answer → Bool
-gets (shown.Read word) (given.Value value) = true
-gets (shown.Add word addend) (given.Value value) = true
-gets (shown.Write word value) given.Done = true
-gets (shown.Print value) given.Done = true
-gets (shown.Spawn procedure target) given.Done = true
-gets shown.Sync given.Done = true
-gets shown.Call given.Done = true
-gets shown.LoopTurn given.Done = true
-gets _ _ = false

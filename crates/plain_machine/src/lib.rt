@@ -8,10 +8,6 @@ mod operand_count;
 mod operands;
 mod running;
 mod state;
-#[cfg(test)]
-mod tests;
-#[cfg(test)]
-mod trial;
 mod want;
 mod word;
 

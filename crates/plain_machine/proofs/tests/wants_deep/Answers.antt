@@ -1,6 +1,0 @@
-use Rattle.std.proofs.Common.{refl}
-use Rattle.plain_machine.proofs.Checking.{written}
-use Rattle.plain_machine.proofs.tests.wants_deep.Goals as goal
-
-pub code-requires : goal.code-requires
-code-requires g c = written _ refl
