@@ -1,78 +1,71 @@
 #!/usr/bin/env python3
-"""Times `backer serial` on sources of 64, 256 and 1,024 KiB, beside python3 and gcc -O0 on the same sums.
+"""Times `backer serial` and `backer race` on six programs, beside their elisions in C (gcc -O2) and in python3.
 
-Usage: bench/serial.py, from a checkout where `rt ci` has built the program. Prints a table of seconds.
+Usage: bench/serial.py, from a checkout where `rt ci` has built the program, or with the program's path as the only word.
+Prints a table: ticks, seconds of each, and the most memory of `serial`. The outputs are compared.
 """
+import os
 import pathlib
 import subprocess
+import sys
 import tempfile
 import time
 
+from elisions import PROGRAMS, c_of, cilk_of, python_of
+
 TOP = pathlib.Path(__file__).resolve().parent.parent
-PROGRAM = TOP / "crates" / "backer" / "out" / "backer"
-SIZES = [64, 256, 1024]
-LOCALS = 200
+PROGRAM = pathlib.Path(sys.argv[1]) if len(sys.argv) > 1 else TOP / "crates" / "backer" / "out" / "backer"
+MOST_TICKS = 2_000_000
 
 
-def statements(limit):
-    """Statements of many locals' sums and prints, of at most `limit` bytes in all."""
-    lines, size = [], 0
-    for number in range(10**9):
-        a, b, c = number % LOCALS, number * 7 % LOCALS, number * 13 % LOCALS
-        if number % 4 == 0:
-            line = f"x{a} = {number % 1000} * {number % 89} - ({number % 7} + 5);"
-        elif number % 4 == 1:
-            line = f"x0 = x0 + x{b} - {number % 97};"
-        elif number % 4 == 2:
-            line = f"x{c} = (x{b} - 3) - {number % 50} * 2;"
-        else:
-            line = f"print(x{a} + x{b} * 3 - (x{c} - 1));"
-        size += len(line) + 1
-        if size > limit:
-            return lines
-        lines.append(line)
-
-
-def seconds(command):
+def timed(command):
+    """Seconds and output of the command, and the most memory that it had, in KiB."""
     began = time.monotonic()
-    done = subprocess.run(command, stdout=subprocess.PIPE, check=True)
-    return time.monotonic() - began, done.stdout
+    with subprocess.Popen(command, stdout=subprocess.PIPE) as process:
+        output = process.stdout.read()
+        _, status, usage = os.wait4(process.pid, 0)
+        process.returncode = os.waitstatus_to_exitcode(status)
+    return time.monotonic() - began, output, usage.ru_maxrss, process.returncode
 
 
-def measure(kib, folder):
-    declarations = [f"int x{number};" for number in range(LOCALS)]
-    head, tail = "int main() {\n" + "\n".join(declarations) + "\n", "}\n"
-    body = statements(kib * 1024 - len(head) - len(tail))
-    cilk = folder / "sums.cilk"
-    cilk.write_text(head + "\n".join(body) + "\n" + tail)
-    assert cilk.stat().st_size <= kib * 1024
+def best(command, count=3):
+    """The fastest of some runs."""
+    return min((timed(command) for _ in range(count)), key=lambda run: run[0])
 
-    python = folder / "sums.py"
-    python.write_text("\n".join([f"x{n} = 0" for n in range(LOCALS)] + [line.rstrip(";") for line in body]) + "\n")
 
-    c = folder / "sums.c"
-    zeroed = "\n".join(f"long x{n} = 0;" for n in range(LOCALS))
-    c.write_text(
-        "#include <stdio.h>\n#define print(e) printf(\"%ld\\n\", (long)(e))\nint main(void) {\n"
-        + zeroed + "\n" + "\n".join(body) + "\nreturn 0;\n}\n"
-    )
+def ticks_of(file):
+    """The least budget with which the elision finishes."""
+    low, high = 1, MOST_TICKS
+    while low < high:
+        middle = (low + high) // 2
+        status = subprocess.run([PROGRAM, "serial", file, f"--budget={middle}"], capture_output=True, check=False).returncode
+        low, high = (low, middle) if status == 0 else (middle + 1, high)
+    return low
 
-    ours, output = seconds([PROGRAM, "serial", cilk])
-    theirs, expected = seconds(["python3", python])
-    began = time.monotonic()
-    subprocess.run(["gcc", "-O0", "-o", folder / "sums", c], check=True)
-    compiled = time.monotonic() - began
-    ran, c_output = seconds([folder / "sums"])
-    assert output == expected == c_output, "the outputs differ"
-    return ours, theirs, compiled + ran
+
+def row_of(program, size, folder):
+    name, source, python_source = program
+    cilk, c, python = folder / "p.cilk", folder / "p.c", folder / "p.py"
+    cilk.write_text(cilk_of(source, size))
+    c.write_text(c_of(cilk.read_text()))
+    python.write_text(python_of(python_source, size))
+    subprocess.run(["gcc", "-O2", "-w", "-o", folder / "p", c], check=True)
+    ours, output, memory, status = best([PROGRAM, "serial", cilk])
+    assert status == 0, f"{name}: status {status}"
+    race, answer, _, _ = best([PROGRAM, "race", cilk])
+    theirs, expected, _, _ = best(["python3", python])
+    native, native_output, _, _ = best([folder / "p"])
+    assert output == expected == native_output, f"{name}: the outputs differ"
+    assert answer == b"no race\n", f"{name}: {answer}"
+    cells = [name.replace("N", str(size), 1), f"{ticks_of(cilk):,}", f"{ours:.3f}", f"{race:.3f}", f"{theirs:.3f}", f"{native:.4f}", f"{theirs / ours:.1f}", f"{race / ours:.1f}", f"{memory / 1024:.0f}"]
+    print("| " + " | ".join(cells) + " |", flush=True)
 
 
 def main():
-    print(f"{'KiB':>6} {'backer':>8} {'python3':>8} {'gcc -O0':>8}")
+    print("| Program | Ticks | serial | race | python3 | gcc -O2 | python3 / serial | race / serial | MiB |\n|---|---|---|---|---|---|---|---|---|")
     with tempfile.TemporaryDirectory() as name:
-        for kib in SIZES:
-            row = measure(kib, pathlib.Path(name))
-            print(f"{kib:>6} " + " ".join(f"{value:>8.3f}" for value in row))
+        for program, size in PROGRAMS:
+            row_of(program, size, pathlib.Path(name))
 
 
 if __name__ == "__main__":

@@ -1,8 +1,11 @@
 //! The rows of the program's behaviour, over a shelf and sinks in memory.
 mod adding;
 mod checking;
+mod racing;
+mod running;
 
-use backer_top::{Ended, SourceRefusal, Status, TrapKind, backer};
+use backer_top::{Ended, SourceRefusal, Status, backer};
+use cilk_meaning::TrapKind;
 use cilk_reader::{ReadRefusal, read_program};
 use cilk_tree::{Name, print_program};
 use outside::{MemShelf, MemSink};
@@ -95,8 +98,6 @@ fn repeating(
     Ok(text)
 }
 
-const NOT_YET: Status = Status::Source(SourceRefusal::NotYet);
-
 const OVERFLOW: Status = Status::Trap {
     kind: TrapKind::Overflow,
     node: 0,
@@ -104,7 +105,7 @@ const OVERFLOW: Status = Status::Trap {
 
 #[test]
 fn sources(rt: HostRuntime) -> Result<(), Fail> {
-    static ROWS: [(&str, Status, &str); 25] = [
+    static ROWS: [(&str, Status, &str); 24] = [
         (
             "int main() { int x; x = 6; print(x * 7 - 2); print(x); }",
             Status::Done,
@@ -151,23 +152,21 @@ fn sources(rt: HostRuntime) -> Result<(), Fail> {
             "6\n",
         ),
         ("void main() { print(1); }", Status::Done, "1\n"),
-        ("int a[1]; int main() { }", NOT_YET, ""),
-        ("int a[1]; int main() { fetch_add(a[0], 1); }", NOT_YET, ""),
-        ("cilk int main() { }", NOT_YET, ""),
-        ("int main() { } int f() { }", NOT_YET, ""),
-        ("int main() { print(-1); }", NOT_YET, ""),
-        ("int main() { print(4 / 2); }", NOT_YET, ""),
-        ("int main() { int x; x = 1 < 2; }", NOT_YET, ""),
-        ("int main() { return 0; }", NOT_YET, ""),
-        ("int main() { { } }", NOT_YET, ""),
-        ("int main() { if (1) ; }", NOT_YET, ""),
-        ("int main() { main(); }", NOT_YET, ""),
+        ("int a[1]; int main() { }", Status::Done, ""),
+        ("int a[1]; int main() { fetch_add(a[0], 1); }", Status::Done, ""),
+        ("cilk int main() { }", Status::Done, ""),
+        ("int main() { } int f() { }", Status::Done, ""),
+        ("int main() { print(-1); }", Status::Done, "-1\n"),
+        ("int main() { print(4 / 2); }", Status::Done, "2\n"),
+        ("int main() { int x; x = 1 < 2; print(x); }", Status::Done, "1\n"),
+        ("int main() { return 0; }", Status::Done, ""),
+        ("int main() { { } }", Status::Done, ""),
+        ("int main() { if (1) ; }", Status::Done, ""),
     ];
     for &(source, status, out) in &ROWS {
         let left = run_source(rt.alloc(), source, NOTHING)?;
         let line: &str = match status {
             Status::Done => "",
-            Status::Source(_) => "backer: source refused: not yet\n",
             _ => "backer: trap Overflow on node 0\n",
         };
         let ended = Ended {
@@ -782,15 +781,34 @@ fn canonical_programs(rt: HostRuntime) -> Result<(), Fail> {
 
 #[test]
 fn refused_words(rt: HostRuntime) -> Result<(), Fail> {
-    static ROWS: [&[&str]; 9] = [
+    static ROWS: [&[&str]; 28] = [
         &[],
+        &[""],
+        &["f"],
         &["check"],
         &["check", "f", "f"],
         &["check", "-f"],
+        &["check", "f", "--budget", "1"],
+        &["Check", "f"],
         &["serial"],
         &["serial", "f", "f"],
         &["serial", "-x"],
         &["serial", ""],
+        &["serial", "f", "--budget"],
+        &["serial", "f", "--budget", "0"],
+        &["serial", "f", "--budget", "2000001"],
+        &["serial", "f", "--budget", "01"],
+        &["serial", "f", "--budget", "+1"],
+        &["serial", "f", "--budget", ""],
+        &["serial", "f", "--budget="],
+        &["serial", "f", "--budget=1x"],
+        &["serial", "f", "--budget", "18446744073709551617"],
+        &["serial", "f", "--budget=1", "--budget=1"],
+        &["serial", "f", "--budgets=1"],
+        &["serial", "f", "--", "g"],
+        &["serial", "--budget", "1"],
+        &["race"],
+        &["race", "f", "g"],
         &["frob", "f"],
     ];
     for &words in &ROWS {

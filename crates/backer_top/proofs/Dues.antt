@@ -1,188 +1,216 @@
 -- What a text calls for is one thing.
-use Rattle.std.proofs.Common.{◌≡◌, ◌⊎◌, inl, inr, ℕ, ◌<◌, ◌≤◌, Ok, Err, List, length, refl, sym, ap, ◌∙◌, subst, arith}
+use Rattle.std.proofs.Common.{◌≡◌, ◌⊎◌, inl, inr, ℕ, ◌<◌, ◌≤◌, ◌==◌, Bool, true, false, Option, Some, None, List, [], length, refl, sym, ap, ◌∙◌, subst, arith}
+use Rattle.std.proofs.lemmas.Bool.Decides.{nat_tests}
 use Rattle.cilk_tree.specs.declared.place.CheckPlace.{CheckPlace}
 use Rattle.cilk_tree.specs.declared.tree.Program.{Program}
+use Rattle.cilk_tree.specs.Canonical.{canonical_text}
 use Rattle.cilk_tree.specs.Lawful.Lawful.{IsCheckRefusal, IsLawful}
 use Rattle.cilk_tree.specs.Spelling.{Spells}
 use Rattle.cilk_reader.specs.Refusals.{IsRefusedAt}
-use Rattle.backer_top.specs.declared.status.TrapKind.{TrapKind}
+use Rattle.cilk_meaning.specs.declared.ends.NodeEnd.{NodeEnd}
+use Rattle.cilk_meaning.specs.declared.ends.NodeEnd.TheVariants.{Finished, Trapped}
+use Rattle.cilk_meaning.specs.declared.ends.NodeEnd.TheVariants as ends
+use Rattle.cilk_meaning.specs.declared.ends.TrapKind.{TrapKind}
+use Rattle.cilk_meaning.specs.Instance.{limits}
+use Rattle.cilk_meaning.specs.Resolving.{resolved}
+use Rattle.cilk_meaning.specs.World.{output_of, start_words}
+use Rattle.command_words.specs.declared.command.Offline.{Offline}
+use Rattle.command_words.specs.declared.command.Offline.TheVariants as offline
+use Rattle.elision_history.proofs.Elisions.{elision_is_history}
+use Rattle.race_check.specs.declared.Race as found
+use Rattle.span_tree.specs.declared.act.Act.{Act}
+use Rattle.span_tree.specs.declared.act.Act.TheVariants as act
+use Rattle.span_tree.specs.declared.act.Place.{Place}
+use Rattle.span_tree.specs.Dag.{IsBefore}
+use Rattle.span_tree.specs.History.{History, IsNumbered, act_at}
+use Rattle.span_tree.specs.Memory.{HasNoRace, IsFirstRace, accesses, holds_at, is_access}
+use Rattle.span_tree.proofs.Orders.{not_before_itself, not_both_before}
 use Rattle.backer_top.specs.declared.status.SourceRefusal.TheVariants as source
 use Rattle.backer_top.specs.declared.status.Status.{Status}
-use Rattle.backer_top.specs.declared.status.Status.TheVariants.{Done, Words, Source, ReadFault, WriteFault, Trap, Memory}
-use Rattle.backer_top.specs.declared.walk.End.TheVariants.{Finished, Trapped}
-use Rattle.backer_top.specs.declared.words.Command.{Command}
-use Rattle.backer_top.specs.declared.words.Command.TheVariants.{Check, Serial}
-use Rattle.backer_top.specs.Due.{Accepts, meaning, Makes, StopsWith, IsDueOf, IsDue, IsOfAccepted}
+use Rattle.backer_top.specs.declared.status.Status.TheVariants.{Done, Words, Source, ReadFault, WriteFault, Trap, Budget, Race, Memory}
+use Rattle.backer_top.specs.Due.{Accepts, IsDue, IsOfAccepted, IsProgramOf, Makes, Reply, Tells, TellsRace, NoRace, First, TooLong, Unread, Unlawful, Accepted, done, elided, elided_history, only}
+use Rattle.backer_top.specs.Output.{lines}
+use Rattle.backer_top.specs.RaceLine.{race_line}
 use Rattle.backer_top.specs.Reading.{source_limit}
-use Rattle.backer_top.specs.SerialMain.{IsSerialMain}
-use Rattle.backer_top.specs.Status.{HasFixedLine}
+use Rattle.backer_top.specs.Status.{HasFixedLine, is_shown}
+
+-- ---- the first race of a history is one
+
+accesses_one : (act : Act) (one other : ℕ) → accesses one act ≡ true → accesses other act ≡ true → one ≡ other
+accesses_one (act.Read word value) one other is also = grind (arith, nat_tests)
+accesses_one (act.Write word value) one other is also = grind (arith, nat_tests)
+accesses_one (act.Add word old addend) one other is also = grind (arith, nat_tests)
+accesses_one (act.Print value) one other is also = cc
+accesses_one (act.Spawn child) one other is also = cc
+accesses_one act.Sync one other is also = cc
+
+accesses_one_there : (there : Option Act) (one other : ℕ) → holds_at (accesses one) there ≡ true → holds_at (accesses other) there ≡ true → one ≡ other
+accesses_one_there None one other is also = cc
+accesses_one_there (Some act) one other is also = accesses_one act one other is also
+
+abbrev race_of : Place → Place → ℕ → found.Race
+race_of first second word = record { first = first; second = second; word = word }
+
+same_race : (one other : found.Race) → one.word ≡ other.word → one.first ≡ other.first → one.second ≡ other.second → one ≡ other
+same_race one other word first second =
+    ap (race_of one.first one.second) word ∙ ap (λ first. race_of first one.second other.word) first ∙ ap (λ second. race_of other.first second other.word) second
+
+module _ (history : History) (numbered : IsNumbered history) where
+  same_place : (x y : Place) → (x ≡ y) ⊎ IsBefore history x y → (y ≡ x) ⊎ IsBefore history y x → x ≡ y
+  same_place x y (inl is) other = is
+  same_place x y (inr before) (inl is) = sym is
+  same_place x y (inr before) (inr after) = absurd (not_both_before history numbered x y before after)
+
+  not_before_same : (x y : Place) → IsBefore history x y → y ≡ x → ⊥
+  not_before_same x y before is = not_before_itself history numbered x (subst (IsBefore history x) is before)
+
+  same_places : (first second first' second' : Place)
+      → IsBefore history second second' ⊎ ((second ≡ second') × ((first ≡ first') ⊎ IsBefore history first first'))
+      → IsBefore history second' second ⊎ ((second' ≡ second) × ((first' ≡ first) ⊎ IsBefore history first' first))
+      → (first ≡ first') × (second ≡ second')
+  same_places first second first' second' (inl before) (inl after) = absurd (not_both_before history numbered second second' before after)
+  same_places first second first' second' (inl before) (inr same) = absurd (not_before_same second second' before same.0)
+  same_places first second first' second' (inr same) (inl after) = absurd (not_before_same second' second after same.0)
+  same_places first second first' second' (inr same) (inr also) = (same_place first first' same.1 also.1, same.0)
+
+  first_once : (one other : found.Race) → IsFirstRace history one.word one.first one.second → IsFirstRace history other.word other.first other.second → one ≡ other
+  first_once one other is also =
+      let places = same_places one.first one.second other.first other.second
+          (is.least other.word other.first other.second also.race also.before) (also.least one.word one.first one.second is.race is.before) in
+      let there = subst (λ place. is_access history other.word place ≡ true) (sym places.0) also.race.first in
+      same_race one other (accesses_one_there (act_at history one.first) one.word other.word is.race.first there) places.0 places.1
+
+  race_told_once : (program : Program) (one other : Reply) → TellsRace program history one → TellsRace program history other → one ≡ other
+  race_told_once program one other (NoRace none is) (NoRace again also) = is ∙ sym also
+  race_told_once program one other (NoRace none is) (First race first also) = absurd (none race.word race.first race.second first.race)
+  race_told_once program one other (First race first is) (NoRace none also) = absurd (none race.word race.first race.second first.race)
+  race_told_once program one other (First race first is) (First race' first' also) =
+      is ∙ ap (λ r. record { status = Race r; text = race_line program history r }) (first_once race race' first first') ∙ sym also
 
 -- ---- what a command makes of a program is one thing
 
--- the ways in which `serial` stops
-data Stop (program : Program) (status : Status) : Type 0 where
-  not_yet : (is : status ≡ Source source.NotYet) (untaken : ¬ IsSerialMain program) → Stop program status
-  trapped : (kind : TrapKind) (is : status ≡ Trap kind 0) (taken : IsSerialMain program) (end : (meaning program).end ≡ Trapped kind) → Stop program status
+tells_once : (end : NodeEnd) (finished : Reply → Type 0) → ((one other : Reply) → finished one → finished other → one ≡ other)
+    → (one other : Reply) → Tells end finished one → Tells end finished other → one ≡ other
+tells_once Finished finished once one other told again = once one other told again
+tells_once (Trapped kind) finished once one other told again = told ∙ sym again
+tells_once ends.Budget finished once one other told again = told ∙ sym again
 
-serial_stop : (program : Program) (status : Status) → StopsWith program status → Stop program status
-serial_stop program (Trap kind node) stops = trapped kind (ap (Trap kind) stops.2) stops.0 stops.1
-serial_stop program (Source source.NotYet) stops = not_yet refl stops
-serial_stop program (Source source.TooLong) stops = absurd stops
-serial_stop program (Source (source.Read number offset)) stops = absurd stops
-serial_stop program (Source (source.Check kind place)) stops = absurd stops
-serial_stop program Done stops = absurd stops
-serial_stop program Words stops = absurd stops
-serial_stop program ReadFault stops = absurd stops
-serial_stop program WriteFault stops = absurd stops
-serial_stop program Memory stops = absurd stops
+elided_is_numbered : (program : Program) (budget : ℕ) → IsNumbered (elided_history program budget)
+elided_is_numbered program budget = (elision_is_history limits (resolved program) (start_words 0 []) budget).0.1.numbered
 
-stop_of : (command : Command) (program : Program) (status : Status) → Makes command program (Err status) → Stop program status
-stop_of Check program status stops = absurd stops
-stop_of Serial program status stops = serial_stop program status stops
+pub made_once : (command : Offline) (program : Program) (one other : Reply) → Makes command program one → Makes command program other → one ≡ other
+made_once (offline.Check file) program one other made again = made ∙ sym again
+made_once (offline.Serial file budget) program one other made again =
+    tells_once (elided program budget).end (λ reply. reply ≡ done (lines (output_of (elided program budget)))) (λ _ _ is also. is ∙ sym also) one other made again
+made_once (offline.Race file budget) program one other made again =
+    tells_once (elided program budget).end (TellsRace program (elided_history program budget))
+    (race_told_once (elided_history program budget) (elided_is_numbered program budget) program) one other made again
 
--- two texts
-pub made_once : (command : Command) (program : Program) (one other : List ℕ) → Makes command program (Ok one) → Makes command program (Ok other) → one ≡ other
-made_once Check program one other made again = made ∙ sym again
-made_once Serial program one other made again = made.2 ∙ sym again.2
+-- ---- what a reply to a text within the limit may be
 
-untrapped : (program : Program) (kind : TrapKind) → (meaning program).end ≡ Finished → ¬ ((meaning program).end ≡ Trapped kind)
-untrapped program kind finished trap = let e : Finished ≡ Trapped kind = sym finished ∙ trap in cc
+-- the text was read whole, and no device failed
+abbrev pub IsPlain : Status → Type 0
+IsPlain Done = Unit {0}
+IsPlain (Trap kind node) = Unit {0}
+IsPlain (Budget node) = Unit {0}
+IsPlain (Race race) = Unit {0}
+IsPlain (Source (source.Read number offset)) = Unit {0}
+IsPlain (Source (source.Check kind place)) = Unit {0}
+IsPlain (Source source.TooLong) = ⊥
+IsPlain Words = ⊥
+IsPlain ReadFault = ⊥
+IsPlain WriteFault = ⊥
+IsPlain Memory = ⊥
 
--- a text and a status
-made_or_stopped : (command : Command) (program : Program) (text : List ℕ) (status : Status) → Makes command program (Ok text) → ¬ Makes command program (Err status)
-made_or_stopped Check program text status made stops = stops
-made_or_stopped Serial program text status made stops = elim (serial_stop program status stops) [
-  | not_yet is untaken ↦ untaken made.0
-  | trapped kind is taken end ↦ untrapped program kind made.1 end
-]
+pub record IsMade (command : Offline) (reply : Reply) : Type 0 where
+  pub fixed : HasFixedLine reply.status
+  pub silent : is_shown reply.status ≡ false → reply.text ≡ []
+  pub accepted : IsOfAccepted command reply.status
+  pub plain : IsPlain reply.status
 
-same_trap : (program : Program) (one other : TrapKind) → (meaning program).end ≡ Trapped one → (meaning program).end ≡ Trapped other → Trap one 0 ≡ Trap other 0
-same_trap program one other end also = let e : Trapped one ≡ Trapped other = sym end ∙ also in let same : one ≡ other = cc in ap (λ kind. Trap kind 0) same
+made_done : (command : Offline) (text : List ℕ) → IsMade command (done text)
+made_done command text = record { fixed = tt; silent = λ e. cc; accepted = tt; plain = tt }
 
--- two statuses
-stopped_once : (program : Program) (one other : Status) → Stop program one → Stop program other → one ≡ other
-stopped_once program one other (not_yet is untaken) (not_yet also again) = is ∙ sym also
-stopped_once program one other (not_yet is untaken) (trapped kind also taken end) = absurd (untaken taken)
-stopped_once program one other (trapped kind is taken end) (not_yet also untaken) = absurd (untaken taken)
-stopped_once program one other (trapped kind is taken end) (trapped another also again ends) = is ∙ same_trap program kind another end ends ∙ sym also
+module _ (command : Offline) (trap : (kind : TrapKind) → IsOfAccepted command (Trap kind 0)) (budget : IsOfAccepted command (Budget 0))
+    (finished : Reply → Type 0) (made : (reply : Reply) → finished reply → IsMade command reply) where
+  tells_made : (end : NodeEnd) (reply : Reply) → Tells end finished reply → IsMade command reply
+  tells_made Finished reply told = made reply told
+  tells_made (Trapped kind) reply told = subst (IsMade command) (sym told) (record { fixed = refl; silent = λ _. refl; accepted = trap kind; plain = tt })
+  tells_made ends.Budget reply told = subst (IsMade command) (sym told) (record { fixed = refl; silent = λ _. refl; accepted = budget; plain = tt })
 
-fixed_of_stop : (program : Program) (status : Status) → Stop program status → HasFixedLine status
-fixed_of_stop program status (not_yet is untaken) = subst HasFixedLine (sym is) tt
-fixed_of_stop program status (trapped kind is taken end) = subst HasFixedLine (sym is) refl
+race_made : (file : List ℕ) (budget : ℕ) (program : Program) (history : History) (reply : Reply) → TellsRace program history reply → IsMade (offline.Race file budget) reply
+race_made file budget program history reply (NoRace none is) = subst (IsMade (offline.Race file budget)) (sym is) (made_done (offline.Race file budget) _)
+race_made file budget program history reply (First race first is) =
+    subst (IsMade (offline.Race file budget)) (sym is) (record { fixed = tt; silent = λ e. cc; accepted = tt; plain = tt })
 
-pub fixed_line : (command : Command) (program : Program) (status : Status) → Makes command program (Err status) ⊎ (status ≡ Memory) → HasFixedLine status
-fixed_line command program status (inl stops) = fixed_of_stop program status (stop_of command program status stops)
-fixed_line command program status (inr memory) = subst HasFixedLine (sym memory) tt
-
-undone_of_stop : (program : Program) (status : Status) → Stop program status → ¬ (status ≡ Done)
-undone_of_stop program status (not_yet is untaken) done = let e : Source source.NotYet ≡ Done = sym is ∙ done in cc
-undone_of_stop program status (trapped kind is taken end) done = let e : Trap kind 0 ≡ Done = sym is ∙ done in cc
-
-pub undone_stop : (command : Command) (program : Program) (status : Status) → Makes command program (Err status) → ¬ (status ≡ Done)
-undone_stop command program status stops = undone_of_stop program status (stop_of command program status stops)
-
-accepted_of_stop : (program : Program) (status : Status) → Stop program status → IsOfAccepted Serial status
-accepted_of_stop program status (not_yet is untaken) = subst (IsOfAccepted Serial) (sym is) tt
-accepted_of_stop program status (trapped kind is taken end) = subst (IsOfAccepted Serial) (sym is) tt
-
-pub accepted_stop : (command : Command) (program : Program) (status : Status) → Makes command program (Err status) → IsOfAccepted command status
-accepted_stop Check program status stops = absurd stops
-accepted_stop Serial program status stops = accepted_of_stop program status (serial_stop program status stops)
-
-due_of_stop : (command : Command) (text : List ℕ) (program : Program) → Accepts text program → (status : Status) → Makes command program (Err status) → Stop program status → IsDue command text status
-due_of_stop command text program accepted status stops (not_yet is untaken) =
-    subst (IsDue command text) (sym is) (program, accepted.0, (accepted.1, subst (λ s. Makes command program (Err s)) is stops))
-due_of_stop command text program accepted status stops (trapped kind is taken end) =
-    subst (IsDue command text) (sym is) (program, accepted.0, (accepted.1, subst (λ s. Makes command program (Err s)) is stops))
-
-pub due_of_stopped : (command : Command) (text : List ℕ) (program : Program) → Accepts text program → (status : Status) → Makes command program (Err status) → IsDue command text status
-due_of_stopped command text program accepted status stops = due_of_stop command text program accepted status stops (stop_of command program status stops)
-
--- ---- what a program calls for
-
-module _ (command : Command) (program : Program) (unbroken : (kind : ℕ) (place : CheckPlace) → ¬ IsCheckRefusal program kind place) where
-  -- a lawful one of which a text is made
-  pub due_made : (text : List ℕ) → Makes command program (Ok text) → (due : Status) → IsDueOf command program due → due ≡ Done
-  due_made text made Done is = refl
-  due_made text made (Trap kind node) is = absurd (made_or_stopped command program text (Trap kind node) made is.1)
-  due_made text made (Source source.NotYet) is = absurd (made_or_stopped command program text (Source source.NotYet) made is.1)
-  due_made text made (Source (source.Check kind place)) is = absurd (unbroken kind place is)
-  due_made text made (Source source.TooLong) is = absurd is
-  due_made text made (Source (source.Read number offset)) is = absurd is
-  due_made text made Words is = absurd is
-  due_made text made ReadFault is = absurd is
-  due_made text made WriteFault is = absurd is
-  due_made text made Memory is = absurd is
-
-  -- a lawful one with which the command stops
-  pub due_stopped : (status : Status) → Makes command program (Err status) → (due : Status) → IsDueOf command program due → status ≡ due
-  due_stopped status stops Done is = absurd (made_or_stopped command program is.1.0 status is.1.1 stops)
-  due_stopped status stops (Trap kind node) is = stopped_once program status (Trap kind node) (stop_of command program status stops) (stop_of command program (Trap kind node) is.1)
-  due_stopped status stops (Source source.NotYet) is = stopped_once program status (Source source.NotYet) (stop_of command program status stops) (stop_of command program (Source source.NotYet) is.1)
-  due_stopped status stops (Source (source.Check kind place)) is = absurd (unbroken kind place is)
-  due_stopped status stops (Source source.TooLong) is = absurd is
-  due_stopped status stops (Source (source.Read number offset)) is = absurd is
-  due_stopped status stops Words is = absurd is
-  due_stopped status stops ReadFault is = absurd is
-  due_stopped status stops WriteFault is = absurd is
-  due_stopped status stops Memory is = absurd is
-
--- one that is not lawful
-pub due_broken : (command : Command) (program : Program) (kind : ℕ) (place : CheckPlace) → ¬ IsLawful program
-    → ((other : ℕ) (another : CheckPlace) → IsCheckRefusal program other another → Source (source.Check kind place) ≡ Source (source.Check other another))
-    → (due : Status) → IsDueOf command program due → Source (source.Check kind place) ≡ due
-due_broken command program kind place unlawful once Done is = absurd (unlawful is.0)
-due_broken command program kind place unlawful once (Trap trap node) is = absurd (unlawful is.0)
-due_broken command program kind place unlawful once (Source source.NotYet) is = absurd (unlawful is.0)
-due_broken command program kind place unlawful once (Source (source.Check other another)) is = once other another is
-due_broken command program kind place unlawful once (Source source.TooLong) is = absurd is
-due_broken command program kind place unlawful once (Source (source.Read number offset)) is = absurd is
-due_broken command program kind place unlawful once Words is = absurd is
-due_broken command program kind place unlawful once ReadFault is = absurd is
-due_broken command program kind place unlawful once WriteFault is = absurd is
-due_broken command program kind place unlawful once Memory is = absurd is
+pub made_of : (command : Offline) (program : Program) (reply : Reply) → Makes command program reply → IsMade command reply
+made_of (offline.Check file) program reply made = subst (IsMade (offline.Check file)) (sym made) (made_done (offline.Check file) (canonical_text program))
+made_of (offline.Serial file budget) program reply made =
+    tells_made (offline.Serial file budget) (λ kind. tt) tt (λ reply. reply ≡ done (lines (output_of (elided program budget))))
+    (λ reply is. subst (IsMade (offline.Serial file budget)) (sym is) (made_done (offline.Serial file budget) _)) (elided program budget).end reply made
+made_of (offline.Race file budget) program reply made =
+    tells_made (offline.Race file budget) (λ kind. tt) tt (TellsRace program (elided_history program budget))
+    (race_made file budget program (elided_history program budget)) (elided program budget).end reply made
 
 -- ---- what a text calls for
 
--- one that is too long
-pub due_too_long : (command : Command) (text : List ℕ) → source_limit < length text → (due : Status) → IsDue command text due → due ≡ Source source.TooLong
-due_too_long command text long (Source source.TooLong) is = refl
-due_too_long command text long (Source (source.Read number offset)) is = absurd (omega (arith, is.0))
-due_too_long command text long (Source source.NotYet) is = absurd (omega (arith, is.1.0))
-due_too_long command text long (Source (source.Check kind place)) is = absurd (omega (arith, is.1.0))
-due_too_long command text long Done is = absurd (omega (arith, is.1.0))
-due_too_long command text long (Trap kind node) is = absurd (omega (arith, is.1.0))
-due_too_long command text long Words is = absurd is.2
-due_too_long command text long ReadFault is = absurd is.2
-due_too_long command text long WriteFault is = absurd is.2
-due_too_long command text long Memory is = absurd is.2
+only_is_silent : (status : Status) (reply : Reply) → reply ≡ only status → reply.text ≡ []
+only_is_silent status reply is = ap (λ r. r.text) is
 
-module _ (command : Command) (text : List ℕ) (short : length text ≤ source_limit) where
+pub silent_of_due : (command : Offline) (text : List ℕ) (reply : Reply) → IsDue command text reply → is_shown reply.status ≡ false → reply.text ≡ []
+silent_of_due command text reply (TooLong long is) unshown = only_is_silent _ reply is
+silent_of_due command text reply (Unread number offset short refused is) unshown = only_is_silent _ reply is
+silent_of_due command text reply (Unlawful program kind place spelled refused is) unshown = only_is_silent _ reply is
+silent_of_due command text reply (Accepted program accepted made) unshown = (made_of command program reply made).silent unshown
+
+plain_only : (status : Status) (reply : Reply) → reply ≡ only status → IsPlain status → IsPlain reply.status
+plain_only status reply is plain = subst (λ r. IsPlain r.status) (sym is) plain
+
+pub plain_of_due : (command : Offline) (text : List ℕ) (reply : Reply) → length text ≤ source_limit → IsDue command text reply → IsPlain reply.status
+plain_of_due command text reply short (TooLong long is) = absurd (omega (arith, long, short))
+plain_of_due command text reply short (Unread number offset short' refused is) = plain_only _ reply is tt
+plain_of_due command text reply short (Unlawful program kind place spelled refused is) = plain_only _ reply is tt
+plain_of_due command text reply short (Accepted program accepted made) = (made_of command program reply made).plain
+
+-- no text calls for Words
+pub words_not_due : (command : Offline) (text : List ℕ) (reply : Reply) → IsDue command text reply → ¬ (reply.status ≡ Words)
+words_not_due command text reply (TooLong long is) words = let e : Source source.TooLong ≡ Words = ap (λ r. r.status) (sym is) ∙ words in cc
+words_not_due command text reply (Unread number offset short refused is) words = let e : Source (source.Read number offset) ≡ Words = ap (λ r. r.status) (sym is) ∙ words in cc
+words_not_due command text reply (Unlawful program kind place spelled refused is) words = let e : Source (source.Check kind place) ≡ Words = ap (λ r. r.status) (sym is) ∙ words in cc
+words_not_due command text reply (Accepted program accepted made) words = let plain : IsPlain Words = subst IsPlain words (made_of command program reply made).plain in plain
+
+-- one that is too long
+pub due_too_long : (command : Offline) (text : List ℕ) → source_limit < length text → (reply : Reply) → IsDue command text reply → reply ≡ only (Source source.TooLong)
+due_too_long command text long reply (TooLong long' is) = is
+due_too_long command text long reply (Unread number offset short refused is) = absurd (omega (arith, long, short))
+due_too_long command text long reply (Unlawful program kind place spelled refused is) = absurd (omega (arith, long, spelled.0))
+due_too_long command text long reply (Accepted program accepted made) = absurd (omega (arith, long, accepted.0.0))
+
+module _ (command : Offline) (text : List ℕ) (short : length text ≤ source_limit) where
   -- one that spells no program
   pub due_unread : (number offset : ℕ) → ((program : Program) → ¬ Spells text program)
       → ((other place : ℕ) → IsRefusedAt text other place → Source (source.Read number offset) ≡ Source (source.Read other place))
-      → (due : Status) → IsDue command text due → Source (source.Read number offset) ≡ due
-  due_unread number offset none once (Source source.TooLong) is = absurd (omega (arith, is))
-  due_unread number offset none once (Source (source.Read other place)) is = once other place is.1
-  due_unread number offset none once (Source source.NotYet) is = absurd (none is.0 is.1.1)
-  due_unread number offset none once (Source (source.Check kind place)) is = absurd (none is.0 is.1.1)
-  due_unread number offset none once Done is = absurd (none is.0 is.1.1)
-  due_unread number offset none once (Trap kind node) is = absurd (none is.0 is.1.1)
-  due_unread number offset none once Words is = absurd is.2
-  due_unread number offset none once ReadFault is = absurd is.2
-  due_unread number offset none once WriteFault is = absurd is.2
-  due_unread number offset none once Memory is = absurd is.2
+      → (reply : Reply) → IsDue command text reply → reply ≡ only (Source (source.Read number offset))
+  due_unread number offset none once reply (TooLong long is) = absurd (omega (arith, long, short))
+  due_unread number offset none once reply (Unread other place short' refused is) = is ∙ ap only (sym (once other place refused))
+  due_unread number offset none once reply (Unlawful program kind place spelled refused is) = absurd (none program spelled.1)
+  due_unread number offset none once reply (Accepted program accepted made) = absurd (none program accepted.0.1)
 
-  -- one that spells this program
-  pub due_read : (program : Program) → ((other : Program) → Spells text other → program ≡ other) → ((number offset : ℕ) → ¬ IsRefusedAt text number offset)
-      → (due : Status) → IsDue command text due → IsDueOf command program due
-  due_read program only unrefused (Source source.TooLong) is = absurd (omega (arith, is))
-  due_read program only unrefused (Source (source.Read number offset)) is = absurd (unrefused number offset is.1)
-  due_read program only unrefused (Source source.NotYet) is = subst (λ p. IsDueOf command p (Source source.NotYet)) (sym (only is.0 is.1.1)) is.2
-  due_read program only unrefused (Source (source.Check kind place)) is = subst (λ p. IsDueOf command p (Source (source.Check kind place))) (sym (only is.0 is.1.1)) is.2
-  due_read program only unrefused Done is = subst (λ p. IsDueOf command p Done) (sym (only is.0 is.1.1)) is.2
-  due_read program only unrefused (Trap kind node) is = subst (λ p. IsDueOf command p (Trap kind node)) (sym (only is.0 is.1.1)) is.2
-  due_read program only unrefused Words is = absurd is.2
-  due_read program only unrefused ReadFault is = absurd is.2
-  due_read program only unrefused WriteFault is = absurd is.2
-  due_read program only unrefused Memory is = absurd is.2
+  module _ (program : Program) (one : (other : Program) → Spells text other → program ≡ other) (unrefused : (number offset : ℕ) → ¬ IsRefusedAt text number offset) where
+    -- one whose program is not lawful
+    pub due_unlawful : (kind : ℕ) (place : CheckPlace) → ¬ IsLawful program
+        → ((other : ℕ) (another : CheckPlace) → IsCheckRefusal program other another → Source (source.Check kind place) ≡ Source (source.Check other another))
+        → (reply : Reply) → IsDue command text reply → reply ≡ only (Source (source.Check kind place))
+    due_unlawful kind place unlawful once reply (TooLong long is) = absurd (omega (arith, long, short))
+    due_unlawful kind place unlawful once reply (Unread number offset short' refused is) = absurd (unrefused number offset refused)
+    due_unlawful kind place unlawful once reply (Unlawful other kind' place' spelled refused is) =
+        is ∙ ap only (sym (once kind' place' (subst (λ p. IsCheckRefusal p kind' place') (sym (one other spelled.1)) refused)))
+    due_unlawful kind place unlawful once reply (Accepted other accepted made) = absurd (unlawful (subst IsLawful (sym (one other accepted.0.1)) accepted.1))
+
+    -- one whose program breaks no rule
+    pub due_accepted : ((kind : ℕ) (place : CheckPlace) → ¬ IsCheckRefusal program kind place) → (reply : Reply) → IsDue command text reply → Makes command program reply
+    due_accepted unbroken reply (TooLong long is) = absurd (omega (arith, long, short))
+    due_accepted unbroken reply (Unread number offset short' refused is) = absurd (unrefused number offset refused)
+    due_accepted unbroken reply (Unlawful other kind place spelled refused is) =
+        absurd (unbroken kind place (subst (λ p. IsCheckRefusal p kind place) (sym (one other spelled.1)) refused))
+    due_accepted unbroken reply (Accepted other accepted made) = subst (λ p. Makes command p reply) (sym (one other accepted.0.1)) made

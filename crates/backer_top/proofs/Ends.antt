@@ -1,5 +1,5 @@
 -- How a command ends, by how its parts ended.
-use Rattle.std.proofs.Common.{◌≡◌, ◌⊎◌, inl, inr, ℕ, ◌<◌, ◌≤◌, Option, Some, None, IfSome, IfNone, IsSomeAnd, Ok, Err, unwrap_or, List, [], ◌∷◌, ◌++◌, append-nil, length, refl, sym, ap, ◌∙◌, subst, arith}
+use Rattle.std.proofs.Common.{◌≡◌, ◌⊎◌, inl, inr, ℕ, ◌<◌, ◌≤◌, true, false, Option, Some, None, IfSome, IfNone, IsSomeAnd, unwrap_or, List, [], ◌∷◌, ◌++◌, append-nil, length, refl, sym, ap, ◌∙◌, subst, arith}
 use Rattle.std.specs.FinMap as map
 use Rattle.cilk_tree.specs.declared.kind.Kind.{Kind}
 use Rattle.cilk_tree.specs.declared.place.CheckPlace.{CheckPlace}
@@ -13,19 +13,21 @@ use Rattle.cilk_reader.specs.declared.refusal.ReadRefusal.TheVariants as read
 use Rattle.cilk_checker.specs.Sound.{IsRefusal as IsBreach}
 use Rattle.cilk_checker.specs.declared.refusal.CheckRefusal.{CheckRefusal}
 use Rattle.cilk_checker.specs.declared.refusal.CheckRefusal.TheVariants as check
+use Rattle.command_words.specs.declared.command.Offline.{Offline}
 use Rattle.outside.proofs.Joining.{joined-append}
 use Rattle.outside.specs.Shelf.{AreSome, Reads, Texts, joined}
 use Rattle.backer_top.specs.declared.status.SourceRefusal.{SourceRefusal}
 use Rattle.backer_top.specs.declared.status.SourceRefusal.TheVariants as source
 use Rattle.backer_top.specs.declared.status.Status.{Status}
-use Rattle.backer_top.specs.declared.status.Status.TheVariants.{Done, Words, Source, ReadFault, WriteFault, Trap, Memory}
-use Rattle.backer_top.specs.declared.words.Command.{Command}
-use Rattle.backer_top.specs.Due.{Accepts, Makes, IsDueOf, IsDue, IsOfAccepted}
-use Rattle.backer_top.specs.Outcome.{IsReading, IsOutcome}
+use Rattle.backer_top.specs.declared.status.Status.TheVariants.{Done, Words, Source, ReadFault, WriteFault, Trap, Budget, Race, Memory}
+use Rattle.backer_top.specs.Due.{Accepts, IsDue, IsOfAccepted, Makes, Reply, TooLong, Unread, Unlawful, Accepted, only}
+use Rattle.backer_top.specs.Outcome.{IsReading, IsOutcome, StopsWith}
 use Rattle.backer_top.specs.Output.{IsCutShort, IsWritten, SinkUse, WriteFailed}
 use Rattle.backer_top.specs.Reading.{IsHeld, IsTextOf, GaveSome, GaveUp, ReadFailed, ReadsWhole, ShelfUse, StopsReading, source_limit}
-use Rattle.backer_top.specs.Run.{IsRun}
-use Rattle.backer_top.proofs.Dues.{accepted_stop, due_broken, due_made, due_of_stopped, due_read, due_stopped, due_too_long, due_unread, made_once, undone_stop}
+use Rattle.backer_top.specs.Run.{IsRun, IsStatusDue}
+use Rattle.backer_top.specs.Status.{is_shown}
+use Rattle.backer_top.proofs.Dues.{IsPlain, due_accepted, due_too_long, due_unlawful, due_unread, made_of, made_once, plain_of_due, silent_of_due}
+use Rattle.backer_top.proofs.Pieces.{IsWritten-nothing, nothing_is_whole}
 
 -- ---- how a text within the limit was read and checked
 
@@ -46,114 +48,72 @@ same_breach kind place other another (inl same) =
 same_breach kind place other another (inr memory) = cc
 
 module _ (text : List ℕ) where
-  pub reading_memory : IsReading text (Err Memory)
-  reading_memory = record { accepted = tt; only = λ _ _. tt; unbroken = λ _ _. tt; unrefused = λ _ _. tt; cause = λ _. inr refl; stops = λ done. cc; due = λ _ _ _. inr refl; unaccepted = λ _ _. refl }
-
-  reading_refused : (refusal : SourceRefusal) → ((command : Command) → IsDue command text (Source refusal)) → ((command : Command) (due : Status) → IsDue command text due → Source refusal ≡ due) → ((program : Program) → ¬ Accepts text program)
-      → (status : Status) → (status ≡ Source refusal) ⊎ (status ≡ Memory) → IsReading text (Err status)
-  reading_refused refusal cause due unaccepted status (inr memory) = subst (λ s. IsReading text (Err s)) (sym memory) reading_memory
-  reading_refused refusal cause due unaccepted status (inl is) = subst (λ s. IsReading text (Err s)) (sym is) (record {
-    accepted = tt;
-    only = λ _ _. tt;
-    unbroken = λ _ _. tt;
-    unrefused = λ _ _. tt;
-    cause = λ command. inl (cause command);
-    stops = λ done. cc;
-    due = λ command other is. inl (due command other is);
-    unaccepted = λ program accepted. absurd (unaccepted program accepted);
-  })
+  stops_refused : (refusal : SourceRefusal) → ((command : Offline) → IsDue command text (only (Source refusal)))
+      → ((command : Offline) (reply : Reply) → IsDue command text reply → reply ≡ only (Source refusal)) → ((program : Program) → ¬ Accepts text program)
+      → (status : Status) → (status ≡ Source refusal) ⊎ (status ≡ Memory) → (command : Offline) → StopsWith command text status
+  stops_refused refusal due once unaccepted status (inr memory) command = inr memory
+  stops_refused refusal due once unaccepted status (inl is) command = inl (subst (λ s. IsOutcome command text (only s)) (sym is) (record {
+    due = due command;
+    once = once command;
+    accepted = λ program accepted. absurd (unaccepted program accepted);
+    silent = λ _. refl;
+  }))
 
   module _ (short : length text ≤ source_limit) where
-    reading_at : (number offset : ℕ) → IsRefusedAt text number offset → ((program : Program) → Spells text program → read.At number offset ≡ read.Memory)
+    stops_at : (number offset : ℕ) → IsRefusedAt text number offset → ((program : Program) → Spells text program → read.At number offset ≡ read.Memory)
         → ((kind : Kind) (place : ℕ) → IsRefusal text kind place → (read.At number offset ≡ read.At (kind_number kind) place) ⊎ (read.At number offset ≡ read.Memory))
-        → (status : Status) → (status ≡ Source (source.Read number offset)) ⊎ (status ≡ Memory) → IsReading text (Err status)
-    reading_at number offset refused only exact =
-        let none = λ (program : Program) (spelled : Spells text program). let memory = only program spelled in let no : ⊥ = cc in no in
-        reading_refused (source.Read number offset) (λ command. (short, refused))
-        (λ command. due_unread command text short number offset none (λ other place again. same_reading number offset other place again.0 again.1 (exact again.0 place again.2)))
-        (λ program accepted. none program accepted.0.1)
+        → (status : Status) → (status ≡ Source (source.Read number offset)) ⊎ (status ≡ Memory) → (command : Offline) → StopsWith command text status
+    stops_at number offset refused none exact =
+        let spells_none = λ (program : Program) (spelled : Spells text program). let memory = none program spelled in let no : ⊥ = cc in no in
+        stops_refused (source.Read number offset) (λ command. Unread number offset short refused refl)
+        (λ command. due_unread command text short number offset spells_none (λ other place again. same_reading number offset other place again.0 again.1 (exact again.0 place again.2)))
+        (λ program accepted. spells_none program accepted.0.1)
 
     -- the reader refused it
-    pub reading_unread : (refusal : ReadRefusal) (number offset : ℕ) → refusal ≡ read.At number offset → IsReason text refusal → ((program : Program) → Spells text program → refusal ≡ read.Memory)
+    pub stops_unread : (refusal : ReadRefusal) (number offset : ℕ) → refusal ≡ read.At number offset → IsReason text refusal → ((program : Program) → Spells text program → refusal ≡ read.Memory)
         → ((kind : Kind) (place : ℕ) → IsRefusal text kind place → (refusal ≡ read.At (kind_number kind) place) ⊎ (refusal ≡ read.Memory))
-        → (status : Status) → (status ≡ Source (source.Read number offset)) ⊎ (status ≡ Memory) → IsReading text (Err status)
-    reading_unread refusal number offset is reason only exact =
-        reading_at number offset (subst (IsReason text) is reason) (λ program spelled. sym is ∙ only program spelled)
+        → (status : Status) → (status ≡ Source (source.Read number offset)) ⊎ (status ≡ Memory) → (command : Offline) → StopsWith command text status
+    stops_unread refusal number offset is reason none exact =
+        stops_at number offset (subst (IsReason text) is reason) (λ program spelled. sym is ∙ none program spelled)
         (λ kind place refused. subst (λ r. (r ≡ read.At (kind_number kind) place) ⊎ (r ≡ read.Memory)) is (exact kind place refused))
 
-    module _ (program : Program) (spelled : Spells text program) (only : (other : Program) → Spells text other → program ≡ other)
+    module _ (program : Program) (spelled : Spells text program) (one : (other : Program) → Spells text other → program ≡ other)
         (exact : (kind : Kind) (offset : ℕ) → IsRefusal text kind offset → ⊥) where
+      unrefused : (number offset : ℕ) → ¬ IsRefusedAt text number offset
+      unrefused number offset refused = exact refused.0 offset refused.2
+
       -- the checker accepted its program
-      pub reading_accepted : (checked : Program) → checked ≡ program → IsLawful program → ((kind : ℕ) (place : CheckPlace) → ¬ IsCheckRefusal program kind place) → IsReading text (Ok checked)
-      reading_accepted checked same lawful unbroken = subst (λ p. IsReading text (Ok p)) (sym same) (record {
+      pub reads : (checked : Program) → checked ≡ program → IsLawful program → ((kind : ℕ) (place : CheckPlace) → ¬ IsCheckRefusal program kind place) → IsReading text checked
+      reads checked same lawful unbroken = subst (IsReading text) (sym same) (record {
         accepted = ((short, spelled), lawful);
-        only = only;
-        unbroken = unbroken;
-        unrefused = λ number offset refused. exact refused.0 offset refused.2;
-        cause = λ _. tt;
-        stops = tt;
-        due = λ _ _ _. tt;
-        unaccepted = λ _ _. tt;
+        calls_for = λ command. due_accepted command text short program one unrefused unbroken;
       })
 
-      reading_broken : (kind : ℕ) (place : CheckPlace) → IsCheckRefusal program kind place → (IsLawful program → check.At kind place ≡ check.Memory)
+      stops_broken : (kind : ℕ) (place : CheckPlace) → IsCheckRefusal program kind place → (IsLawful program → check.At kind place ≡ check.Memory)
           → ((other : ℕ) (another : CheckPlace) → IsCheckRefusal program other another → (check.At kind place ≡ check.At other another) ⊎ (check.At kind place ≡ check.Memory))
-          → (status : Status) → (status ≡ Source (source.Check kind place)) ⊎ (status ≡ Memory) → IsReading text (Err status)
-      reading_broken kind place broken accepted once =
+          → (status : Status) → (status ≡ Source (source.Check kind place)) ⊎ (status ≡ Memory) → (command : Offline) → StopsWith command text status
+      stops_broken kind place broken accepted once =
           let unlawful = λ (lawful : IsLawful program). let memory = accepted lawful in let no : ⊥ = cc in no in
-          reading_refused (source.Check kind place) (λ command. (program, (short, spelled), broken))
-          (λ command due is. due_broken command program kind place unlawful (λ other another again. same_breach kind place other another (once other another again)) due
-          (due_read command text short program only (λ number offset refused. exact refused.0 offset refused.2) due is))
-          (λ other other_accepted. unlawful (subst IsLawful (sym (only other other_accepted.0.1)) other_accepted.1))
+          stops_refused (source.Check kind place) (λ command. Unlawful program kind place (short, spelled) broken refl)
+          (λ command. due_unlawful command text short program one unrefused kind place unlawful (λ other another again. same_breach kind place other another (once other another again)))
+          (λ other also. unlawful (subst IsLawful (sym (one other also.0.1)) also.1))
 
       -- the checker refused its program
-      pub reading_unlawful : (refusal : CheckRefusal) (kind : ℕ) (place : CheckPlace) → refusal ≡ check.At kind place → IsBreach program refusal → (IsLawful program → refusal ≡ check.Memory)
+      pub stops_unlawful : (refusal : CheckRefusal) (kind : ℕ) (place : CheckPlace) → refusal ≡ check.At kind place → IsBreach program refusal → (IsLawful program → refusal ≡ check.Memory)
           → ((other : ℕ) (another : CheckPlace) → IsCheckRefusal program other another → (refusal ≡ check.At other another) ⊎ (refusal ≡ check.Memory))
-          → (status : Status) → (status ≡ Source (source.Check kind place)) ⊎ (status ≡ Memory) → IsReading text (Err status)
-      reading_unlawful refusal kind place is broken accepted once =
-          reading_broken kind place (subst (IsBreach program) is broken) (λ lawful. sym is ∙ accepted lawful)
+          → (status : Status) → (status ≡ Source (source.Check kind place)) ⊎ (status ≡ Memory) → (command : Offline) → StopsWith command text status
+      stops_unlawful refusal kind place is broken accepted once =
+          stops_broken kind place (subst (IsBreach program) is broken) (λ lawful. sym is ∙ accepted lawful)
           (λ other another again. subst (λ r. (r ≡ check.At other another) ⊎ (r ≡ check.Memory)) is (once other another again))
 
--- ---- what a command makes of it
-
-module _ (command : Command) (text : List ℕ) where
-  outcome_memory : IsOutcome command text (Err Memory)
-  outcome_memory = record { cause = inr refl; stops = λ done. cc; due = λ _ _. inr refl; only = λ _ _. tt; accepted = λ _ _. tt }
-
-  -- it was not accepted
-  pub outcome_refused : (status : Status) → IsReading text (Err status) → IsOutcome command text (Err status)
-  outcome_refused status reading = record {
-    cause = reading.cause command;
-    stops = reading.stops;
-    due = reading.due command;
-    only = λ _ _. tt;
-    accepted = λ program accepted. subst (IsOfAccepted command) (sym (reading.unaccepted program accepted)) tt;
-  }
-
-  module _ (short : length text ≤ source_limit) (program : Program) (reading : IsReading text (Ok program)) where
-    calls_for : (due : Status) → IsDue command text due → IsDueOf command program due
-    calls_for = due_read command text short program reading.only reading.unrefused
-
-    -- a text was made of the program
-    pub outcome_made : (printed : List ℕ) → Makes command program (Ok printed) → IsOutcome command text (Ok printed)
-    outcome_made printed made = record {
-      cause = (program, reading.accepted, made);
-      stops = tt;
-      due = λ due is. due_made command program reading.unbroken printed made due (calls_for due is);
-      only = λ other prints. made_once command program printed other made (subst (λ p. Makes command p (Ok other)) (sym (reading.only prints.0 prints.1.0.1)) prints.2);
-      accepted = λ _ _. tt;
-    }
-
-    -- none was
-    pub outcome_stopped : (status : Status) → Makes command program (Err status) ⊎ (status ≡ Memory) → IsOutcome command text (Err status)
-    outcome_stopped status (inr memory) = subst (λ s. IsOutcome command text (Err s)) (sym memory) outcome_memory
-    outcome_stopped status (inl stops) = record {
-      cause = inl (due_of_stopped command text program reading.accepted status stops);
-      stops = undone_stop command program status stops;
-      due = λ due is. inl (due_stopped command program reading.unbroken status stops due (calls_for due is));
-      only = λ _ _. tt;
-      accepted = λ _ _. accepted_stop command program status stops;
-    }
+-- what a command makes of its program
+pub outcome_made : (command : Offline) (text : List ℕ) (program : Program) (reply : Reply) → IsReading text program → Makes command program reply → IsOutcome command text reply
+outcome_made command text program reply reading made = record {
+  due = Accepted program reading.accepted made;
+  once = λ other is. made_once command program other reply (reading.calls_for command other is) made;
+  accepted = λ _ _. (made_of command program reply made).accepted;
+  silent = (made_of command program reply made).silent;
+}
 
 -- ---- the text that the shelf gave
 
@@ -197,7 +157,7 @@ module _ {S : Type 0} (shelf : ShelfUse S) where
 
   -- memory ran out before the text was known
   pub source_unread : GaveSome shelf → (text : List ℕ) × StopsReading shelf text Memory
-  source_unread calls = (told_or (shelf.texts shelf.old) shelf.file [], record { told = told_or_is (shelf.texts shelf.old) shelf.file []; calls = calls; cause = tt })
+  source_unread calls = (told_or (shelf.texts shelf.old) shelf.file [], record { told = told_or_is (shelf.texts shelf.old) shelf.file []; calls = inr calls; cause = tt })
 
   pub source_too_long : (pieces : List (List ℕ)) (last : List ℕ) → AreSome (pieces ++ last ∷ []) → Reads shelf.gave shelf.file shelf.old 0 (pieces ++ last ∷ []) shelf.new → length (joined pieces) ≤ source_limit → source_limit < length (joined (pieces ++ last ∷ []))
       → IfSome (shelf.texts shelf.old) (λ held. IsSomeAnd (map.get held shelf.file) (λ text. source_limit < length text))
@@ -207,121 +167,117 @@ module _ {S : Type 0} (shelf : ShelfUse S) where
       let more = long_text (shelf.texts shelf.old) shelf.file (joined (pieces ++ last ∷ [])) source_limit long told in
       (text, record { told = more.1; calls = record { pieces = pieces; last = last; some = some; calls = calls; within = within; long = long; same = more.2 }; cause = more.0 })
 
-  module _ {O : Type 0} (out : SinkUse O) (command : Command) (text : List ℕ) where
-    abbrev Ends : Status → Type 0
-    Ends = IsRun shelf out command text
+
+  module _ {O : Type 0} (out : SinkUse O) (command : Offline) where
+    abbrev Written : List ℕ → Type 0
+    Written = IsWritten out.held out.took out.old out.new
+
+    -- where nothing was written, that is all that a status calls for that is not shown
+    unshown_output : (text : List ℕ) → out.new ≡ out.old → (status : Status) → is_shown status ≡ false → (reply : Reply) → IsDue command text reply → reply.status ≡ status → Written reply.text
+    unshown_output text unwritten status unshown reply due is =
+        let none : reply.text ≡ [] = silent_of_due command text reply due (ap is_shown is ∙ unshown) in
+        subst (λ new. IsWritten out.held out.took out.old new reply.text) (sym unwritten) (IsWritten-nothing out.held out.took out.old reply.text (ap length none))
+
+    -- memory ran out
+    run_memory : (text : List ℕ) → out.new ≡ out.old → IsTextOf (shelf.texts shelf.old) shelf.file text → (shelf.new ≡ shelf.old) ⊎ GaveSome shelf → IsRun shelf out command text Memory
+    run_memory text unwritten told calls =
+        record { told = told; calls = calls; cause = tt; due = λ _ _. tt; accepted = λ _ _ _ _. tt; output = unshown_output text unwritten Memory refl; unwritten = λ is. cc }
+
+    -- before the shelf was called
+    pub run_unstarted : out.new ≡ out.old → shelf.new ≡ shelf.old → (text : List ℕ) × IsRun shelf out command text Memory
+    run_unstarted unwritten uncalled =
+        let text = told_or (shelf.texts shelf.old) shelf.file [] in
+        (text, run_memory text unwritten (told_or_is (shelf.texts shelf.old) shelf.file []) (inl uncalled))
 
     -- no text within the limit was read
-    pub run_unread : (status : Status) → StopsReading shelf text status → Ends status
-    run_unread (Source source.TooLong) stops = record {
+    pub run_unread : (text : List ℕ) → out.new ≡ out.old → (status : Status) → StopsReading shelf text status → IsRun shelf out command text status
+    run_unread text unwritten (Source source.TooLong) stops = record {
       told = stops.told;
       calls = stops.calls;
-      cause = stops.cause;
-      due = λ due is. sym (due_too_long command text stops.cause due is);
+      cause = (only (Source source.TooLong), TooLong stops.cause refl, refl);
+      due = λ reply is. sym (ap (λ r. r.status) (due_too_long command text stops.cause reply is));
       accepted = λ _ _ program accepted. absurd (omega (arith, stops.cause, accepted.0.0));
-      output = λ done. cc;
-      unwritten = λ unwritten. cc;
+      output = unshown_output text unwritten (Source source.TooLong) refl;
+      unwritten = λ is. cc;
     }
-    run_unread ReadFault stops = record {
+    run_unread text unwritten ReadFault stops = record {
       told = stops.told;
       calls = stops.calls;
       cause = stops.cause;
       due = λ _ _. stops.cause;
       accepted = λ unfailed _ _ _. absurd (unfailed stops.cause);
-      output = λ done. cc;
-      unwritten = λ unwritten. cc;
+      output = unshown_output text unwritten ReadFault refl;
+      unwritten = λ is. cc;
     }
-    run_unread Memory stops = record { told = stops.told; calls = stops.calls; cause = tt; due = λ _ _. tt; accepted = λ _ _ _ _. tt; output = λ done. cc; unwritten = λ unwritten. cc }
-    run_unread (Source (source.Read number offset)) stops = absurd stops.cause
-    run_unread (Source (source.Check kind place)) stops = absurd stops.cause
-    run_unread (Source source.NotYet) stops = absurd stops.cause
-    run_unread Done stops = absurd stops.cause
-    run_unread Words stops = absurd stops.cause
-    run_unread WriteFault stops = absurd stops.cause
-    run_unread (Trap kind node) stops = absurd stops.cause
+    run_unread text unwritten Memory stops = run_memory text unwritten stops.told stops.calls
+    run_unread text unwritten (Source (source.Read number offset)) stops = absurd stops.cause
+    run_unread text unwritten (Source (source.Check kind place)) stops = absurd stops.cause
+    run_unread text unwritten Done stops = absurd stops.cause
+    run_unread text unwritten Words stops = absurd stops.cause
+    run_unread text unwritten WriteFault stops = absurd stops.cause
+    run_unread text unwritten (Trap kind node) stops = absurd stops.cause
+    run_unread text unwritten (Budget node) stops = absurd stops.cause
+    run_unread text unwritten (Race race) stops = absurd stops.cause
 
-    module _ (whole : ReadsWhole shelf text) where
-      unless_memory : {P : Type 0} (status : Status) → ¬ (status ≡ Memory) → P ⊎ (status ≡ Memory) → P
-      unless_memory status other (inl p) = p
-      unless_memory status other (inr memory) = absurd (other memory)
+    -- the text was read, and what is due was answered
+    record IsAnswered (text : List ℕ) (status : Status) : Type 0 where
+      plain : IsPlain status
+      cause : IsStatusDue command text status
+      due : (reply : Reply) → IsDue command text reply → status ≡ reply.status
+      accepted : (program : Program) → Accepts text program → IsOfAccepted command status
+      output : (reply : Reply) → IsDue command text reply → reply.status ≡ status → Written reply.text
 
-      -- nothing was made of the text
-      pub run_stopped : (status : Status) → IsOutcome command text (Err status) → Ends status
-      run_stopped (Source (source.Read number offset)) outcome = record {
-        told = whole.told;
-        calls = whole.calls;
-        cause = unless_memory (Source (source.Read number offset)) (λ e. cc) outcome.cause;
-        due = λ due is. unless_memory (Source (source.Read number offset)) (λ e. cc) (outcome.due due is);
-        accepted = λ _ _. outcome.accepted;
-        output = λ done. cc;
-        unwritten = λ unwritten. cc;
-      }
-      run_stopped (Source (source.Check kind place)) outcome = record {
-        told = whole.told;
-        calls = whole.calls;
-        cause = unless_memory (Source (source.Check kind place)) (λ e. cc) outcome.cause;
-        due = λ due is. unless_memory (Source (source.Check kind place)) (λ e. cc) (outcome.due due is);
-        accepted = λ _ _. outcome.accepted;
-        output = λ done. cc;
-        unwritten = λ unwritten. cc;
-      }
-      run_stopped (Source source.NotYet) outcome = record {
-        told = whole.told;
-        calls = whole.calls;
-        cause = unless_memory (Source source.NotYet) (λ e. cc) outcome.cause;
-        due = λ due is. unless_memory (Source source.NotYet) (λ e. cc) (outcome.due due is);
-        accepted = λ _ _. outcome.accepted;
-        output = λ done. cc;
-        unwritten = λ unwritten. cc;
-      }
-      run_stopped (Trap kind node) outcome = record {
-        told = whole.told;
-        calls = whole.calls;
-        cause = unless_memory (Trap kind node) (λ e. cc) outcome.cause;
-        due = λ due is. unless_memory (Trap kind node) (λ e. cc) (outcome.due due is);
-        accepted = λ _ _. outcome.accepted;
-        output = λ done. cc;
-        unwritten = λ unwritten. cc;
-      }
-      run_stopped Memory outcome = record {
-        told = text_of_held (shelf.texts shelf.old) shelf.file text whole.told;
-        calls = some_of_whole text whole;
-        cause = tt;
-        due = λ _ _. tt;
-        accepted = λ _ _ _ _. tt;
-        output = λ done. cc;
-        unwritten = λ unwritten. cc;
-      }
-      run_stopped (Source source.TooLong) outcome = let long = unless_memory (Source source.TooLong) (λ e. cc) outcome.cause in absurd (omega (arith, long, whole.short))
-      run_stopped Done outcome = absurd (outcome.stops refl)
-      run_stopped Words outcome = absurd ((unless_memory Words (λ e. cc) outcome.cause).2)
-      run_stopped ReadFault outcome = absurd ((unless_memory ReadFault (λ e. cc) outcome.cause).2)
-      run_stopped WriteFault outcome = absurd ((unless_memory WriteFault (λ e. cc) outcome.cause).2)
+    answered : (text : List ℕ) (reply : Reply) → length text ≤ source_limit → IsOutcome command text reply → Written reply.text → IsAnswered text reply.status
+    answered text reply short outcome written = record {
+      plain = plain_of_due command text reply short outcome.due;
+      cause = (reply, outcome.due, refl);
+      due = λ other is. sym (ap (λ r. r.status) (outcome.once other is));
+      accepted = outcome.accepted;
+      output = λ other is same. subst (λ r. Written r.text) (sym (outcome.once other is)) written;
+    }
 
-      module _ (printed : List ℕ) (outcome : IsOutcome command text (Ok printed)) where
-        is_due : IsDue command text Done
-        is_due = let prints = outcome.cause in (prints.0, prints.1.0, (prints.1.1, (printed, prints.2)))
+    module _ (text : List ℕ) (whole : ReadsWhole shelf text) where
+      run_answered : (status : Status) → IsAnswered text status → IsRun shelf out command text status
+      run_answered Done is = record { told = whole.told; calls = whole.calls; cause = is.cause; due = is.due; accepted = λ _ _. is.accepted; output = is.output; unwritten = λ e. cc }
+      run_answered (Trap kind node) is = record { told = whole.told; calls = whole.calls; cause = is.cause; due = is.due; accepted = λ _ _. is.accepted; output = is.output; unwritten = λ e. cc }
+      run_answered (Budget node) is = record { told = whole.told; calls = whole.calls; cause = is.cause; due = is.due; accepted = λ _ _. is.accepted; output = is.output; unwritten = λ e. cc }
+      run_answered (Race race) is = record { told = whole.told; calls = whole.calls; cause = is.cause; due = is.due; accepted = λ _ _. is.accepted; output = is.output; unwritten = λ e. cc }
+      run_answered (Source (source.Read number offset)) is = record { told = whole.told; calls = whole.calls; cause = is.cause; due = is.due; accepted = λ _ _. is.accepted; output = is.output; unwritten = λ e. cc }
+      run_answered (Source (source.Check kind place)) is = record { told = whole.told; calls = whole.calls; cause = is.cause; due = is.due; accepted = λ _ _. is.accepted; output = is.output; unwritten = λ e. cc }
+      run_answered (Source source.TooLong) is = absurd is.plain
+      run_answered Words is = absurd is.plain
+      run_answered ReadFault is = absurd is.plain
+      run_answered WriteFault is = absurd is.plain
+      run_answered Memory is = absurd is.plain
 
-        -- what was made of it was written
-        pub run_done : IsWritten out.held out.took out.old out.new printed → Ends Done
-        run_done put = record {
-          told = whole.told;
-          calls = whole.calls;
-          cause = is_due;
-          due = λ due is. sym (outcome.due due is);
-          accepted = λ _ _ _ _. tt;
-          output = λ _ other prints. subst (IsWritten out.held out.took out.old out.new) (outcome.only other prints) put;
-          unwritten = λ unwritten. cc;
-        }
+      -- the command stopped, and nothing was written
+      pub run_stopped : out.new ≡ out.old → (status : Status) → StopsWith command text status → IsRun shelf out command text status
+      run_stopped unwritten status (inr memory) =
+          subst (IsRun shelf out command text) (sym memory) (run_memory text unwritten (text_of_held (shelf.texts shelf.old) shelf.file text whole.told) (inr (some_of_whole text whole)))
+      run_stopped unwritten status (inl outcome) =
+          run_answered status (answered text (only status) whole.short outcome
+          (subst (λ new. IsWritten out.held out.took out.old new []) (sym unwritten) (IsWritten-nothing out.held out.took out.old [] refl)))
 
-        -- writing it failed
-        pub run_unwritten : WriteFailed out → IsCutShort out.held out.took out.failed out.old out.new printed → Ends WriteFault
-        run_unwritten fault short = record {
-          told = whole.told;
-          calls = whole.calls;
-          cause = (fault, is_due);
-          due = λ due is. (fault, outcome.due due is);
-          accepted = λ _ unfailed _ _. absurd (unfailed fault);
-          output = λ done. cc;
-          unwritten = λ _ other prints. subst (IsCutShort out.held out.took out.failed out.old out.new) (outcome.only other prints) short;
-        }
+      -- what was made of the text was written
+      pub run_written : (reply : Reply) → IsOutcome command text reply → Written reply.text → IsRun shelf out command text reply.status
+      run_written reply outcome written = run_answered reply.status (answered text reply whole.short outcome written)
+
+      shown_where_unwritten : (reply : Reply) → IsOutcome command text reply → IsCutShort out.held out.took out.failed out.old out.new reply.text → is_shown reply.status ≡ true
+      shown_where_unwritten reply outcome short =
+          elim (is_shown reply.status) as (λ b. (b ≡ false → reply.text ≡ []) → b ≡ true) [
+            | true ↦ λ _. refl
+            | false ↦ λ silent. absurd (nothing_is_whole out.held out.took out.failed out.old out.new reply.text (silent refl) short)
+          ] outcome.silent
+
+      -- writing it failed
+      pub run_unwritten : (reply : Reply) → IsOutcome command text reply → WriteFailed out → IsCutShort out.held out.took out.failed out.old out.new reply.text → IsRun shelf out command text WriteFault
+      run_unwritten reply outcome fault short =
+          let shown = shown_where_unwritten reply outcome short in record {
+            told = whole.told;
+            calls = whole.calls;
+            cause = (fault, (reply, outcome.due, shown));
+            due = λ other is. (fault, subst (λ r. is_shown r.status ≡ true) (sym (outcome.once other is)) shown);
+            accepted = λ _ unfailed _ _. absurd (unfailed fault);
+            output = λ other is same. absurd (subst IsPlain same (plain_of_due command text other whole.short is));
+            unwritten = λ _ other is. subst (λ r. IsCutShort out.held out.took out.failed out.old out.new r.text) (sym (outcome.once other is)) short;
+          }

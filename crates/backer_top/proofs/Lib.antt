@@ -1,6 +1,6 @@
 pub mod Dues
+pub mod Elided
 pub mod Ends
+pub mod Naming
 pub mod Pieces
-pub mod Slots
-pub mod Taken
 pub mod Told

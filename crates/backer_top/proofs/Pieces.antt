@@ -3,7 +3,7 @@ use Rattle.std.proofs.Common.{◌≡◌, ℕ, zero, suc, ◌+◌, ◌<◌, ◌�
 use Rattle.std.proofs.lemmas.Bool.{cases_lt}
 use Rattle.std.proofs.lemmas.List.{length-drop, length-take-le, take-append-drop}
 use Rattle.outside.specs.Shelf.{joined}
-use Rattle.backer_top.specs.Output.{IsCutShort, IsWritten, ArePieces}
+use Rattle.backer_top.specs.Output.{IsCutShort, IsWritten, ArePieces, Puts}
 
 -- a sink that told what it held tells it with the piece, and then with what comes later
 held_on : {S : Type 0} (held : S → Option (List ℕ)) (old mid new : S) (piece later bytes : List ℕ) → bytes ≡ piece ++ later
@@ -141,3 +141,23 @@ IsCutShort-now held took failed old new piece bytes later cut sizes told broke =
     | Some before ↦ λ part. (part.0, part.1 ∙ ap (λ b. Some (b ++ take part.0 piece)) (sym (append-nil before)))
   ] told;
 }
+
+some_first : (piece : List ℕ) (pieces : List (List ℕ)) → ArePieces (piece ∷ pieces) → 0 < length piece
+some_first piece [] sizes = sizes.0
+some_first piece (next ∷ pieces) sizes = omega (arith, sizes.0)
+
+-- no bytes are cut into no pieces
+no_pieces : (pieces : List (List ℕ)) → ArePieces pieces → joined pieces ≡ [] → pieces ≡ []
+no_pieces [] sizes cut = refl
+no_pieces (piece ∷ pieces) sizes cut = absurd (omega (arith, some_first piece pieces sizes, length-append piece (joined pieces), ap length cut))
+
+-- writing no bytes leaves the sink as it is
+pub same_of_nothing : {S : Type 0} (held : S → Option (List ℕ)) (took : S → List ℕ → S → Type 0) (old new : S) (bytes : List ℕ) → bytes ≡ [] → IsWritten held took old new bytes → new ≡ old
+same_of_nothing held took old new bytes none written =
+    subst (λ pieces. Puts took old pieces new) (no_pieces written.pieces written.sizes (written.cut ∙ none)) written.puts
+
+-- writing no bytes cannot fail
+pub nothing_is_whole : {S : Type 0} (held : S → Option (List ℕ)) (took failed : S → List ℕ → S → Type 0) (old new : S) (bytes : List ℕ) → bytes ≡ [] → ¬ IsCutShort held took failed old new bytes
+nothing_is_whole held took failed old new bytes none short =
+    let no = no_pieces (short.pieces ++ short.piece ∷ short.later) short.sizes (short.cut ∙ none) in
+    omega (arith, length-append short.pieces (short.piece ∷ short.later), ap length no)

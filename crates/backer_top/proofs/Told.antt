@@ -4,20 +4,34 @@ use Rattle.std.specs.Fmt.{decimal}
 use Rattle.std.proofs.lemmas.Fmt.{decimal_digit}
 use Rattle.cilk_tree.specs.declared.place.CheckPlace.{CheckPlace}
 use Rattle.cilk_tree.specs.declared.tree.Program.{Program}
-use Rattle.backer_top.specs.declared.status.TrapKind.{TrapKind}
-use Rattle.backer_top.specs.declared.status.TrapKind.TheVariants.{Overflow}
+use Rattle.cilk_meaning.specs.declared.ends.TrapKind.{TrapKind}
+use Rattle.cilk_meaning.specs.declared.ends.TrapKind.TheVariants.{DivideByZero, IndexOutOfRange, Overflow, TooDeep}
 use Rattle.backer_top.specs.declared.status.Status.{Status}
-use Rattle.backer_top.specs.declared.status.Status.TheVariants.{Done, Words, Source, ReadFault, WriteFault, Trap, Memory}
-use Rattle.backer_top.specs.declared.status.SourceRefusal.TheVariants.{TooLong, Read, Check, NotYet}
+use Rattle.backer_top.specs.declared.status.Status.TheVariants.{Done, Words, Source, ReadFault, WriteFault, Trap, Budget, Race, Memory}
+use Rattle.backer_top.specs.declared.status.SourceRefusal.TheVariants.{TooLong, Read, Check}
 use Rattle.backer_top.specs.Lines.{IsLineOf}
-use Rattle.backer_top.specs.Status.{HasFixedLine, error_line, place_words}
+use Rattle.backer_top.specs.Status.{HasFixedLine, error_line, place_words, trap_name}
 
-on_node_0 : (program : Program) (kind : TrapKind) (node : ℕ) → node ≡ 0 → codes "backer: trap Overflow on node 0" ++ 10 ∷ [] ≡ error_line program (Trap kind node)
-on_node_0 program Overflow node zero =
-    ap (λ digits. codes "backer: " ++ (codes "trap " ++ codes "Overflow" ++ codes " on node " ++ digits) ++ 10 ∷ []) (sym (ap decimal zero ∙ decimal_digit 0 (omega arith)))
+-- the line of a trap on node 0
+abbrev pub trap_text : TrapKind → List ℕ
+trap_text DivideByZero = codes "backer: trap DivideByZero on node 0\n"
+trap_text IndexOutOfRange = codes "backer: trap IndexOutOfRange on node 0\n"
+trap_text Overflow = codes "backer: trap Overflow on node 0\n"
+trap_text TooDeep = codes "backer: trap TooDeep on node 0\n"
 
-pub trap_line : (program : Program) (status : Status) (kind : TrapKind) (node : ℕ) → status ≡ Trap kind node → HasFixedLine status → codes "backer: trap Overflow on node 0" ++ 10 ∷ [] ≡ error_line program status
-trap_line program status kind node is zero = on_node_0 program kind node (subst HasFixedLine is zero) ∙ ap (error_line program) (sym is)
+abbrev trap_on : List ℕ → List ℕ → List ℕ
+trap_on name node = codes "backer: " ++ (codes "trap " ++ name ++ codes " on node " ++ node) ++ 10 ∷ []
+
+pub trap_line : (program : Program) (kind : TrapKind) → trap_text kind ≡ error_line program (Trap kind 0)
+trap_line program DivideByZero = ap (trap_on (codes "DivideByZero")) (sym (decimal_digit 0 (omega arith)))
+trap_line program IndexOutOfRange = ap (trap_on (codes "IndexOutOfRange")) (sym (decimal_digit 0 (omega arith)))
+trap_line program Overflow = ap (trap_on (codes "Overflow")) (sym (decimal_digit 0 (omega arith)))
+trap_line program TooDeep = ap (trap_on (codes "TooDeep")) (sym (decimal_digit 0 (omega arith)))
+
+-- the line of a spent budget on node 0
+pub budget_line : (program : Program) (node : ℕ) → node ≡ 0 → codes "backer: budget spent on node 0\n" ≡ error_line program (Budget node)
+budget_line program node zero =
+    ap (λ digits. codes "backer: " ++ (codes "budget spent on node " ++ digits) ++ 10 ∷ []) (sym (ap decimal zero ∙ decimal_digit 0 (omega arith)))
 
 -- the line of a source that was not read
 pub read_line : (program : Program) (kind offset : ℕ) → codes "backer: source refused: " ++ (decimal kind ++ (codes " at byte " ++ (decimal offset ++ codes "\n"))) ≡ error_line program (Source (Read kind offset))
@@ -32,12 +46,13 @@ pub line_of_fixed : (text : List ℕ) (status : Status) (line : List ℕ) → Ha
 line_of_fixed text (Source TooLong) line fixed is = is
 line_of_fixed text (Source (Read kind offset)) line fixed is = is
 line_of_fixed text (Source (Check kind place)) line fixed is = absurd fixed
-line_of_fixed text (Source NotYet) line fixed is = is
 line_of_fixed text Done line fixed is = is
 line_of_fixed text Words line fixed is = is
 line_of_fixed text ReadFault line fixed is = is
 line_of_fixed text WriteFault line fixed is = is
 line_of_fixed text (Trap kind node) line fixed is = is
+line_of_fixed text (Budget node) line fixed is = is
+line_of_fixed text (Race race) line fixed is = is
 line_of_fixed text Memory line fixed is = is
 
 -- the same of the status' copy

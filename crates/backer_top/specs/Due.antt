@@ -1,21 +1,28 @@
 -- What a command makes of a text.
-use Rattle.std.specs.Prelude.{◌≡◌, ℕ, ◌*◌, ◌<◌, ◌≤◌, Result, Ok, Err, List, length}
+use Rattle.std.specs.Prelude.{◌≡◌, ℕ, ◌<◌, ◌≤◌, List, [], length}
 use Rattle.cilk_reader.specs.Refusals.{IsRefusedAt}
+use Rattle.cilk_meaning.specs.declared.ends.NodeEnd.{NodeEnd}
+use Rattle.cilk_meaning.specs.declared.ends.NodeEnd.TheVariants as ends
+use Rattle.cilk_meaning.specs.Elision.{elision}
+use Rattle.cilk_meaning.specs.Resolving.{resolved}
+use Rattle.cilk_meaning.specs.World.{End, output_of, start_words}
+use Rattle.cilk_tree.specs.declared.place.CheckPlace.{CheckPlace}
 use Rattle.cilk_tree.specs.declared.tree.Program.{Program}
 use Rattle.cilk_tree.specs.Canonical.{canonical_text}
 use Rattle.cilk_tree.specs.Lawful.Lawful.{IsCheckRefusal, IsLawful}
 use Rattle.cilk_tree.specs.Spelling.{Spells}
+use Rattle.command_words.specs.declared.command.Offline.{Offline}
+use Rattle.command_words.specs.declared.command.Offline.TheVariants as offline
+use Rattle.elision_history.specs.Logged.{history_of}
+use Rattle.race_check.specs.declared.Race as found
+use Rattle.span_tree.specs.History.{History}
+use Rattle.span_tree.specs.Memory.{HasNoRace, IsFirstRace}
 use Rattle.backer_top.specs.declared.status.SourceRefusal.TheVariants as source
 use Rattle.backer_top.specs.declared.status.Status.{Status}
-use Rattle.backer_top.specs.declared.status.Status.TheVariants.{Done, Source, Trap, Memory}
-use Rattle.backer_top.specs.declared.walk.End.TheVariants.{Finished, Trapped}
-use Rattle.backer_top.specs.declared.walk.Run.{Run}
-use Rattle.backer_top.specs.declared.words.Command.{Command}
-use Rattle.backer_top.specs.declared.words.Command.TheVariants.{Check, Serial}
-use Rattle.backer_top.specs.Elision.{elision}
+use Rattle.backer_top.specs.declared.status.Status.TheVariants.{Done, Source, Trap, Budget, Race, Memory}
 use Rattle.backer_top.specs.Output.{lines}
+use Rattle.backer_top.specs.RaceLine.{no_race_line, race_line}
 use Rattle.backer_top.specs.Reading.{source_limit}
-use Rattle.backer_top.specs.SerialMain.{IsSerialMain}
 
 -- The text is within the limit, and spells this program.
 abbrev pub IsProgramOf : List ℕ → Program → Type 0
@@ -25,54 +32,61 @@ IsProgramOf text program = (length text ≤ source_limit) × Spells text program
 abbrev pub Accepts : List ℕ → Program → Type 0
 Accepts text program = IsProgramOf text program × IsLawful program
 
--- How many ticks a serial run may make. A print is one, and no program of a text within the limit has as many.
-abbrev pub tick_budget : ℕ
-tick_budget = 2000000
+-- the serial elision of a program for at most so many ticks; each shared word is 0 at first
+abbrev pub elided : Program → ℕ → End
+elided program budget = elision (resolved program) (start_words 0 []) budget
 
--- How large a program may be for the budget to suffice: each print, which is a tick, has a statement and an expression.
-abbrev pub largest_run : ℕ
-largest_run = 2 * tick_budget
+-- and its history
+abbrev pub elided_history : Program → ℕ → History
+elided_history program budget = history_of (resolved program) (elided program budget)
 
--- the serial elision within the budget
-abbrev pub meaning : Program → Run
-meaning program = elision program tick_budget
+-- What a command answers where memory suffices and no device fails: a status, and a text for `out`.
+pub record Reply : Type 0 where
+  pub status : Status
+  pub text : List ℕ
 
--- the status with which `serial` ends in place of a text
-abbrev pub StopsWith : Program → Status → Type 0
-StopsWith program (Trap kind node) = IsSerialMain program × ((meaning program).end ≡ Trapped kind) × (node ≡ 0)
-StopsWith program (Source source.NotYet) = ¬ IsSerialMain program
-StopsWith program _ = ⊥
+abbrev pub done : List ℕ → Reply
+done text = record { status = Done; text = text }
 
--- What a command makes of a lawful program: a text for `out`, or a status in place of one. `check` gives the canonical text;
--- `serial` gives the lines of what the serial elision prints.
-abbrev pub Makes : Command → Program → Result (List ℕ) Status → Type 0
-Makes Check program (Ok text) = text ≡ canonical_text program
-Makes Check program (Err status) = ⊥
-Makes Serial program (Ok text) = IsSerialMain program × ((meaning program).end ≡ Finished) × (text ≡ lines (meaning program).output)
-Makes Serial program (Err status) = StopsWith program status
+abbrev pub only : Status → Reply
+only status = record { status = status; text = [] }
 
--- The command makes this text of the program that the text spells, which is lawful.
-abbrev pub Prints : Command → List ℕ → List ℕ → Type 0
-Prints command text printed = (program : Program) × Accepts text program × Makes command program (Ok printed)
+-- What is told of a run that ended so: where it finished, what is said of finished runs. A run of one node is on node 0.
+abbrev pub Tells : NodeEnd → (Reply → Type 0) → Reply → Type 0
+Tells ends.Finished finished reply = finished reply
+Tells (ends.Trapped kind) finished reply = reply ≡ only (Trap kind 0)
+Tells ends.Budget finished reply = reply ≡ only (Budget 0)
 
--- What a program calls for.
-abbrev pub IsDueOf : Command → Program → Status → Type 0
-IsDueOf command program Done = IsLawful program × ((printed : List ℕ) × Makes command program (Ok printed))
-IsDueOf command program (Trap kind node) = IsLawful program × Makes command program (Err (Trap kind node))
-IsDueOf command program (Source source.NotYet) = IsLawful program × Makes command program (Err (Source source.NotYet))
-IsDueOf command program (Source (source.Check kind place)) = IsCheckRefusal program kind place
-IsDueOf command program _ = ⊥
+-- What is told of a history of the program: its first race, or that there is none.
+pub data TellsRace (program : Program) (history : History) (reply : Reply) : Type 0 where
+  NoRace : (none : HasNoRace history) (is : reply ≡ done no_race_line) → TellsRace program history reply
+  First : (race : found.Race) (first : IsFirstRace history race.word race.first race.second)
+      (is : reply ≡ record { status = Race race; text = race_line program history race }) → TellsRace program history reply
 
--- What a text calls for, where memory suffices and no device fails. None calls for Words, ReadFault, WriteFault or Memory.
-abbrev pub IsDue : Command → List ℕ → Status → Type 0
-IsDue command text (Source source.TooLong) = source_limit < length text
-IsDue command text (Source (source.Read number offset)) = (length text ≤ source_limit) × IsRefusedAt text number offset
-IsDue command text status = (program : Program) × IsProgramOf text program × IsDueOf command program status
+-- What a command makes of a lawful program. `check` gives the canonical text, `serial` a line for each value that the serial elision
+-- prints, and `race` the first race of its history, in a line.
+abbrev pub Makes : Offline → Program → Reply → Type 0
+Makes (offline.Check file) program reply = reply ≡ done (canonical_text program)
+Makes (offline.Serial file budget) program reply =
+    Tells (elided program budget).end (λ reply. reply ≡ done (lines (output_of (elided program budget)))) reply
+Makes (offline.Race file budget) program reply = Tells (elided program budget).end (TellsRace program (elided_history program budget)) reply
+
+-- What a text calls for.
+pub data IsDue (command : Offline) (text : List ℕ) (reply : Reply) : Type 0 where
+  TooLong : (long : source_limit < length text) (is : reply ≡ only (Source source.TooLong)) → IsDue command text reply
+  Unread : (number offset : ℕ) (short : length text ≤ source_limit) (refused : IsRefusedAt text number offset)
+      (is : reply ≡ only (Source (source.Read number offset))) → IsDue command text reply
+  Unlawful : (program : Program) (kind : ℕ) (place : CheckPlace) (spelled : IsProgramOf text program) (refused : IsCheckRefusal program kind place)
+      (is : reply ≡ only (Source (source.Check kind place))) → IsDue command text reply
+  Accepted : (program : Program) (accepted : Accepts text program) (made : Makes command program reply) → IsDue command text reply
 
 -- a status that an accepted text may have where no device fails
-abbrev pub IsOfAccepted : Command → Status → Type 0
+abbrev pub IsOfAccepted : Offline → Status → Type 0
 IsOfAccepted command Done = Unit {0}
 IsOfAccepted command Memory = Unit {0}
-IsOfAccepted Serial (Trap kind node) = Unit {0}
-IsOfAccepted Serial (Source source.NotYet) = Unit {0}
+IsOfAccepted (offline.Serial file budget) (Trap kind node) = Unit {0}
+IsOfAccepted (offline.Serial file budget) (Budget node) = Unit {0}
+IsOfAccepted (offline.Race file budget) (Trap kind node) = Unit {0}
+IsOfAccepted (offline.Race file budget) (Budget node) = Unit {0}
+IsOfAccepted (offline.Race file budget) (Race found) = Unit {0}
 IsOfAccepted command _ = ⊥

@@ -1,5 +1,5 @@
 -- What is put on `err`.
-use Rattle.std.specs.Prelude.{◌≡◌, ◌≢◌, ℕ, true, false, Option, List}
+use Rattle.std.specs.Prelude.{◌≡◌, ℕ, true, false, Option, List}
 use Rattle.cilk_tree.specs.declared.tree.Program.{Program}
 use Rattle.cilk_tree.specs.Spelling.{Spells}
 use Rattle.backer_top.specs.declared.answer.Line.{Line}
@@ -7,9 +7,9 @@ use Rattle.backer_top.specs.declared.answer.Line.TheVariants.{Fixed, Made}
 use Rattle.backer_top.specs.declared.status.Ended.{Ended}
 use Rattle.backer_top.specs.declared.status.SourceRefusal.TheVariants.{Check}
 use Rattle.backer_top.specs.declared.status.Status.{Status}
-use Rattle.backer_top.specs.declared.status.Status.TheVariants.{Done, Source}
+use Rattle.backer_top.specs.declared.status.Status.TheVariants.{Source}
 use Rattle.backer_top.specs.Output.{IsHalfTold, IsTold}
-use Rattle.backer_top.specs.Status.{error_line}
+use Rattle.backer_top.specs.Status.{error_line, is_shown}
 
 -- the bytes of a line
 abbrev pub line_bytes : Line → List ℕ
@@ -22,7 +22,7 @@ abbrev pub IsLineOf : List ℕ → Status → List ℕ → Type 0
 IsLineOf text (Source (Check kind place)) line = (program : Program) × Spells text program × (line ≡ error_line program (Source (Check kind place)))
 IsLineOf text status line = (program : Program) → line ≡ error_line program status
 
--- At a status other than Done its line is put, once and whole, or the put fails and a front of the line stands there.
+-- The line of a status that is not shown on `out` is put, once and whole, or the put fails and a front of the line stands there.
 pub record IsTelling {S : Type 0} (held : S → Option (List ℕ)) (took failed : S → List ℕ → S → Type 0) (old new : S) (text : List ℕ) (ended : Ended) : Type 0 where
-  pub told : ended.status ≢ Done → ended.mute ≡ false → (line : List ℕ) × IsLineOf text ended.status line × IsTold held took old new line
+  pub told : is_shown ended.status ≡ false → ended.mute ≡ false → (line : List ℕ) × IsLineOf text ended.status line × IsTold held took old new line
   pub half_told : ended.mute ≡ true → (line : List ℕ) × IsLineOf text ended.status line × IsHalfTold held failed old new line

@@ -1,31 +1,30 @@
 -- What the private parts of the top call hand to one another. The public contract cites none of it.
-use Rattle.std.specs.Prelude.{◌≡◌, ◌⊎◌, ℕ, Result, IfErr, IfOk, MatchResult, List}
-use Rattle.cilk_reader.specs.Refusals.{IsRefusedAt}
-use Rattle.cilk_tree.specs.declared.place.CheckPlace.{CheckPlace}
+use Rattle.std.specs.Prelude.{◌≡◌, ◌⊎◌, ℕ, false, List, []}
 use Rattle.cilk_tree.specs.declared.tree.Program.{Program}
-use Rattle.cilk_tree.specs.Lawful.Lawful.{IsCheckRefusal}
-use Rattle.cilk_tree.specs.Spelling.{Spells}
+use Rattle.command_words.specs.declared.command.Offline.{Offline}
+use Rattle.serial_run.specs.declared.serial_end.SerialEnd.{SerialEnd}
 use Rattle.backer_top.specs.declared.status.Status.{Status}
-use Rattle.backer_top.specs.declared.status.Status.TheVariants.{Done, Memory}
-use Rattle.backer_top.specs.declared.words.Command.{Command}
-use Rattle.backer_top.specs.Due.{Accepts, IsDue, IsOfAccepted, Prints}
+use Rattle.backer_top.specs.declared.status.Status.TheVariants.{Memory}
+use Rattle.backer_top.specs.Due.{Accepts, IsDue, IsOfAccepted, Makes, Reply, elided, elided_history, only}
+use Rattle.backer_top.specs.Status.{is_shown}
 
--- How a text within the limit was read and checked: whichever the command is, what the text calls for is what its program
--- calls for, or it is the status of a refusal.
-pub record IsReading (text : List ℕ) (result : Result Program Status) : Type 0 where
-  pub accepted : IfOk result (Accepts text)
-  pub only : (other : Program) → Spells text other → IfOk result (λ program. program ≡ other)
-  pub unbroken : (kind : ℕ) (place : CheckPlace) → IfOk result (λ program. ¬ IsCheckRefusal program kind place)
-  pub unrefused : (number offset : ℕ) → IfOk result (λ _. ¬ IsRefusedAt text number offset)
-  pub cause : (command : Command) → IfErr result (λ status. IsDue command text status ⊎ (status ≡ Memory))
-  pub stops : IfErr result (λ status. ¬ (status ≡ Done))
-  pub due : (command : Command) (due : Status) → IsDue command text due → IfErr result (λ status. (status ≡ due) ⊎ (status ≡ Memory))
-  pub unaccepted : (program : Program) → Accepts text program → IfErr result (λ status. status ≡ Memory)
+-- The text was read, and its program, which is this one, accepted: what the text calls for is what is made of the program.
+pub record IsReading (text : List ℕ) (program : Program) : Type 0 where
+  pub accepted : Accepts text program
+  pub calls_for : (command : Offline) (reply : Reply) → IsDue command text reply → Makes command program reply
 
--- How a command on a text within the limit ended: with a text for `out`, or with a status in place of one.
-pub record IsOutcome (command : Command) (text : List ℕ) (result : Result (List ℕ) Status) : Type 0 where
-  pub cause : MatchResult result (Prints command text) (λ status. IsDue command text status ⊎ (status ≡ Memory))
-  pub stops : IfErr result (λ status. ¬ (status ≡ Done))
-  pub due : (due : Status) → IsDue command text due → MatchResult result (λ _. due ≡ Done) (λ status. (status ≡ due) ⊎ (status ≡ Memory))
-  pub only : (other : List ℕ) → Prints command text other → IfOk result (λ printed. printed ≡ other)
-  pub accepted : (program : Program) → Accepts text program → IfErr result (IsOfAccepted command)
+-- This, and nothing else, is what the text calls for.
+pub record IsOutcome (command : Offline) (text : List ℕ) (reply : Reply) : Type 0 where
+  pub due : IsDue command text reply
+  pub once : (other : Reply) → IsDue command text other → other ≡ reply
+  pub accepted : (program : Program) → Accepts text program → IsOfAccepted command reply.status
+  pub silent : is_shown reply.status ≡ false → reply.text ≡ []
+
+-- The command ends with this status and no text, which the text calls for, or memory ran out.
+abbrev pub StopsWith : Offline → List ℕ → Status → Type 0
+StopsWith command text status = IsOutcome command text (only status) ⊎ (status ≡ Memory)
+
+-- The run ended as the elision of the program does, with its history.
+pub record IsElided (program : Program) (budget : ℕ) (ended : SerialEnd) : Type 0 where
+  pub end : ended.end ≡ (elided program budget).end
+  pub history : ended.history ≡ elided_history program budget

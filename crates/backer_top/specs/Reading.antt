@@ -1,6 +1,8 @@
 -- What the calls on the shelf gave, and the text that a command speaks of.
-use Rattle.std.specs.Prelude.{◌≡◌, ℕ, ◌<◌, ◌≤◌, Option, Some, IfSome, IfNone, List, [], ◌∷◌, ◌++◌, length}
+use Rattle.std.specs.Prelude.{◌≡◌, ◌⊎◌, ℕ, ◌<◌, ◌≤◌, Option, Some, IfSome, IfNone, List, [], ◌∷◌, ◌++◌, length}
 use Rattle.std.specs.FinMap as map
+use Rattle.command_words.specs.declared.command.Offline.{Offline}
+use Rattle.command_words.specs.declared.command.Offline.TheVariants.{Check, Serial, Race}
 use Rattle.outside.specs.Device.{Rose}
 use Rattle.outside.specs.Shelf.{AreSome, Reads, Texts, joined}
 use Rattle.backer_top.specs.declared.status.SourceRefusal.TheVariants.{TooLong}
@@ -10,6 +12,12 @@ use Rattle.backer_top.specs.declared.status.Status.TheVariants.{Source, ReadFaul
 -- how many bytes a source may have
 abbrev pub source_limit : ℕ
 source_limit = 1048576
+
+-- the file that a command names
+abbrev pub file_of : Offline → List ℕ
+file_of (Check file) = file
+file_of (Serial file budget) = file
+file_of (Race file budget) = file
 
 -- How a shelf was used for a file: what it tells, what its calls did, and the shelf before and after.
 pub record ShelfUse (S : Type 0) : Type 1 where
@@ -76,11 +84,11 @@ pub record GaveSome {S : Type 0} (shelf : ShelfUse S) : Type 0 where
   pub calls : Reads shelf.gave shelf.file shelf.old 0 (pieces ++ last ∷ []) shelf.new
   pub within : length (joined (pieces ++ last ∷ [])) ≤ source_limit
 
--- what the calls on the shelf gave, by how the command ended
+-- What the calls on the shelf gave, by how the command ended. Memory may run out before the first of them.
 abbrev pub HasCalls : {S : Type 0} → ShelfUse S → List ℕ → Status → Type 0
 HasCalls shelf text (Source TooLong) = GaveTooMuch shelf text
 HasCalls shelf text ReadFault = GaveUp shelf
-HasCalls shelf text Memory = GaveSome shelf
+HasCalls shelf text Memory = (shelf.new ≡ shelf.old) ⊎ GaveSome shelf
 HasCalls shelf text status = GaveWhole shelf text
 
 -- why no text within the limit was read

@@ -3,14 +3,11 @@
 
 mod answer;
 mod lines;
-mod locals;
 mod making;
-mod serial_main;
+mod race_line;
 mod status;
 mod top;
-mod walk;
-mod words;
 mod writing;
 
-pub use status::{Ended, SourceRefusal, Status, TrapKind};
-pub use top::backer;
+pub use status::{Ended, SourceRefusal, Status};
+pub use top::{backer, offline};
