@@ -1,0 +1,10 @@
+//! The words of a command line: which words are a command, and which.
+#![tactic(auto)]
+
+mod command;
+mod reading;
+mod refusal;
+
+pub use command::{Command, FileName, Offline};
+pub use reading::read_words;
+pub use refusal::WordRefusal;
