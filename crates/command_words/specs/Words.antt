@@ -6,15 +6,14 @@ use Rattle.command_words.specs.declared.command.Command.{Command}
 use Rattle.command_words.specs.declared.command.Command.TheVariants.{Offline}
 use Rattle.command_words.specs.declared.command.Offline.{Offline as OfflineCommand}
 use Rattle.command_words.specs.declared.command.Offline.TheVariants.{Check, Serial, Race}
+use Rattle.command_words.specs.declared.option_name.OptionName.{OptionName}
+use Rattle.command_words.specs.declared.option_name.OptionName.TheVariants.{Budget}
 
--- An option of a command. Each has a value.
-pub data OptionName : Type 0 where
-  Budget : OptionName
-
+-- how an option is written
 abbrev pub option_word : OptionName → List ℕ
 option_word Budget = codes "--budget"
 
--- A part of the words behind the command's name: a file, or an option with its value in a word of its own, or joined to it by `=`.
+-- A part of the words behind the command's name: a file, or an option, whose value is the next word or stands behind `=`.
 pub data Part : Type 0 where
   File : List ℕ → Part
   Apart : OptionName → List ℕ → Part
@@ -32,41 +31,41 @@ files (File name ∷ parts) = name ∷ files parts
 files (_ ∷ parts) = files parts
 
 -- the values that the parts give an option
-abbrev pub values : OptionName → List Part → List (List ℕ)
-values _ [] = []
-values Budget (Apart Budget value ∷ parts) = value ∷ values Budget parts
-values Budget (Joined Budget value ∷ parts) = value ∷ values Budget parts
-values option (_ ∷ parts) = values option parts
+abbrev pub values : List Part → OptionName → List (List ℕ)
+values [] _ = []
+values (Apart Budget value ∷ parts) Budget = value ∷ values parts Budget
+values (Joined Budget value ∷ parts) Budget = value ∷ values parts Budget
+values (_ ∷ parts) option = values parts option
 
 -- the word may name a file: it is not empty and does not begin with `-`
 abbrev pub IsFileName : List ℕ → Type 0
 IsFileName [] = ⊥
 IsFileName (first ∷ others) = ¬ (first ≡ 45)
 
--- the file stands exactly once
-abbrev pub IsFile : List Part → List ℕ → Type 0
-IsFile parts file = (files parts ≡ file ∷ []) × IsFileName file
+-- the file that is given, exactly once
+abbrev pub IsFile : List (List ℕ) → List ℕ → Type 0
+IsFile given file = (given ≡ file ∷ []) × IsFileName file
+
+-- the number that is given in decimal, at most once and within its limits, or the default where none is
+abbrev pub IsNumber : (least most default : ℕ) → List (List ℕ) → ℕ → Type 0
+IsNumber least most default [] n = n ≡ default
+IsNumber least most default (word ∷ []) n = (word ≡ decimal n) × (least ≤ n) × (n ≤ most)
+IsNumber least most default _ n = ⊥
 
 -- how many ticks a serial elision may make at most, and makes where no budget is given
 abbrev pub elision_ticks : ℕ
 elision_ticks = 2000000
 
--- The value that an option's values give: one within the limits, in decimal, or the default where there is none.
-abbrev pub IsValue : (least most default : ℕ) → List (List ℕ) → ℕ → Type 0
-IsValue least most default [] n = n ≡ default
-IsValue least most default (word ∷ []) n = (word ≡ decimal n) × (least ≤ n) × (n ≤ most)
-IsValue least most default _ n = ⊥
+abbrev pub IsElisionBudget : List (List ℕ) → ℕ → Type 0
+IsElisionBudget = IsNumber 1 elision_ticks elision_ticks
 
-abbrev pub IsElisionBudget : List Part → ℕ → Type 0
-IsElisionBudget parts budget = IsValue 1 elision_ticks elision_ticks (values Budget parts) budget
-
--- A command by its name and the parts behind it.
-abbrev pub IsOffline : List ℕ → List Part → OfflineCommand → Type 0
-IsOffline name parts (Check file) = (name ≡ codes "check") × IsFile parts file × (values Budget parts ≡ [])
-IsOffline name parts (Serial file budget) = (name ≡ codes "serial") × IsFile parts file × IsElisionBudget parts budget
-IsOffline name parts (Race file budget) = (name ≡ codes "race") × IsFile parts file × IsElisionBudget parts budget
+-- The command of this name, these files and these values of its options. An option that it has not is given no value.
+abbrev pub IsOffline : List ℕ → List (List ℕ) → (OptionName → List (List ℕ)) → OfflineCommand → Type 0
+IsOffline name given options (Check file) = (name ≡ codes "check") × IsFile given file × (options Budget ≡ [])
+IsOffline name given options (Serial file budget) = (name ≡ codes "serial") × IsFile given file × IsElisionBudget (options Budget) budget
+IsOffline name given options (Race file budget) = (name ≡ codes "race") × IsFile given file × IsElisionBudget (options Budget) budget
 
 -- The words are this command: its name, and behind it parts in any order.
 abbrev pub IsCommand : List (List ℕ) → Command → Type 0
 IsCommand words (Offline command) =
-    (name : List ℕ) × (parts : List Part) × (words ≡ name ∷ flat_map part_words parts) × IsOffline name parts command
+    (name : List ℕ) × (parts : List Part) × (words ≡ name ∷ flat_map part_words parts) × IsOffline name (files parts) (values parts) command

@@ -2,6 +2,8 @@
 #![tactic(auto)]
 
 mod command;
+mod gathered;
+mod option_name;
 mod reading;
 mod refusal;
 
