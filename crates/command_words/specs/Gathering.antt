@@ -49,6 +49,14 @@ abbrev pub with_words : Gathered → List (List ℕ) → Option Gathered
 with_words g [] = Some g
 with_words g (word ∷ words) = option_and_then (λ next. with_words next words) (with_word g word)
 
+abbrev pub finished : Option OptionName → Gathered → Option Gathered
+finished None g = Some g
+finished (Some _) g = None
+
+-- what all the words give, behind which no value is due
+abbrev pub gathered_from : List (List ℕ) → Option Gathered
+gathered_from words = option_and_then (λ g. finished g.due g) (with_words nothing words)
+
 -- what was gathered, as lists
 abbrev pub file_in : Gathered → List (List ℕ)
 file_in g = option_to_list g.file

@@ -1,4 +1,4 @@
-ghost use Rattle.command_words.specs.Gathering.{nothing, filled, parted, with_file, with_value, with_word, with_words};
+ghost use Rattle.command_words.specs.Gathering.{filled, parted, with_file, with_value, with_word, with_words, gathered_from};
 ghost use Rattle.std.specs.Prelude.{◌≡◌, map, string_bytes};
 ghost use Rattle.std.specs.Option.{option_map};
 
@@ -24,9 +24,9 @@ impl<'a> Model for Gathered<'a> {
 }
 
 impl<'a> Gathered<'a> {
-    /// What all the words give, where none of it is given twice.
+    /// What all the words give, where none of it is given twice and no value is missing.
     pub(crate) fn of_words(words: &'a [String]) -> Option<Self>
-        ensures { result ≡ with_words nothing (map string_bytes words.now) }
+        ensures { result ≡ gathered_from (map string_bytes words.now) }
     {
         let mut gathered = Gathered {
             file: None,
@@ -35,6 +35,9 @@ impl<'a> Gathered<'a> {
         };
         for word in words {
             gathered = gathered.with_word(word.as_str())?;
+        }
+        if gathered.due.is_some() {
+            return None;
         }
         Some(gathered)
     }
@@ -49,13 +52,6 @@ impl<'a> Gathered<'a> {
         ensures { option_map (λ text. text.now) result ≡ self.now.budget }
     {
         self.budget
-    }
-
-    /// Whether the last word was an option without its value.
-    pub(crate) fn due(&self) -> Option<OptionName>
-        ensures { result ≡ self.now.due }
-    {
-        self.due
     }
 
     fn with_word(self, word: &'a str) -> Option<Self>

@@ -3,6 +3,7 @@
 
 mod command;
 mod gathered;
+mod number;
 mod option_name;
 mod reading;
 mod refusal;
