@@ -1,1 +1,5 @@
+pub mod Completeness
+pub mod Numbers
 pub mod Parted
+pub mod Soundness
+pub mod Uniqueness
