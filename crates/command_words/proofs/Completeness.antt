@@ -16,7 +16,7 @@ IsNamed None = Unit {0}
 IsNamed (Some name) = IsFileName name
 
 unnamed : (first : ℕ) (rest others : List ℕ) (value : Option (List ℕ)) (b : Bool) → ¬ (first ≡ 45) →
-    option_named (if b then ([], Some others) else (first ∷ rest, value)).0 ≡ None
+    let cut : List ℕ × Option (List ℕ) = if b then ([], Some others) else (first ∷ rest, value) in option_named cut.0 ≡ None
 unnamed first rest others value true valid = refl
 unnamed first rest others value false valid = rw (ne_eqb first 45 valid) refl
 

@@ -1,3 +1,4 @@
+pub mod Commands
 pub mod Completeness
 pub mod Numbers
 pub mod Parted

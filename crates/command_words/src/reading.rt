@@ -25,9 +25,14 @@ pub fn read_words(alloc: Global, words: &[String]) -> Result<Command, WordRefusa
         MatchResult result (λ found. found ≡ command) (λ refusal. refusal ≡ WordRefusal.Memory) }
     ensures words { result ≡ Err WordRefusal.Words → (command : Command) → ¬ IsCommand (map string_bytes words.now) command }
 {
-    let (name, others) = words.split_first().ok_or(WordRefusal::Words)?;
-    let gathered = Gathered::of_words(others).ok_or(WordRefusal::Words)?;
-    Ok(Command::Offline(read_offline(alloc, name.as_str(), &gathered)?))
+    let Some((name, others)) = words.split_first() else {
+        return Err(WordRefusal::Words);
+    };
+    let Some(gathered) = Gathered::of_words(others) else {
+        return Err(WordRefusal::Words);
+    };
+    let command = read_offline(alloc, name.as_str(), &gathered)?;
+    Ok(Command::Offline(command))
 }
 
 fn read_offline(alloc: Global, name: &str, gathered: &Gathered) -> Result<Offline, WordRefusal>
