@@ -1,15 +1,14 @@
 -- The command that words are, from what is gathered of them.
-use Rattle.std.proofs.Common.{◌≡◌, ℕ, Option, Some, None, List, [], ◌∷◌, refl, sym, ap, ◌∙◌, subst, arith, rules}
+use Rattle.std.proofs.Common.{◌≡◌, ℕ, Some, None, List, ◌∷◌, refl, sym, ap, ◌∙◌, subst}
 use Rattle.std.proofs.lemmas.Option.{none-some, same_Some}
 use Rattle.std.specs.List.{flat_map}
 use Rattle.command_words.specs.declared.command.Command.{Command}
 use Rattle.command_words.specs.declared.command.Command.TheVariants.{Offline}
 use Rattle.command_words.specs.declared.command.Offline.{Offline as OfflineCommand}
-use Rattle.command_words.specs.declared.option_name.OptionName.{OptionName}
 use Rattle.command_words.specs.declared.refusal.WordRefusal.{WordRefusal}
 use Rattle.command_words.specs.declared.refusal.WordRefusal.TheVariants.{Words, Memory}
 use Rattle.command_words.specs.Gathering.{Gathered, gathered_from, file_in, values_in}
-use Rattle.command_words.specs.Words.{part_words, files, values, IsOffline, IsCommand}
+use Rattle.command_words.specs.Words.{part_words, files, IsOffline, IsCommand}
 use Rattle.command_words.proofs.Completeness.{command_gathered}
 use Rattle.command_words.proofs.Soundness.{gathered_parts}
 use Rattle.command_words.proofs.Uniqueness.{one_offline}

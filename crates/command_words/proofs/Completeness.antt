@@ -1,14 +1,13 @@
 -- Parts are gathered to what they give.
-use Rattle.std.proofs.Common.{◌≡◌, ℕ, Bool, true, false, Option, Some, None, List, [], ◌∷◌, ◌++◌, codes, if◌then◌else◌, ◌==◌, refl, sym, ap, ◌∙◌, subst, arith, rules}
+use Rattle.std.proofs.Common.{◌≡◌, ℕ, Bool, true, false, Option, Some, None, List, [], ◌∷◌, ◌++◌, if◌then◌else◌, ◌==◌, refl, subst}
 use Rattle.std.specs.List.{flat_map}
 use Rattle.std.specs.Option.{option_to_list}
 use Rattle.std.proofs.lemmas.Bool.{ne_eqb}
 use Rattle.command_words.specs.declared.command.Offline.{Offline as OfflineCommand}
 use Rattle.command_words.specs.declared.command.Offline.TheVariants.{Check, Serial, Race}
-use Rattle.command_words.specs.declared.option_name.OptionName.{OptionName}
 use Rattle.command_words.specs.declared.option_name.OptionName.TheVariants.{Budget}
-use Rattle.command_words.specs.Gathering.{Gathered, nothing, parted, option_named, with_word, with_words, with_word_at, with_parted, finished, gathered_from, file_in, values_in}
-use Rattle.command_words.specs.Words.{Part, File, Apart, Joined, option_word, part_words, files, values, IsFileName, IsFile, IsElisionBudget, IsOffline}
+use Rattle.command_words.specs.Gathering.{Gathered, parted, option_named, with_words, gathered_from, file_in, values_in}
+use Rattle.command_words.specs.Words.{Part, File, Apart, Joined, part_words, files, values, IsFileName, IsFile, IsElisionBudget, IsOffline}
 
 -- a file that is given may be one
 abbrev pub IsNamed : Option (List ℕ) → Type 0

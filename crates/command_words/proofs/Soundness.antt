@@ -1,5 +1,5 @@
 -- Words that were gathered are parts, which give what was gathered.
-use Rattle.std.proofs.Common.{◌≡◌, ℕ, Bool, true, false, Option, Some, None, List, [], ◌∷◌, ◌++◌, codes, if◌then◌else◌, inl, inr, refl, sym, ap, ◌∙◌, subst, arith, rules}
+use Rattle.std.proofs.Common.{◌≡◌, ℕ, Bool, true, false, Option, Some, None, List, [], ◌∷◌, ◌++◌, codes, if◌then◌else◌, inl, inr, refl, sym, ap, ◌∙◌, subst}
 use Rattle.std.specs.List.{flat_map}
 use Rattle.std.specs.Str.{bytes_eq}
 use Rattle.std.proofs.lemmas.Bool.Decides.{eqb_tells}
@@ -8,7 +8,7 @@ use Rattle.std.proofs.lemmas.Option.{none-some, option_and_then_some, same_Some}
 use Rattle.std.proofs.lemmas.Slice.Eq.{bytes_eq-Decides}
 use Rattle.command_words.specs.declared.option_name.OptionName.{OptionName}
 use Rattle.command_words.specs.declared.option_name.OptionName.TheVariants.{Budget}
-use Rattle.command_words.specs.Gathering.{Gathered, nothing, parted, option_named, with_word, with_words, with_word_at, with_parted, finished, gathered_from, file_in, values_in}
+use Rattle.command_words.specs.Gathering.{Gathered, nothing, parted, option_named, with_word, with_words, with_parted, finished, gathered_from, file_in, values_in}
 use Rattle.command_words.specs.Words.{Part, File, Apart, Joined, option_word, part_words, files, values}
 
 -- the option whose value is due, as it was written

@@ -1,10 +1,8 @@
 -- Words are one command at most.
-use Rattle.std.proofs.Common.{◌≡◌, ℕ, ◌<◌, ◌≤◌, ◌^◌, true, false, List, [], ◌∷◌, codes, refl, sym, ap, lit<, ◌∙◌, arith, rules}
+use Rattle.std.proofs.Common.{◌≡◌, ℕ, ◌<◌, ◌^◌, false, List, [], ◌∷◌, codes, refl, sym, ap, lit<, ◌∙◌, arith}
 use Rattle.std.specs.Str.{bytes_eq}
 use Rattle.std.proofs.lemmas.Fmt.{decimal_injective}
 use Rattle.std.proofs.lemmas.Slice.Eq.{bytes_eq-Decides}
-use Rattle.command_words.specs.declared.command.Command.{Command}
-use Rattle.command_words.specs.declared.command.Command.TheVariants.{Offline}
 use Rattle.command_words.specs.declared.command.Offline.{Offline as OfflineCommand}
 use Rattle.command_words.specs.declared.command.Offline.TheVariants.{Check, Serial, Race}
 use Rattle.command_words.specs.declared.option_name.OptionName.{OptionName}

@@ -1,4 +1,4 @@
-use Rattle.std.proofs.Common.{◌≡◌, Err, ◌∷◌, map, string_bytes, refl, sym, ap, ◌∙◌}
+use Rattle.std.proofs.Common.{◌≡◌, Err, ◌∷◌, map, string_bytes, sym, ap, ◌∙◌}
 use Rattle.std.proofs.lemmas.Result.{err_from_is_err_and}
 use Rattle.command_words.specs.declared.refusal.WordRefusal.TheVariants.{Words}
 use Rattle.command_words.proofs.Commands.{other_refusal, is_command, none_gathered, no_command, only_command}
