@@ -7,6 +7,8 @@ mod number;
 mod option_name;
 mod reading;
 mod refusal;
+#[cfg(test)]
+mod tests;
 
 pub use command::{Command, FileName, Offline};
 pub use reading::read_words;
