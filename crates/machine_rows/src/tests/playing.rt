@@ -1,0 +1,102 @@
+ghost use Rattle.std.specs.Prelude.{◌≡◌, ◌<◌, ◌≤◌, ℕ, IfOk, OnOk};
+ghost use Rattle.machine_code.specs.Machine.{wants};
+ghost use Rattle.machine_code.specs.StandsFor.{start_words_of};
+ghost use Rattle.machine_rows.specs.Running.{IsRunOf, RunsOn};
+ghost use Rattle.machine_rows.specs.Saying.{gets};
+ghost use Rattle.plain_machine.specs.Standing.{StandsIn};
+
+use machine_code::Code;
+use plain_machine::{Answer, Frame, Want};
+use std::alloc::Global;
+use std::process::Abort;
+use std::test::Fail;
+
+// A frame at the start of a procedure.
+pub(crate) fn started(
+    alloc: Global,
+    code: &Code,
+    proc: u32,
+    args: &[i64],
+    depth: u32,
+) -> Result<Frame, Fail>
+    ensures stands { IfOk result (λ f. StandsIn code.now f.frame) }
+    ensures runs { IfOk result (λ f. IsRunOf code.now depth proc args.now f.frame) }
+{
+    if proc as usize >= code.procs.len() {
+        return Err("no such procedure")?;
+    }
+    if args.len() != code.proc(proc).params as usize {
+        return Err("another number of arguments")?;
+    }
+    if depth > 4096 {
+        return Err("too deep")?;
+    }
+    Ok(Frame::start(alloc, code, proc, args, depth)?)
+}
+
+// The frame wants these, one after another, and is answered. It is asked twice for each.
+pub(crate) fn play(
+    rt: &impl Abort,
+    code: &Code,
+    frame: &mut Frame,
+    script: &[(Want, Answer)],
+) -> Result<(), Fail>
+    requires { StandsIn code.now frame.old.frame }
+    ensures stands { OnOk result (StandsIn code.now frame.new.frame) }
+    ensures runs { OnOk result (RunsOn code.now frame.old.frame frame.new.frame) }
+{
+    for &(want, answer) in script {
+        serve(rt, code, frame, want, answer)?;
+    }
+    Ok(())
+}
+
+fn serve(
+    rt: &impl Abort,
+    code: &Code,
+    frame: &mut Frame,
+    want: Want,
+    answer: Answer,
+) -> Result<(), Fail>
+    requires { StandsIn code.now frame.old.frame }
+    ensures stands { OnOk result (StandsIn code.now frame.new.frame) }
+    ensures runs { OnOk result (RunsOn code.now frame.old.frame frame.new.frame) }
+{
+    let said = frame.want(code);
+    assert_eq!(rt; said, want);
+    assert_wants(rt, code, frame, want);
+    if !gets(said, answer) {
+        return Err("no answer to this want")?;
+    }
+    frame.answer(code, answer)?;
+    Ok(())
+}
+
+// The frame wants this next.
+pub(crate) fn assert_wants(rt: &impl Abort, code: &Code, frame: &mut Frame, want: Want)
+    requires { StandsIn code.now frame.old.frame }
+    ensures same { wants code.now frame.new.frame ≡ wants code.now frame.old.frame }
+    ensures stands { StandsIn code.now frame.new.frame }
+    ensures runs { RunsOn code.now frame.old.frame frame.new.frame }
+{
+    assert_eq!(rt; frame.want(code), want);
+}
+
+// Whether the want gets such an answer.
+fn gets(want: Want, answer: Answer) -> bool
+    ensures { result ≡ gets want answer }
+{
+    match (want, answer) {
+        (Want::Read { .. } | Want::Add { .. }, Answer::Value(_)) => true,
+        (
+            Want::Write { .. }
+            | Want::Print { .. }
+            | Want::Spawn { .. }
+            | Want::Sync
+            | Want::Call
+            | Want::LoopTurn,
+            Answer::Done,
+        ) => true,
+        _ => false,
+    }
+}
