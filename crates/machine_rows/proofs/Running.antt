@@ -7,7 +7,7 @@ use Rattle.machine_code.specs.Early.{Event, Steps, Answered, Run, HasRun, after_
 use Rattle.machine_code.specs.Machine.{Code, Frame, start_frame}
 use Rattle.machine_code.specs.Valid.{IsValid, params_of}
 use Rattle.machine_code.specs.declared.code.Proc.{Proc}
-use Rattle.plain_machine.specs.Lasting.{HasLasted}
+use Rattle.plain_machine.specs.Lasting.{HasLasted, Lasts}
 use Rattle.plain_machine.specs.Stepping.{HasStepped, HasResumed}
 use Rattle.machine_rows.specs.Running.{IsRunOf, RunsOn}
 
@@ -54,3 +54,9 @@ starts_on code procedure proc arguments depth valid is params deep = record {
   frame_is = refl;
   lasted = record { valid = valid; params = params; deep = deep; has_run = record { proc = proc; is = is; comes = refl } };
 }
+
+-- `has_run_stands` says it of each run, and so of each frame that came to be by one
+pub run_lasts : ((code : Code) (depth procedure : ℕ) (arguments : List ℤ) (events : List Event) (run : Run) → HasLasted code depth procedure arguments events run → Lasts code depth procedure run.frame) →
+    (code : Code) (depth procedure : ℕ) (arguments : List ℤ) (frame : Frame) → IsRunOf code depth procedure arguments frame → Lasts code depth procedure frame
+run_lasts law code depth procedure arguments frame is =
+    subst (λ (f : Frame). Lasts code depth procedure f) is.frame_is (law code depth procedure arguments is.events is.run is.lasted)

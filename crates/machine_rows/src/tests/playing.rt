@@ -1,4 +1,4 @@
-ghost use Rattle.std.specs.Prelude.{◌≡◌, ◌<◌, ◌≤◌, ℕ, IfOk, OnOk};
+ghost use Rattle.std.specs.Prelude.{◌≡◌, ◌<◌, ◌≤◌, ℕ, ℤ, List, IfOk, OnOk};
 ghost use Rattle.machine_code.specs.Machine.{wants};
 ghost use Rattle.machine_code.specs.StandsFor.{start_words_of};
 ghost use Rattle.machine_rows.specs.Running.{IsRunOf, RunsOn};
@@ -6,7 +6,8 @@ ghost use Rattle.machine_rows.specs.Saying.{gets};
 ghost use Rattle.plain_machine.specs.Standing.{StandsIn};
 
 use machine_code::Code;
-use plain_machine::{Answer, Frame, Want};
+use outside::Words;
+use plain_machine::{Answer, Frame, Want, has_run_stands};
 use std::alloc::Global;
 use std::process::Abort;
 use std::test::Fail;
@@ -47,6 +48,17 @@ pub(crate) fn play(
 {
     for &(want, answer) in script {
         serve(rt, code, frame, want, answer)?;
+    }
+    Ok(())
+}
+
+// The frame wants so many plain calls, and makes them.
+pub(crate) fn open(rt: &impl Abort, code: &Code, frame: &mut Frame, calls: u32) -> Result<(), Fail>
+    requires { StandsIn code.now frame.old.frame }
+    ensures { OnOk result (StandsIn code.now frame.new.frame) }
+{
+    for _ in 0..calls {
+        serve(rt, code, frame, Want::Call, Answer::Done)?;
     }
     Ok(())
 }
@@ -98,5 +110,49 @@ fn gets(want: Want, answer: Answer) -> bool
             Answer::Done,
         ) => true,
         _ => false,
+    }
+}
+
+// Gives a child's value to a local of the frame's own function, which is this procedure.
+pub(crate) fn deposit(
+    code: &Code,
+    proc: u32,
+    frame: &mut Frame,
+    target: u32,
+    value: i64,
+) -> Result<(), Fail>
+    requires { (depth : ℕ) × (arguments : List ℤ) × IsRunOf code.now depth proc arguments frame.old.frame }
+    ensures { OnOk result (StandsIn code.now frame.new.frame) }
+{
+    if proc as usize >= code.procs.len() {
+        return Err("no such procedure")?;
+    }
+    if target >= code.proc(proc).locals {
+        return Err("no such local")?;
+    }
+    has_run_stands();
+    frame.deposit(target, value);
+    Ok(())
+}
+
+// The code, where the words from `base` on start with these numbers.
+pub(crate) fn with_input(mut code: Code, base: u32, numbers: Words) -> Result<Code, Fail> {
+    if base as usize + numbers.items().len() > code.words() as usize {
+        return Err("too many numbers")?;
+    }
+    code.set_input(base, numbers);
+    Ok(code)
+}
+
+// With which value a shared word of the code starts.
+pub(crate) fn start_word(code: &Code, word: u32) -> i64
+    ensures { result ≡ start_words_of code.now word }
+{
+    if word < code.input_base {
+        return 0;
+    }
+    match code.input.items().get((word - code.input_base) as usize) {
+        Some(value) => *value,
+        None => 0,
     }
 }
