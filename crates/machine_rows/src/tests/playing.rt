@@ -5,12 +5,77 @@ ghost use Rattle.machine_rows.specs.Running.{IsRunOf, RunsOn};
 ghost use Rattle.machine_rows.specs.Saying.{gets};
 ghost use Rattle.plain_machine.specs.Standing.{StandsIn};
 
+use super::code::code;
 use machine_code::Code;
 use outside::Words;
 use plain_machine::{Answer, Frame, Want, has_run_stands};
 use std::alloc::Global;
 use std::process::Abort;
 use std::test::Fail;
+
+// A procedure, its arguments, what it wants first and how that is answered, and what it wants then.
+pub(crate) type Row = (u32, &'static [i64], &'static [(Want, Answer)], Want);
+
+pub(crate) fn assert_each(rt: &impl Abort, alloc: Global, rows: &[Row]) -> Result<(), Fail> {
+    let code = code(alloc)?;
+    for &(proc, args, script, want) in rows {
+        assert_row(rt, alloc, &code, proc, args, script, want)?;
+    }
+    Ok(())
+}
+
+fn assert_row(
+    rt: &impl Abort,
+    alloc: Global,
+    code: &Code,
+    proc: u32,
+    args: &[i64],
+    script: &[(Want, Answer)],
+    want: Want,
+) -> Result<(), Fail> {
+    let mut frame = started(alloc, code, proc, args, 0)?;
+    play(rt, code, &mut frame, script)?;
+    assert_wants(rt, code, &mut frame, want);
+    Ok(())
+}
+
+// What is wanted by an instance that is so deep, where so many plain calls are open in it.
+pub(crate) fn assert_deep(
+    rt: &impl Abort,
+    alloc: Global,
+    code: &Code,
+    proc: u32,
+    depth: u32,
+    calls: u32,
+    want: Want,
+) -> Result<(), Fail> {
+    let mut frame = started(alloc, code, proc, &[], depth)?;
+    open(rt, code, &mut frame, calls)?;
+    assert_wants(rt, code, &mut frame, want);
+    Ok(())
+}
+
+// The procedure reads this word, which starts with this value.
+pub(crate) fn assert_started(
+    rt: &impl Abort,
+    alloc: Global,
+    code: &Code,
+    proc: u32,
+    index: i64,
+    word: u32,
+    value: i64,
+) -> Result<(), Fail> {
+    let read = (Want::Read { word }, Answer::Value(start_word(code, word)));
+    assert_row(
+        rt,
+        alloc,
+        code,
+        proc,
+        &[index],
+        &[read],
+        Want::Return { value },
+    )
+}
 
 // A frame at the start of a procedure.
 pub(crate) fn started(
@@ -53,7 +118,7 @@ pub(crate) fn play(
 }
 
 // The frame wants so many plain calls, and makes them.
-pub(crate) fn open(rt: &impl Abort, code: &Code, frame: &mut Frame, calls: u32) -> Result<(), Fail>
+fn open(rt: &impl Abort, code: &Code, frame: &mut Frame, calls: u32) -> Result<(), Fail>
     requires { StandsIn code.now frame.old.frame }
     ensures { OnOk result (StandsIn code.now frame.new.frame) }
 {
@@ -145,7 +210,7 @@ pub(crate) fn with_input(mut code: Code, base: u32, numbers: Words) -> Result<Co
 }
 
 // With which value a shared word of the code starts.
-pub(crate) fn start_word(code: &Code, word: u32) -> i64
+fn start_word(code: &Code, word: u32) -> i64
     ensures { result ≡ start_words_of code.now word }
 {
     if word < code.input_base {
