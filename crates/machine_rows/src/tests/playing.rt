@@ -55,6 +55,42 @@ pub(crate) fn assert_deep(
     Ok(())
 }
 
+// The procedure wants this spawn first, whose child has these arguments, which the frame gives until it is answered.
+pub(crate) fn assert_gives(
+    rt: &impl Abort,
+    alloc: Global,
+    code: &Code,
+    proc: u32,
+    args: &[i64],
+    spawn: Want,
+    given: &[i64],
+) -> Result<(), Fail> {
+    let mut frame = started(alloc, code, proc, args, 0)?;
+    assert_wants(rt, code, &mut frame, spawn);
+    assert_eq!(rt; frame.args(), given);
+    play(rt, code, &mut frame, &[(spawn, Answer::Done)])?;
+    assert_eq!(rt; frame.args().len(), 0);
+    Ok(())
+}
+
+// The procedure is played up to a place where a child's value comes for its local 0, and from there on, and returns 0.
+pub(crate) fn assert_early(
+    rt: &impl Abort,
+    alloc: Global,
+    code: &Code,
+    proc: u32,
+    before: &[(Want, Answer)],
+    value: i64,
+    behind: &[(Want, Answer)],
+) -> Result<(), Fail> {
+    let mut frame = started(alloc, code, proc, &[], 0)?;
+    play(rt, code, &mut frame, before)?;
+    deposit(code, proc, &mut frame, 0, value)?;
+    play(rt, code, &mut frame, behind)?;
+    assert_wants(rt, code, &mut frame, Want::Return { value: 0 });
+    Ok(())
+}
+
 // The procedure reads this word, which starts with this value.
 pub(crate) fn assert_started(
     rt: &impl Abort,
@@ -78,13 +114,7 @@ pub(crate) fn assert_started(
 }
 
 // A frame at the start of a procedure.
-pub(crate) fn started(
-    alloc: Global,
-    code: &Code,
-    proc: u32,
-    args: &[i64],
-    depth: u32,
-) -> Result<Frame, Fail>
+fn started(alloc: Global, code: &Code, proc: u32, args: &[i64], depth: u32) -> Result<Frame, Fail>
     ensures stands { IfOk result (λ f. StandsIn code.now f.frame) }
     ensures runs { IfOk result (λ f. IsRunOf code.now depth proc args.now f.frame) }
 {
@@ -101,7 +131,7 @@ pub(crate) fn started(
 }
 
 // The frame wants these, one after another, and is answered. It is asked twice for each.
-pub(crate) fn play(
+fn play(
     rt: &impl Abort,
     code: &Code,
     frame: &mut Frame,
@@ -150,7 +180,7 @@ fn serve(
 }
 
 // The frame wants this next.
-pub(crate) fn assert_wants(rt: &impl Abort, code: &Code, frame: &mut Frame, want: Want)
+fn assert_wants(rt: &impl Abort, code: &Code, frame: &mut Frame, want: Want)
     requires { StandsIn code.now frame.old.frame }
     ensures same { wants code.now frame.new.frame ≡ wants code.now frame.old.frame }
     ensures stands { StandsIn code.now frame.new.frame }
@@ -179,13 +209,7 @@ fn gets(want: Want, answer: Answer) -> bool
 }
 
 // Gives a child's value to a local of the frame's own function, which is this procedure.
-pub(crate) fn deposit(
-    code: &Code,
-    proc: u32,
-    frame: &mut Frame,
-    target: u32,
-    value: i64,
-) -> Result<(), Fail>
+fn deposit(code: &Code, proc: u32, frame: &mut Frame, target: u32, value: i64) -> Result<(), Fail>
     requires { (depth : ℕ) × (arguments : List ℤ) × IsRunOf code.now depth proc arguments frame.old.frame }
     ensures { OnOk result (StandsIn code.now frame.new.frame) }
 {

@@ -4,12 +4,22 @@ use super::code::{
     STORE, SUB, WRITE, WRITE_QUOTIENT, code,
 };
 use super::playing::{
-    Row, assert_deep, assert_each, assert_started, assert_wants, deposit, play, started, with_input,
+    Row, assert_deep, assert_each, assert_early, assert_gives, assert_started, with_input,
 };
 use cilk_meaning::TrapKind;
+use machine_code::Code;
 use outside::Words;
 use plain_machine::{Answer, Frame, Want};
+use std::alloc::Global;
 use std::test::Fail;
+
+const OVERFLOW: Want = Want::Trap(TrapKind::Overflow);
+
+const ZERO_DIVISOR: Want = Want::Trap(TrapKind::DivideByZero);
+
+const OUT_OF_RANGE: Want = Want::Trap(TrapKind::IndexOutOfRange);
+
+const TOO_DEEP: Want = Want::Trap(TrapKind::TooDeep);
 
 // Takes a type whose values may move between threads.
 fn may_move<T: Send>() {}
@@ -26,14 +36,14 @@ fn sums_differences_and_products(rt: HostRuntime) -> Result<(), Fail> {
     static ROWS: [Row; 19] = [
         (ADD, &[3, 4], &[], Want::Return { value: 7 }),
         (ADD, &[i64::MAX, 0], &[], Want::Return { value: i64::MAX }),
-        (ADD, &[i64::MAX, 1], &[], Want::Trap(TrapKind::Overflow)),
+        (ADD, &[i64::MAX, 1], &[], OVERFLOW),
         (ADD, &[i64::MIN, 0], &[], Want::Return { value: i64::MIN }),
-        (ADD, &[i64::MIN, -1], &[], Want::Trap(TrapKind::Overflow)),
+        (ADD, &[i64::MIN, -1], &[], OVERFLOW),
         (SUB, &[7, 2], &[], Want::Return { value: 5 }),
         (SUB, &[-i64::MAX, 1], &[], Want::Return { value: i64::MIN }),
-        (SUB, &[i64::MIN, 1], &[], Want::Trap(TrapKind::Overflow)),
+        (SUB, &[i64::MIN, 1], &[], OVERFLOW),
         (SUB, &[i64::MAX, 0], &[], Want::Return { value: i64::MAX }),
-        (SUB, &[i64::MAX, -1], &[], Want::Trap(TrapKind::Overflow)),
+        (SUB, &[i64::MAX, -1], &[], OVERFLOW),
         (MUL, &[-6, 7], &[], Want::Return { value: -42 }),
         (
             MUL,
@@ -43,18 +53,13 @@ fn sums_differences_and_products(rt: HostRuntime) -> Result<(), Fail> {
                 value: 9223372030926249001,
             },
         ),
-        (
-            MUL,
-            &[3037000500, 3037000500],
-            &[],
-            Want::Trap(TrapKind::Overflow),
-        ),
+        (MUL, &[3037000500, 3037000500], &[], OVERFLOW),
         (MUL, &[i64::MAX, -1], &[], Want::Return { value: -i64::MAX }),
         (MUL, &[i64::MIN, 1], &[], Want::Return { value: i64::MIN }),
-        (MUL, &[i64::MIN, -1], &[], Want::Trap(TrapKind::Overflow)),
+        (MUL, &[i64::MIN, -1], &[], OVERFLOW),
         (NEG, &[5], &[], Want::Return { value: -5 }),
         (NEG, &[-i64::MAX], &[], Want::Return { value: i64::MAX }),
-        (NEG, &[i64::MIN], &[], Want::Trap(TrapKind::Overflow)),
+        (NEG, &[i64::MIN], &[], OVERFLOW),
     ];
     assert_each(&rt, rt.alloc(), &ROWS)
 }
@@ -66,10 +71,10 @@ fn quotients_and_remainders(rt: HostRuntime) -> Result<(), Fail> {
         (DIV, &[-7, 2], &[], Want::Return { value: -3 }),
         (DIV, &[7, -2], &[], Want::Return { value: -3 }),
         (DIV, &[7, -1], &[], Want::Return { value: -7 }),
-        (DIV, &[7, 0], &[], Want::Trap(TrapKind::DivideByZero)),
+        (DIV, &[7, 0], &[], ZERO_DIVISOR),
         (DIV, &[7, 1], &[], Want::Return { value: 7 }),
         (DIV, &[-i64::MAX, -1], &[], Want::Return { value: i64::MAX }),
-        (DIV, &[i64::MIN, -1], &[], Want::Trap(TrapKind::Overflow)),
+        (DIV, &[i64::MIN, -1], &[], OVERFLOW),
         (
             DIV,
             &[i64::MIN, -2],
@@ -78,14 +83,14 @@ fn quotients_and_remainders(rt: HostRuntime) -> Result<(), Fail> {
                 value: 4611686018427387904,
             },
         ),
-        (DIV, &[i64::MIN, 0], &[], Want::Trap(TrapKind::DivideByZero)),
+        (DIV, &[i64::MIN, 0], &[], ZERO_DIVISOR),
         (REM, &[-7, 2], &[], Want::Return { value: -1 }),
         (REM, &[7, -2], &[], Want::Return { value: 1 }),
         (REM, &[7, -1], &[], Want::Return { value: 0 }),
-        (REM, &[7, 0], &[], Want::Trap(TrapKind::DivideByZero)),
+        (REM, &[7, 0], &[], ZERO_DIVISOR),
         (REM, &[7, 1], &[], Want::Return { value: 0 }),
         (REM, &[i64::MIN, -1], &[], Want::Return { value: 0 }),
-        (REM, &[i64::MIN, 0], &[], Want::Trap(TrapKind::DivideByZero)),
+        (REM, &[i64::MIN, 0], &[], ZERO_DIVISOR),
     ];
     assert_each(&rt, rt.alloc(), &ROWS)
 }
@@ -119,12 +124,7 @@ fn locals_operands_and_jumps(rt: HostRuntime) -> Result<(), Fail> {
         (POP, &[5, 6], &[], Want::Return { value: 5 }),
         (STORE, &[9, 4], &[], Want::Return { value: 5 }),
         (AND_QUOTIENT, &[0, 0], &[], Want::Return { value: 0 }),
-        (
-            AND_QUOTIENT,
-            &[1, 0],
-            &[],
-            Want::Trap(TrapKind::DivideByZero),
-        ),
+        (AND_QUOTIENT, &[1, 0], &[], ZERO_DIVISOR),
         (AND_QUOTIENT, &[-1, 3], &[], Want::Return { value: 2 }),
         (
             COUNT_DOWN,
@@ -152,7 +152,7 @@ fn locals_operands_and_jumps(rt: HostRuntime) -> Result<(), Fail> {
 #[test]
 fn shared_words(rt: HostRuntime) -> Result<(), Fail> {
     static ROWS: [Row; 23] = [
-        (READ, &[-1], &[], Want::Trap(TrapKind::IndexOutOfRange)),
+        (READ, &[-1], &[], OUT_OF_RANGE),
         (
             READ,
             &[0],
@@ -165,27 +165,17 @@ fn shared_words(rt: HostRuntime) -> Result<(), Fail> {
             &[(Want::Read { word: 4 }, Answer::Value(i64::MIN))],
             Want::Return { value: i64::MIN },
         ),
-        (READ, &[3], &[], Want::Trap(TrapKind::IndexOutOfRange)),
-        (
-            READ,
-            &[i64::MIN],
-            &[],
-            Want::Trap(TrapKind::IndexOutOfRange),
-        ),
-        (
-            READ,
-            &[i64::MAX],
-            &[],
-            Want::Trap(TrapKind::IndexOutOfRange),
-        ),
+        (READ, &[3], &[], OUT_OF_RANGE),
+        (READ, &[i64::MIN], &[], OUT_OF_RANGE),
+        (READ, &[i64::MAX], &[], OUT_OF_RANGE),
         (
             READ_FIRST,
             &[1],
             &[(Want::Read { word: 1 }, Answer::Value(5))],
             Want::Return { value: 5 },
         ),
-        (READ_FIRST, &[2], &[], Want::Trap(TrapKind::IndexOutOfRange)),
-        (WRITE, &[-1, 9], &[], Want::Trap(TrapKind::IndexOutOfRange)),
+        (READ_FIRST, &[2], &[], OUT_OF_RANGE),
+        (WRITE, &[-1, 9], &[], OUT_OF_RANGE),
         (
             WRITE,
             &[0, 9],
@@ -198,43 +188,18 @@ fn shared_words(rt: HostRuntime) -> Result<(), Fail> {
             &[(Want::Write { word: 4, value: -9 }, Answer::Done)],
             Want::Return { value: 3 },
         ),
-        (WRITE, &[3, 9], &[], Want::Trap(TrapKind::IndexOutOfRange)),
-        (
-            WRITE_QUOTIENT,
-            &[3, 0],
-            &[],
-            Want::Trap(TrapKind::DivideByZero),
-        ),
-        (
-            WRITE_QUOTIENT,
-            &[3, 1],
-            &[],
-            Want::Trap(TrapKind::IndexOutOfRange),
-        ),
-        (
-            WRITE_QUOTIENT,
-            &[2, 0],
-            &[],
-            Want::Trap(TrapKind::DivideByZero),
-        ),
+        (WRITE, &[3, 9], &[], OUT_OF_RANGE),
+        (WRITE_QUOTIENT, &[3, 0], &[], ZERO_DIVISOR),
+        (WRITE_QUOTIENT, &[3, 1], &[], OUT_OF_RANGE),
+        (WRITE_QUOTIENT, &[2, 0], &[], ZERO_DIVISOR),
         (
             WRITE_QUOTIENT,
             &[2, 1],
             &[(Want::Write { word: 4, value: 6 }, Answer::Done)],
             Want::Return { value: 0 },
         ),
-        (
-            FETCH_ADD,
-            &[-1, 9],
-            &[],
-            Want::Trap(TrapKind::IndexOutOfRange),
-        ),
-        (
-            FETCH_ADD,
-            &[3, 9],
-            &[],
-            Want::Trap(TrapKind::IndexOutOfRange),
-        ),
+        (FETCH_ADD, &[-1, 9], &[], OUT_OF_RANGE),
+        (FETCH_ADD, &[3, 9], &[], OUT_OF_RANGE),
         (
             FETCH_ADD,
             &[0, 5],
@@ -256,7 +221,7 @@ fn shared_words(rt: HostRuntime) -> Result<(), Fail> {
             FETCH_ADD,
             &[2, 1],
             &[(Want::Add { word: 4, addend: 1 }, Answer::Value(i64::MAX))],
-            Want::Trap(TrapKind::Overflow),
+            OVERFLOW,
         ),
         (
             FETCH_ADD,
@@ -280,7 +245,7 @@ fn shared_words(rt: HostRuntime) -> Result<(), Fail> {
                 },
                 Answer::Value(i64::MIN),
             )],
-            Want::Trap(TrapKind::Overflow),
+            OVERFLOW,
         ),
     ];
     assert_each(&rt, rt.alloc(), &ROWS)
@@ -302,20 +267,15 @@ fn calls_and_spawns(rt: HostRuntime) -> Result<(), Fail> {
             ADD_TO_CALL,
             &[i64::MIN, 1],
             &[(Want::Call, Answer::Done)],
-            Want::Trap(TrapKind::Overflow),
+            OVERFLOW,
         ),
         (
             ADD_TO_CALL,
             &[i64::MAX, 0],
             &[(Want::Call, Answer::Done)],
-            Want::Trap(TrapKind::Overflow),
+            OVERFLOW,
         ),
-        (
-            CALL_OF_QUOTIENT,
-            &[1, 0],
-            &[],
-            Want::Trap(TrapKind::DivideByZero),
-        ),
+        (CALL_OF_QUOTIENT, &[1, 0], &[], ZERO_DIVISOR),
         (
             CALL_OF_QUOTIENT,
             &[6, 2],
@@ -351,7 +311,7 @@ fn calls_and_spawns(rt: HostRuntime) -> Result<(), Fail> {
                 ),
                 (Want::Sync, Answer::Done),
             ],
-            Want::Trap(TrapKind::DivideByZero),
+            ZERO_DIVISOR,
         ),
     ];
     assert_each(&rt, rt.alloc(), &ROWS)
@@ -363,7 +323,7 @@ fn depths(rt: HostRuntime) -> Result<(), Fail> {
     static ROWS: [(u32, u32, u32, Want); 5] = [
         (DESCEND, 4096, 0, Want::Call),
         (DESCEND, 0, 4095, Want::Call),
-        (DESCEND, 0, 4096, Want::Trap(TrapKind::TooDeep)),
+        (DESCEND, 0, 4096, TOO_DEEP),
         (
             SPAWN,
             4095,
@@ -373,11 +333,35 @@ fn depths(rt: HostRuntime) -> Result<(), Fail> {
                 target: Some(0),
             },
         ),
-        (SPAWN, 4096, 0, Want::Trap(TrapKind::TooDeep)),
+        (SPAWN, 4096, 0, TOO_DEEP),
     ];
     let code = code(rt.alloc())?;
     for &(proc, depth, calls, want) in &ROWS {
         assert_deep(&rt, rt.alloc(), &code, proc, depth, calls, want)?;
+    }
+    Ok(())
+}
+
+// What a procedure spawns first, and the child's arguments.
+#[test]
+fn arguments(rt: HostRuntime) -> Result<(), Fail> {
+    static ROWS: [(u32, &[i64], Option<u32>, &[i64]); 3] = [
+        (SPAWN, &[], Some(0), &[7, 8]),
+        (SPAWN_ALONE, &[6, 2], None, &[6, 2]),
+        (
+            SPAWN_ALONE,
+            &[i64::MIN, i64::MAX],
+            None,
+            &[i64::MIN, i64::MAX],
+        ),
+    ];
+    let code = code(rt.alloc())?;
+    for &(proc, args, target, given) in &ROWS {
+        let spawn = Want::Spawn {
+            proc: CHILD,
+            target,
+        };
+        assert_gives(&rt, rt.alloc(), &code, proc, args, spawn, given)?;
     }
     Ok(())
 }
@@ -401,23 +385,7 @@ fn a_value_comes_under_an_open_call(rt: HostRuntime) -> Result<(), Fail> {
         (Want::Print { value: -1 }, Answer::Done),
     ];
     let code = code(rt.alloc())?;
-    let mut frame = started(rt.alloc(), &code, SPAWN, &[], 0)?;
-    assert_wants(
-        &rt,
-        &code,
-        &mut frame,
-        Want::Spawn {
-            proc: CHILD,
-            target: Some(0),
-        },
-    );
-    assert_eq!(rt; frame.args(), [7, 8].as_slice());
-    play(&rt, &code, &mut frame, &CALLED)?;
-    assert_eq!(rt; frame.args().len(), 0);
-    deposit(&code, SPAWN, &mut frame, 0, -1)?;
-    play(&rt, &code, &mut frame, &SYNCED)?;
-    assert_wants(&rt, &code, &mut frame, Want::Return { value: 0 });
-    Ok(())
+    assert_early(&rt, rt.alloc(), &code, SPAWN, &CALLED, -1, &SYNCED)
 }
 
 // A procedure that reads an array, an index, the word there, and its start where the words from 1 on start with 6 and -7.
@@ -430,12 +398,16 @@ fn the_input_is_read(rt: HostRuntime) -> Result<(), Fail> {
         (READ, 1, 3, 0),
         (READ, 2, 4, 0),
     ];
-    let mut numbers = Words::new(rt.alloc());
-    numbers.push(6)?;
-    numbers.push(-7)?;
-    let code = with_input(code(rt.alloc())?, 1, numbers)?;
+    let code = code_with_input(rt.alloc())?;
     for &(proc, index, word, value) in &ROWS {
         assert_started(&rt, rt.alloc(), &code, proc, index, word, value)?;
     }
     Ok(())
+}
+
+fn code_with_input(alloc: Global) -> Result<Code, Fail> {
+    let mut numbers = Words::new(alloc);
+    numbers.push(6)?;
+    numbers.push(-7)?;
+    with_input(code(alloc)?, 1, numbers)
 }
