@@ -1,0 +1,3 @@
+mod code;
+mod playing;
+mod rows;
