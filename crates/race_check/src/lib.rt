@@ -22,6 +22,7 @@ pub fn find_race(alloc: Global, history: &History) -> Result<Option<Race>, Alloc
     ensures some { IfOk result (λ found. (race : Race) → found ≡ Some race → IsFirstRace history.now race.word race.first race.second) }
     ensures none { IfOk result (λ found. (found ≡ None) ↔ HasNoRace history.now) }
 {
-    let _ = (alloc, history);
+    let _ = alloc;
+    let _ = history;
     Err(AllocError)
 }
