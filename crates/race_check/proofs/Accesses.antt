@@ -1,0 +1,25 @@
+-- Which words an act accesses.
+use Rattle.std.proofs.Common.{◌≡◌, ◌⊎◌, ℕ, Option, Some, None, refl, sym, ◌∙◌, inl, inr}
+use Rattle.std.proofs.lemmas.Bool.{eqb-true}
+use Rattle.std.specs.Prelude.{Bool, true, false}
+use Rattle.span_tree.specs.declared.act.Act.{Act}
+use Rattle.span_tree.specs.declared.act.Act.TheVariants.{Read, Write, Add, Print, Spawn, Sync}
+use Rattle.span_tree.specs.declared.act.Place.{Place}
+use Rattle.span_tree.specs.History.{History, act_at}
+use Rattle.span_tree.specs.Memory.{accesses, holds_at, is_access, is_change}
+
+-- an act accesses one word at most
+pub one_word : (h : History) (place : Place) (a b : ℕ) → is_access h a place ≡ true → is_access h b place ≡ true → a ≡ b
+one_word h place a b = of (act_at h place)
+  where
+    by : (act : Act) → accesses a act ≡ true → accesses b act ≡ true → a ≡ b
+    by (Read word value) p q = eqb-true a word p ∙ sym (eqb-true b word q)
+    by (Write word value) p q = eqb-true a word p ∙ sym (eqb-true b word q)
+    by (Add word old addend) p q = eqb-true a word p ∙ sym (eqb-true b word q)
+    by (Print value) p q = absurd cc
+    by (Spawn child) p q = absurd cc
+    by Sync p q = absurd cc
+
+    of : (act : Option Act) → holds_at (accesses a) act ≡ true → holds_at (accesses b) act ≡ true → a ≡ b
+    of None p q = absurd cc
+    of (Some act) p q = by act p q
