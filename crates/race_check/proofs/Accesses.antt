@@ -5,8 +5,9 @@ use Rattle.std.specs.Prelude.{Bool, true, false}
 use Rattle.span_tree.specs.declared.act.Act.{Act}
 use Rattle.span_tree.specs.declared.act.Act.TheVariants.{Read, Write, Add, Print, Spawn, Sync}
 use Rattle.span_tree.specs.declared.act.Place.{Place}
-use Rattle.span_tree.specs.History.{History, act_at}
-use Rattle.span_tree.specs.Memory.{accesses, holds_at, is_access, is_change}
+use Rattle.std.proofs.lemmas.Option.{slice_get_within}
+use Rattle.span_tree.specs.History.{History, IsPlace, act_at, row_at}
+use Rattle.span_tree.specs.Memory.{accesses, changes, holds_at, is_access, is_change}
 
 -- an act accesses one word at most
 pub one_word : (h : History) (place : Place) (a b : ℕ) → is_access h a place ≡ true → is_access h b place ≡ true → a ≡ b
@@ -23,3 +24,27 @@ one_word h place a b = of (act_at h place)
     of : (act : Option Act) → holds_at (accesses a) act ≡ true → holds_at (accesses b) act ≡ true → a ≡ b
     of None p q = absurd cc
     of (Some act) p q = by act p q
+
+-- a change is an access
+pub is_accessed : (h : History) (word : ℕ) (place : Place) → is_change h word place ≡ true → is_access h word place ≡ true
+is_accessed h word place = of (act_at h place)
+  where
+    by : (act : Act) → changes word act ≡ true → accesses word act ≡ true
+    by (Write at value) e = e
+    by (Add at old addend) e = e
+    by (Read at value) e = absurd cc
+    by (Print value) e = absurd cc
+    by (Spawn child) e = absurd cc
+    by Sync e = absurd cc
+
+    of : (act : Option Act) → holds_at (changes word) act ≡ true → holds_at (accesses word) act ≡ true
+    of None e = absurd cc
+    of (Some act) e = by act e
+
+-- an access stands in its row
+pub is_there : (h : History) (word : ℕ) (place : Place) → is_access h word place ≡ true → IsPlace h place
+is_there h word place = of (act_at h place) refl
+  where
+    of : (act : Option Act) → act_at h place ≡ act → holds_at (accesses word) act ≡ true → IsPlace h place
+    of None is e = absurd cc
+    of (Some act) is e = slice_get_within (row_at h place.row).acts place.act act is

@@ -1,5 +1,5 @@
 -- Walks along a list of places, of which the first so many are passed.
-use Rattle.std.proofs.Common.{◌≡◌, ◌⊎◌, ℕ, zero, suc, ◌+◌, ◌<◌, List, [], ◌∷◌, ◌++◌, length, take, get_or, refl, sym, subst, inl, inr, arith}
+use Rattle.std.proofs.Common.{◌≡◌, ◌⊎◌, ℕ, zero, suc, ◌+◌, ◌<◌, ◌≤◌, List, [], ◌∷◌, ◌++◌, length, take, get_or, refl, sym, subst, inl, inr, arith}
 use Rattle.std.proofs.lemmas.List.{take_more}
 use Rattle.std.proofs.lemmas.List.Elements.{Contains-get_or, Contains-append_left, Contains-push, Contains-push_cases}
 use Rattle.std.specs.List.{Contains}
@@ -54,3 +54,13 @@ still_passed xs i d x lt is = subst (λ l. Contains l x) (sym (take_more xs i d 
 
 pub now_passed : (xs : List Place) (i : ℕ) (d : Place) → i < length xs → Contains (take (i + 1) xs) (get_or xs i d)
 now_passed xs i d lt = subst (λ l. Contains l (get_or xs i d)) (sym (take_more xs i d lt)) (Contains-push (take i xs) (get_or xs i d))
+
+-- in the end all are passed
+pub all_passed : (xs : List Place) (i : ℕ) (x : Place) → length xs ≤ i → Contains xs x → Contains (take i xs) x
+all_passed [] i x le is = absurd (nothing_in_none x is)
+all_passed (p ∷ xs) zero x le is = absurd (omega (arith, le))
+all_passed (p ∷ xs) (suc i) x le is = go (first_or_later p xs x is) (λ c. all_passed xs i x (omega (arith, le)) c)
+  where
+    go : (p ≡ x) ⊎ Contains xs x → (Contains xs x → Contains (take i xs) x) → Contains (p ∷ take i xs) x
+    go (inl same) rest = subst (λ y. Contains (p ∷ take i xs) y) same (is_first p (take i xs))
+    go (inr c) rest = is_later p (take i xs) x (rest c)

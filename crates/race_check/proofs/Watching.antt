@@ -1,19 +1,19 @@
 -- What is kept while the accesses are passed in serial order stands for all of them, and meets the first race.
 use Rattle.std.proofs.Common.{◌≡◌, ◌≢◌, ◌⊎◌, ℕ, Option, Some, None, refl, sym, ap, ◌∙◌, subst, inl, inr}
-use Rattle.std.specs.Prelude.{Bool, true, false}
+use Rattle.std.proofs.lemmas.Bool.{cases_eq, eq-eqb, ne_eqb}
+use Rattle.std.specs.Prelude.{Bool, ◌==◌, true, false, if◌then◌else◌, IfSome}
 use Rattle.span_tree.specs.declared.act.Place.{Place}
 use Rattle.span_tree.specs.Dag.{IsBefore, IsParallel, Precedes}
 use Rattle.span_tree.specs.History.{History, IsNumbered, IsPlace, serial_order}
 use Rattle.span_tree.specs.Memory.{IsRace, is_access, is_change}
 use Rattle.span_tree.proofs.Deciding.{one_of_three, precedes_on}
 use Rattle.span_tree.proofs.Orders.{before_on, not_before_itself, one_is_first, only_places, first_is_in}
-use Rattle.span_tree.proofs.RaceFree.{is_accessed, is_there}
 use Rattle.span_tree.proofs.ThreePlaces.{not_parallel_in_row, parallel_is_symmetric, three_places}
 use Rattle.race_check.specs.declared.access.Access.{Access}
 use Rattle.race_check.specs.declared.watch.Kept.{Kept}
 use Rattle.race_check.specs.Access.{IsAccessOf}
 use Rattle.race_check.specs.Watch.{IsBeside, IsKeptWith, IsMet, IsWatch, StandsFor}
-use Rattle.race_check.proofs.Accesses.{one_word}
+use Rattle.race_check.proofs.Accesses.{is_accessed, one_word}
 
 -- a watch by another name of what is passed
 pub same_watch : (h : History) (P Q : Place → Type 0) (kept : ℕ → Kept) → ((x : Place) → P x → Q x) → ((x : Place) → Q x → P x) → IsWatch h P kept → IsWatch h Q kept
@@ -88,11 +88,15 @@ module _ (h : History) (numbered : IsNumbered h) (p : Place) (is_p : IsPlace h p
   stands_on old new e x stands y is_y later parallel = subst (λ o. IsBeside h o y) (sym e) (stands y is_y (λ before. later (inl before)) parallel)
 
   module _ (kept : ℕ → Kept) (watch : IsWatch h Before kept) where
-    changer_place : (word : ℕ) (x : Place) → (kept word).changer ≡ Some x → IsPlace h x
-    changer_place word x e = place_before x (watch.changer word x e).0
+    some_place : (kept : Option Place) → ((x : Place) → kept ≡ Some x → IsPlace h x) → IfSome kept (IsPlace h)
+    some_place None is = tt
+    some_place (Some x) is = is x refl
 
-    reader_place : (word : ℕ) (x : Place) → (kept word).reader ≡ Some x → IsPlace h x
-    reader_place word x e = place_before x (watch.reader word x e).0
+    pub changer_is_place : (word : ℕ) (mine : Kept) → mine ≡ kept word → IfSome mine.changer (IsPlace h)
+    changer_is_place word mine same = some_place mine.changer (λ x e. place_before x (watch.changer word x (sym (ap (λ (k : Kept). k.changer) same) ∙ e)).0)
+
+    pub reader_is_place : (word : ℕ) (mine : Kept) → mine ≡ kept word → IfSome mine.reader (IsPlace h)
+    reader_is_place word mine same = some_place mine.reader (λ x e. place_before x (watch.reader word x (sym (ap (λ (k : Kept). k.reader) same) ∙ e)).0)
 
     -- an act that is no access changes nothing
     pub passes_none : ((word : ℕ) → is_access h word p ≡ false) → IsWatch h Upto kept
@@ -109,9 +113,7 @@ module _ (h : History) (numbered : IsNumbered h) (p : Place) (is_p : IsPlace h p
         before word x (inr same) a = absurd (let clash : false ≡ true = sym (none word) ∙ ap (λ z. is_access h word z) same ∙ a in cc)
 
     module _ (access : Access) (is : IsAccessOf h p access) where
-      abbrev word : ℕ
       abbrev mine : Kept
-      word = access.word
       mine = kept access.word
 
       -- a kept access that meets this one races with it
@@ -277,3 +279,17 @@ module _ (h : History) (numbered : IsNumbered h) (p : Place) (is_p : IsPlace h p
               reads_at w x passed a c (inl same) =
                   subst (λ v. is_access h v x ≡ true → is_change h v x ≡ false → StandsFor h Upto (new v).reader x) (sym same) (reads_here x passed) a c
               reads_at w x passed a c (inr ne) = stands_on (kept w).reader (new w).reader (ap (λ (k : Kept). k.reader) (others w ne)) x (watch.reads w x (not_p w x ne passed a) a c)
+
+      -- the watch goes on over an access that meets no race, in the words of the code
+      pub passes_on : (old latest : Kept) → old ≡ kept access.word → ¬ IsMet h old access → IsKeptWith h access old latest →
+          (new : ℕ → Kept) → ((w : ℕ) → new w ≡ (if access.word == w then latest else kept w)) → IsWatch h Upto new
+      passes_on old latest same missed with new updated =
+          passes_access (λ met. missed (subst (λ k. IsMet h k access) (sym same) met)) new others
+          (subst (λ k. IsKeptWith h access k (new access.word)) same (subst (λ k. IsKeptWith h access old k) (sym here) with))
+          (λ w. cases_eq w access.word)
+        where
+          here : new access.word ≡ latest
+          here = updated access.word ∙ ap (λ b. if b then latest else kept access.word) (eq-eqb access.word access.word refl)
+
+          others : (w : ℕ) → w ≢ access.word → new w ≡ kept w
+          others w ne = updated w ∙ ap (λ b. if b then latest else kept w) (ne_eqb access.word w (λ e. ne (sym e)))

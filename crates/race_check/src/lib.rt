@@ -2,6 +2,7 @@
 #![tactic(auto)]
 
 ghost use Rattle.std.specs.Prelude.{◌≡◌, ◌↔◌, Some, None, IfOk, IfSome};
+ghost use Rattle.span_tree.specs.History.{IsNumbered};
 ghost use Rattle.span_tree.specs.Memory.{HasNoRace, IsFirstRace, IsRace};
 ghost use Rattle.race_check.specs.Access.{IsAccessOf, IsLeastRacing};
 
@@ -30,6 +31,7 @@ pub fn find_race(alloc: Global, history: &History) -> Result<Option<Race>, Alloc
     ensures some { IfOk result (λ found. (race : Race) → found ≡ Some race → IsFirstRace history.now race.word race.first race.second) }
     ensures none { IfOk result (λ found. (found ≡ None) ↔ HasNoRace history.now) }
 {
+    let _ = history.rows();
     let mut watch = Watch::new(alloc);
     for place in history.order() {
         if let Some(second) = watch.pass(history, *place)? {
@@ -41,7 +43,8 @@ pub fn find_race(alloc: Global, history: &History) -> Result<Option<Race>, Alloc
 
 /// The race of an access with the serially least place that races with it.
 fn race_with(history: &History, second: Access) -> Option<Race>
-    requires { IsAccessOf history.now second.place second }
+    requires numbered { IsNumbered history.now }
+    requires access { IsAccessOf history.now second.place second }
     ensures some { IfSome result (λ race. (race.second ≡ second.place) × (race.word ≡ second.word) × IsLeastRacing history.now second.word race.first second.place) }
     ensures none { result ≡ None → (x : Place) → IsRace history.now second.word x second.place → ⊥ }
 {
