@@ -2,14 +2,16 @@
 use Rattle.std.proofs.Common.{◌≡◌, ◌⊎◌, ℕ, ◌+◌, ◌<◌, ◌≤◌, List, Option, Some, None, length, take, get_or, refl, sym, ap, ◌∙◌, subst, inl, inr, arith}
 use Rattle.std.proofs.lemmas.List.Elements.{Contains-get_or}
 use Rattle.std.specs.List.{Contains}
-use Rattle.std.specs.Prelude.{true}
+use Rattle.std.specs.Prelude.{◌↔◌, true, IfSome}
 use Rattle.span_tree.specs.declared.act.Place.{Place}
 use Rattle.span_tree.specs.Dag.{IsBefore, StandsBefore}
 use Rattle.span_tree.specs.History.{History, IsNumbered, IsPlace, serial_order}
 use Rattle.span_tree.specs.Memory.{HasNoRace, IsFirstRace, IsRace, is_access}
 use Rattle.span_tree.proofs.Orders.{all_in, before_on, nothing_in_none, not_before_itself, one_is_first, only_places, first_is_in}
+use Rattle.race_check.specs.declared.Race.{Race}
+use Rattle.race_check.specs.declared.access.Access.{Access}
 use Rattle.race_check.specs.declared.watch.Kept.{Kept}
-use Rattle.race_check.specs.Access.{IsLeastRacing}
+use Rattle.race_check.specs.Access.{IsAccessOf, IsLeastRacing}
 use Rattle.race_check.specs.Watch.{IsWatch, nothing}
 use Rattle.race_check.proofs.Accesses.{is_there, one_word}
 use Rattle.race_check.proofs.Passing.{all_passed, now_passed, passed_more, passed_or_behind, passed_stands, stands_passed, still_passed}
@@ -115,3 +117,36 @@ module _ (h : History) (numbered : IsNumbered h) where
         go other x y race before (inl same) =
             let here : IsRace h other x second = subst (λ z. IsRace h other x z) (sym same) race in
             inr (same, least.least x (subst (λ w. IsRace h w x second) (one_word h second other word here.second accesses) here))
+
+  -- ---- what is told of the race
+
+  -- an access at p that races with one before it
+  abbrev pub IsSecond : Place → Access → Type 0
+  IsSecond p second = IsAccessOf h p second × (x : Place) × IsBefore h x p × IsRace h second.word x p
+
+  -- the access and the race as the code has them
+  module _ (xs : List Place) (order : xs ≡ serial_order h) (kept : ℕ → Kept) (i : ℕ) (d : Place) (lt : i < length xs) (watch : IsWatch h (Contains (take i xs)) kept)
+      (met : Option Access) (second : Access) (is_met : met ≡ Some second) (meets : IfSome met (IsSecond (get_or xs i d))) (found : Option Race)
+      (some : IfSome found (λ race. (race.second ≡ second.place) × (race.word ≡ second.word) × IsLeastRacing h second.word race.first second.place))
+      (none : found ≡ None → (x : Place) → IsRace h second.word x second.place → ⊥) where
+    abbrev p : Place
+    p = get_or xs i d
+
+    is_second : IsSecond p second
+    is_second = subst (λ o. IfSome o (IsSecond p)) is_met meets
+
+    pub first_found : (race : Race) → found ≡ Some race → IsFirstRace h race.word race.first race.second
+    first_found race e =
+        let told : (race.second ≡ second.place) × (race.word ≡ second.word) × IsLeastRacing h second.word race.first second.place =
+            subst (λ o. IfSome o (λ race. (race.second ≡ second.place) × (race.word ≡ second.word) × IsLeastRacing h second.word race.first second.place)) e some in
+        let is = is_second.0 in
+        let at_p : IsFirstRace h second.word race.first p =
+            first_race kept p (next_is_place xs order kept i d lt) (watch_next xs order kept i d lt watch) second.word is.accesses (is_second.1, is_second.2, is_second.3) race.first
+            (subst (λ q. IsLeastRacing h second.word race.first q) is.stands told.2) in
+        subst (λ w. IsFirstRace h w race.first race.second) (sym told.1) (subst (λ q. IsFirstRace h second.word race.first q) (sym (told.0 ∙ is.stands)) at_p)
+
+    pub some_found : (found ≡ None) ↔ HasNoRace h
+    some_found = (
+      λ e. absurd (none e is_second.1 (subst (λ q. IsRace h second.word is_second.1 q) (sym is_second.0.stands) is_second.3)),
+      λ free. absurd (free second.word is_second.1 p is_second.3),
+    )
