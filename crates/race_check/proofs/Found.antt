@@ -1,5 +1,5 @@
 -- The race that is found is the first one, and where none is found there is none.
-use Rattle.std.proofs.Common.{◌≡◌, ◌⊎◌, ℕ, ◌+◌, ◌<◌, ◌≤◌, List, Option, Some, None, length, take, get_or, refl, sym, ap, ◌∙◌, subst, inl, inr, arith}
+use Rattle.std.proofs.Common.{◌≡◌, ◌⊎◌, ℕ, ◌+◌, ◌<◌, ◌≤◌, List, Option, Some, None, length, take, get_or, sym, ap, ◌∙◌, subst, inl, inr}
 use Rattle.std.proofs.lemmas.List.Elements.{Contains-get_or}
 use Rattle.std.specs.List.{Contains}
 use Rattle.std.specs.Prelude.{◌↔◌, true, IfSome}
@@ -7,21 +7,21 @@ use Rattle.span_tree.specs.declared.act.Place.{Place}
 use Rattle.span_tree.specs.Dag.{IsBefore, StandsBefore}
 use Rattle.span_tree.specs.History.{History, IsNumbered, IsPlace, serial_order}
 use Rattle.span_tree.specs.Memory.{HasNoRace, IsFirstRace, IsRace, is_access}
-use Rattle.span_tree.proofs.Orders.{all_in, before_on, nothing_in_none, not_before_itself, one_is_first, only_places, first_is_in}
+use Rattle.span_tree.proofs.Orders.{all_in, before_on, nothing_in_none, not_before_itself, one_is_first, only_places}
 use Rattle.race_check.specs.declared.Race.{Race}
 use Rattle.race_check.specs.declared.access.Access.{Access}
-use Rattle.race_check.specs.declared.watch.Kept.{Kept}
+use Rattle.race_check.specs.declared.shadow.Shadow.{Shadow}
 use Rattle.race_check.specs.Access.{IsAccessOf, IsLeastRacing}
-use Rattle.race_check.specs.Watch.{IsWatch, nothing}
+use Rattle.race_check.specs.Shadow.{IsShadowed, no_shadow}
 use Rattle.race_check.proofs.Accesses.{is_there, one_word}
 use Rattle.race_check.proofs.Passing.{all_passed, now_passed, passed_more, passed_or_behind, passed_stands, stands_passed, still_passed}
-use Rattle.race_check.proofs.Watching.{same_watch}
+use Rattle.race_check.proofs.Shadowing.{same_shadowed}
 
 -- before the first place nothing is kept
-pub nothing_passed : (h : History) (xs : List Place) (kept : ℕ → Kept) → ((word : ℕ) → kept word ≡ nothing) → IsWatch h (Contains (take 0 xs)) kept
+pub nothing_passed : (h : History) (xs : List Place) (kept : ℕ → Shadow) → ((word : ℕ) → kept word ≡ no_shadow) → IsShadowed h (Contains (take 0 xs)) kept
 nothing_passed h xs kept none = record {
-  changer = λ word x e. absurd (no_place (kept word).changer x (ap (λ (k : Kept). k.changer) (none word)) e);
-  reader = λ word x e. absurd (no_place (kept word).reader x (ap (λ (k : Kept). k.reader) (none word)) e);
+  writer = λ word x e. absurd (no_place (kept word).writer x (ap (λ (k : Shadow). k.writer) (none word)) e);
+  reader = λ word x e. absurd (no_place (kept word).reader x (ap (λ (k : Shadow). k.reader) (none word)) e);
   changes = λ word x c. absurd (nothing_in_none x c);
   reads = λ word x c. absurd (nothing_in_none x c);
   free = λ word x y c. absurd (nothing_in_none x c);
@@ -59,7 +59,7 @@ module _ (h : History) (numbered : IsNumbered h) where
 
   -- ---- the walk
 
-  module _ (xs : List Place) (order : xs ≡ serial_order h) (kept : ℕ → Kept) where
+  module _ (xs : List Place) (order : xs ≡ serial_order h) (kept : ℕ → Shadow) where
     module _ (i : ℕ) (d : Place) (lt : i < length xs) where
       abbrev next : Place
       next = get_or xs i d
@@ -74,11 +74,11 @@ module _ (h : History) (numbered : IsNumbered h) where
       before_passed x is =
           stands_passed xs i d x lt (λ again. not_before_itself h numbered next (subst (λ l. StandsBefore l next next) order again)) (subst (λ l. StandsBefore l x next) (sym order) is)
 
-      pub watch_next : IsWatch h (Contains (take i xs)) kept → IsWatch h (λ x. IsBefore h x next) kept
-      watch_next watch = same_watch h (Contains (take i xs)) (λ x. IsBefore h x next) kept passed_before before_passed watch
+      pub shadowed_before : IsShadowed h (Contains (take i xs)) kept → IsShadowed h (λ x. IsBefore h x next) kept
+      shadowed_before shadows = same_shadowed h (Contains (take i xs)) (λ x. IsBefore h x next) kept passed_before before_passed shadows
 
-      pub watch_passed : IsWatch h (λ x. IsBefore h x next ⊎ (next ≡ x)) kept → IsWatch h (Contains (take (i + 1) xs)) kept
-      watch_passed watch = same_watch h (λ x. IsBefore h x next ⊎ (next ≡ x)) (Contains (take (i + 1) xs)) kept to from watch
+      pub shadowed_upto : IsShadowed h (λ x. IsBefore h x next ⊎ (next ≡ x)) kept → IsShadowed h (Contains (take (i + 1) xs)) kept
+      shadowed_upto shadows = same_shadowed h (λ x. IsBefore h x next ⊎ (next ≡ x)) (Contains (take (i + 1) xs)) kept to from shadows
         where
           to : (x : Place) → IsBefore h x next ⊎ (next ≡ x) → Contains (take (i + 1) xs) x
           to x (inl is) = still_passed xs i d x lt (before_passed x is)
@@ -91,15 +91,15 @@ module _ (h : History) (numbered : IsNumbered h) where
               go (inl passed) = inl (passed_before x passed)
               go (inr same) = inr same
 
-    pub no_race : (i : ℕ) → length xs ≤ i → IsWatch h (Contains (take i xs)) kept → HasNoRace h
-    no_race i le watch word x y race = watch.free word x y (passed x (is_there h word x race.first)) (passed y (is_there h word y race.second)) race
+    pub no_race : (i : ℕ) → length xs ≤ i → IsShadowed h (Contains (take i xs)) kept → HasNoRace h
+    no_race i le shadows word x y race = shadows.free word x y (passed x (is_there h word x race.first)) (passed y (is_there h word y race.second)) race
       where
         passed : (z : Place) → IsPlace h z → Contains (take i xs) z
         passed z is = all_passed xs i z le (subst (λ l. Contains l z) (sym order) (all_in h numbered z is))
 
   -- ---- the first race
 
-  module _ (kept : ℕ → Kept) (second : Place) (is_second : IsPlace h second) (watch : IsWatch h (λ x. IsBefore h x second) kept)
+  module _ (kept : ℕ → Shadow) (second : Place) (is_second : IsPlace h second) (shadows : IsShadowed h (λ x. IsBefore h x second) kept)
       (word : ℕ) (accesses : is_access h word second ≡ true) (witness : (x : Place) × IsBefore h x second × IsRace h word x second) (first : Place) (least : IsLeastRacing h word first second) where
     first_before : IsBefore h first second
     first_before = go (least.least witness.0 witness.2)
@@ -113,7 +113,7 @@ module _ (h : History) (numbered : IsNumbered h) where
       where
         go : (other : ℕ) (x y : Place) → IsRace h other x y → IsBefore h x y → (second ≡ y) ⊎ (IsBefore h second y ⊎ IsBefore h y second) → IsBefore h second y ⊎ ((second ≡ y) × ((first ≡ x) ⊎ IsBefore h first x))
         go other x y race before (inr (inl later)) = inl later
-        go other x y race before (inr (inr earlier)) = absurd (watch.free other x y (before_on h numbered x y second before earlier) earlier race)
+        go other x y race before (inr (inr earlier)) = absurd (shadows.free other x y (before_on h numbered x y second before earlier) earlier race)
         go other x y race before (inl same) =
             let here : IsRace h other x second = subst (λ z. IsRace h other x z) (sym same) race in
             inr (same, least.least x (subst (λ w. IsRace h w x second) (one_word h second other word here.second accesses) here))
@@ -125,7 +125,7 @@ module _ (h : History) (numbered : IsNumbered h) where
   IsSecond p second = IsAccessOf h p second × (x : Place) × IsBefore h x p × IsRace h second.word x p
 
   -- the access and the race as the code has them
-  module _ (xs : List Place) (order : xs ≡ serial_order h) (kept : ℕ → Kept) (i : ℕ) (d : Place) (lt : i < length xs) (watch : IsWatch h (Contains (take i xs)) kept)
+  module _ (xs : List Place) (order : xs ≡ serial_order h) (kept : ℕ → Shadow) (i : ℕ) (d : Place) (lt : i < length xs) (shadows : IsShadowed h (Contains (take i xs)) kept)
       (met : Option Access) (second : Access) (is_met : met ≡ Some second) (meets : IfSome met (IsSecond (get_or xs i d))) (found : Option Race)
       (some : IfSome found (λ race. (race.second ≡ second.place) × (race.word ≡ second.word) × IsLeastRacing h second.word race.first second.place))
       (none : found ≡ None → (x : Place) → IsRace h second.word x second.place → ⊥) where
@@ -138,11 +138,11 @@ module _ (h : History) (numbered : IsNumbered h) where
     pub first_found : (race : Race) → found ≡ Some race → IsFirstRace h race.word race.first race.second
     first_found race e =
         let told : (race.second ≡ second.place) × (race.word ≡ second.word) × IsLeastRacing h second.word race.first second.place =
-            subst (λ o. IfSome o (λ race. (race.second ≡ second.place) × (race.word ≡ second.word) × IsLeastRacing h second.word race.first second.place)) e some in
+        subst (λ o. IfSome o (λ race. (race.second ≡ second.place) × (race.word ≡ second.word) × IsLeastRacing h second.word race.first second.place)) e some in
         let is = is_second.0 in
         let at_p : IsFirstRace h second.word race.first p =
-            first_race kept p (next_is_place xs order kept i d lt) (watch_next xs order kept i d lt watch) second.word is.accesses (is_second.1, is_second.2, is_second.3) race.first
-            (subst (λ q. IsLeastRacing h second.word race.first q) is.stands told.2) in
+        first_race kept p (next_is_place xs order kept i d lt) (shadowed_before xs order kept i d lt shadows) second.word is.accesses (is_second.1, is_second.2, is_second.3) race.first
+        (subst (λ q. IsLeastRacing h second.word race.first q) is.stands told.2) in
         subst (λ w. IsFirstRace h w race.first race.second) (sym told.1) (subst (λ q. IsFirstRace h second.word race.first q) (sym (told.0 ∙ is.stands)) at_p)
 
     pub some_found : (found ≡ None) ↔ HasNoRace h

@@ -1,4 +1,4 @@
 pub mod Accesses
 pub mod Found
 pub mod Passing
-pub mod Watching
+pub mod Shadowing

@@ -1,2 +1,2 @@
 pub mod Access
-pub mod Watch
+pub mod Shadow

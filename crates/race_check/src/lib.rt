@@ -7,12 +7,12 @@ ghost use Rattle.span_tree.specs.Memory.{HasNoRace, IsFirstRace, IsRace};
 ghost use Rattle.race_check.specs.Access.{IsAccessOf, IsLeastRacing};
 
 mod access;
-mod watch;
+mod shadow;
 
 use access::Access;
+use shadow::ShadowMemory;
 use span_tree::{History, Place};
 use std::alloc::{AllocError, Global};
-use watch::Watch;
 
 /// Two parallel accesses of one word, of which at least one is a write or an add. The first is serially before the
 /// second.
@@ -31,10 +31,11 @@ pub fn find_race(alloc: Global, history: &History) -> Result<Option<Race>, Alloc
     ensures some { IfOk result (λ found. (race : Race) → found ≡ Some race → IsFirstRace history.now race.word race.first race.second) }
     ensures none { IfOk result (λ found. (found ≡ None) ↔ HasNoRace history.now) }
 {
+    // What it says of the history is needed throughout: it is numbered.
     let _ = history.rows();
-    let mut watch = Watch::new(alloc);
+    let mut memory = ShadowMemory::new(alloc);
     for place in history.order() {
-        if let Some(second) = watch.pass(history, *place)? {
+        if let Some(second) = memory.pass(history, *place)? {
             return Ok(race_with(history, second));
         }
     }

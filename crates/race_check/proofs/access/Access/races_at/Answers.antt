@@ -1,4 +1,4 @@
-use Rattle.std.proofs.Common.{◌≡◌, true, false, sym, ◌∙◌}
+use Rattle.std.proofs.Common.{sym, ◌∙◌}
 use Rattle.race_check.proofs.access.Access.races_at.Goals as goal
 
 pub returns-in-None : goal.returns-in-None

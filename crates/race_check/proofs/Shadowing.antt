@@ -7,22 +7,22 @@ use Rattle.span_tree.specs.Dag.{IsBefore, IsParallel, Precedes}
 use Rattle.span_tree.specs.History.{History, IsNumbered, IsPlace, serial_order}
 use Rattle.span_tree.specs.Memory.{IsRace, is_access, is_change}
 use Rattle.span_tree.proofs.Deciding.{one_of_three, precedes_on}
-use Rattle.span_tree.proofs.Orders.{before_on, not_before_itself, one_is_first, only_places, first_is_in}
+use Rattle.span_tree.proofs.Orders.{not_before_itself, one_is_first, only_places, first_is_in}
 use Rattle.span_tree.proofs.ThreePlaces.{not_parallel_in_row, parallel_is_symmetric, three_places}
 use Rattle.race_check.specs.declared.access.Access.{Access}
-use Rattle.race_check.specs.declared.watch.Kept.{Kept}
+use Rattle.race_check.specs.declared.shadow.Shadow.{Shadow}
 use Rattle.race_check.specs.Access.{IsAccessOf}
-use Rattle.race_check.specs.Watch.{IsBeside, IsKeptWith, IsMet, IsWatch, StandsFor}
+use Rattle.race_check.specs.Shadow.{IsBeside, IsShadowWith, IsMet, IsShadowed, StandsFor}
 use Rattle.race_check.proofs.Accesses.{is_accessed, one_word}
 
--- a watch by another name of what is passed
-pub same_watch : (h : History) (P Q : Place → Type 0) (kept : ℕ → Kept) → ((x : Place) → P x → Q x) → ((x : Place) → Q x → P x) → IsWatch h P kept → IsWatch h Q kept
-same_watch h P Q kept to from watch = record {
-  changer = λ word x e. (let c = watch.changer word x e in (to x c.0, c.1));
-  reader = λ word x e. (let c = watch.reader word x e in (to x c.0, c.1));
-  changes = λ word x p c y is later beside. watch.changes word x (from x p) c y is (λ q. later (to y q)) beside;
-  reads = λ word x p a c y is later beside. watch.reads word x (from x p) a c y is (λ q. later (to y q)) beside;
-  free = λ word x y p q race. watch.free word x y (from x p) (from y q) race;
+-- what is shadowed, by another name of what is passed
+pub same_shadowed : (h : History) (P Q : Place → Type 0) (kept : ℕ → Shadow) → ((x : Place) → P x → Q x) → ((x : Place) → Q x → P x) → IsShadowed h P kept → IsShadowed h Q kept
+same_shadowed h P Q kept to from shadows = record {
+  writer = λ word x e. (let c = shadows.writer word x e in (to x c.0, c.1));
+  reader = λ word x e. (let c = shadows.reader word x e in (to x c.0, c.1));
+  changes = λ word x p c y is later beside. shadows.changes word x (from x p) c y is (λ q. later (to y q)) beside;
+  reads = λ word x p a c y is later beside. shadows.reads word x (from x p) a c y is (λ q. later (to y q)) beside;
+  free = λ word x y p q race. shadows.free word x y (from x p) (from y q) race;
 }
 
 race_back : (h : History) (word : ℕ) (x y : Place) → IsRace h word x y → IsRace h word y x
@@ -87,25 +87,25 @@ module _ (h : History) (numbered : IsNumbered h) (p : Place) (is_p : IsPlace h p
   stands_on : (old new : Option Place) → new ≡ old → (x : Place) → StandsFor h Before old x → StandsFor h Upto new x
   stands_on old new e x stands y is_y later parallel = subst (λ o. IsBeside h o y) (sym e) (stands y is_y (λ before. later (inl before)) parallel)
 
-  module _ (kept : ℕ → Kept) (watch : IsWatch h Before kept) where
+  module _ (kept : ℕ → Shadow) (shadows : IsShadowed h Before kept) where
     some_place : (kept : Option Place) → ((x : Place) → kept ≡ Some x → IsPlace h x) → IfSome kept (IsPlace h)
     some_place None is = tt
     some_place (Some x) is = is x refl
 
-    pub changer_is_place : (word : ℕ) (mine : Kept) → mine ≡ kept word → IfSome mine.changer (IsPlace h)
-    changer_is_place word mine same = some_place mine.changer (λ x e. place_before x (watch.changer word x (sym (ap (λ (k : Kept). k.changer) same) ∙ e)).0)
+    pub writer_is_place : (word : ℕ) (mine : Shadow) → mine ≡ kept word → IfSome mine.writer (IsPlace h)
+    writer_is_place word mine same = some_place mine.writer (λ x e. place_before x (shadows.writer word x (sym (ap (λ (k : Shadow). k.writer) same) ∙ e)).0)
 
-    pub reader_is_place : (word : ℕ) (mine : Kept) → mine ≡ kept word → IfSome mine.reader (IsPlace h)
-    reader_is_place word mine same = some_place mine.reader (λ x e. place_before x (watch.reader word x (sym (ap (λ (k : Kept). k.reader) same) ∙ e)).0)
+    pub reader_is_place : (word : ℕ) (mine : Shadow) → mine ≡ kept word → IfSome mine.reader (IsPlace h)
+    reader_is_place word mine same = some_place mine.reader (λ x e. place_before x (shadows.reader word x (sym (ap (λ (k : Shadow). k.reader) same) ∙ e)).0)
 
     -- an act that is no access changes nothing
-    pub passes_none : ((word : ℕ) → is_access h word p ≡ false) → IsWatch h Upto kept
+    pub passes_none : ((word : ℕ) → is_access h word p ≡ false) → IsShadowed h Upto kept
     passes_none none = record {
-      changer = λ word x e. (let c = watch.changer word x e in (inl c.0, c.1));
-      reader = λ word x e. (let c = watch.reader word x e in (inl c.0, c.1));
-      changes = λ word x passed c. stands_on (kept word).changer (kept word).changer refl x (watch.changes word x (before word x passed (is_accessed h word x c)) c);
-      reads = λ word x passed a c. stands_on (kept word).reader (kept word).reader refl x (watch.reads word x (before word x passed a) a c);
-      free = λ word x y passed passed' race. watch.free word x y (before word x passed race.first) (before word y passed' race.second) race;
+      writer = λ word x e. (let c = shadows.writer word x e in (inl c.0, c.1));
+      reader = λ word x e. (let c = shadows.reader word x e in (inl c.0, c.1));
+      changes = λ word x passed c. stands_on (kept word).writer (kept word).writer refl x (shadows.changes word x (before word x passed (is_accessed h word x c)) c);
+      reads = λ word x passed a c. stands_on (kept word).reader (kept word).reader refl x (shadows.reads word x (before word x passed a) a c);
+      free = λ word x y passed passed' race. shadows.free word x y (before word x passed race.first) (before word y passed' race.second) race;
     }
       where
         before : (word : ℕ) (x : Place) → Upto x → is_access h word x ≡ true → Before x
@@ -113,26 +113,26 @@ module _ (h : History) (numbered : IsNumbered h) (p : Place) (is_p : IsPlace h p
         before word x (inr same) a = absurd (let clash : false ≡ true = sym (none word) ∙ ap (λ z. is_access h word z) same ∙ a in cc)
 
     module _ (access : Access) (is : IsAccessOf h p access) where
-      abbrev mine : Kept
+      abbrev mine : Shadow
       mine = kept access.word
 
       -- a kept access that meets this one races with it
       pub meets_race : IsMet h mine access → (x : Place) × IsBefore h x p × IsRace h access.word x p
-      meets_race met = of (subst (λ q. IsBeside h mine.changer q ⊎ ((access.changes ≡ true) × IsBeside h mine.reader q)) is.stands met)
+      meets_race met = of (subst (λ q. IsBeside h mine.writer q ⊎ ((access.changes ≡ true) × IsBeside h mine.reader q)) is.stands met)
         where
-          of : IsBeside h mine.changer p ⊎ ((access.changes ≡ true) × IsBeside h mine.reader p) → (x : Place) × IsBefore h x p × IsRace h access.word x p
+          of : IsBeside h mine.writer p ⊎ ((access.changes ≡ true) × IsBeside h mine.reader p) → (x : Place) × IsBefore h x p × IsRace h access.word x p
           of (inl beside) =
-              let k = kept_beside mine.changer p beside in
-              let c = watch.changer access.word k.0 k.1 in
+              let k = kept_beside mine.writer p beside in
+              let c = shadows.writer access.word k.0 k.1 in
               (k.0, c.0, record { first = is_accessed h access.word k.0 c.1; second = is.accesses; change = inl c.1; parallel = k.2 })
           of (inr beside) =
               let k = kept_beside mine.reader p beside.1 in
-              let c = watch.reader access.word k.0 k.1 in
+              let c = shadows.reader access.word k.0 k.1 in
               (k.0, c.0, record { first = c.1; second = is.accesses; change = inr (sym is.changes ∙ beside.0); parallel = k.2 })
 
       module _ (missed : ¬ IsMet h mine access) where
-        no_changer : ¬ IsBeside h mine.changer p
-        no_changer beside = missed (inl (subst (λ q. IsBeside h mine.changer q) (sym is.stands) beside))
+        no_writer : ¬ IsBeside h mine.writer p
+        no_writer beside = missed (inl (subst (λ q. IsBeside h mine.writer q) (sym is.stands) beside))
 
         no_reader : is_change h access.word p ≡ true → ¬ IsBeside h mine.reader p
         no_reader change beside = missed (inr (is.changes ∙ change, subst (λ q. IsBeside h mine.reader q) (sym is.stands) beside))
@@ -145,16 +145,16 @@ module _ (h : History) (numbered : IsNumbered h) (p : Place) (is_p : IsPlace h p
             coming itself = not_before_itself h numbered p itself
 
             go : (is_change h access.word x ≡ true) ⊎ (is_change h access.word x ≡ false) → (is_change h access.word x ≡ true) ⊎ (is_change h access.word p ≡ true) → ⊥
-            go (inl change) either = no_changer (watch.changes access.word x before change p is_p coming race.parallel)
+            go (inl change) either = no_writer (shadows.changes access.word x before change p is_p coming race.parallel)
             go (inr no_change) (inl change) = let clash : false ≡ true = sym no_change ∙ change in cc
-            go (inr no_change) (inr change) = no_reader change (watch.reads access.word x before race.first no_change p is_p coming race.parallel)
+            go (inr no_change) (inr change) = no_reader change (shadows.reads access.word x before race.first no_change p is_p coming race.parallel)
 
         -- an access before p of its word, one of them a change, precedes it
         apart : (x : Place) → Before x → is_access h access.word x ≡ true → (is_change h access.word x ≡ true) ⊎ (is_change h access.word p ≡ true) → ¬ IsParallel h x p
         apart x before a change parallel = no_race x before (record { first = a; second = is.accesses; change = change; parallel = parallel })
 
         still_free : (w : ℕ) (x y : Place) → Upto x → Upto y → ¬ IsRace h w x y
-        still_free w x y (inl before) (inl before') race = watch.free w x y before before' race
+        still_free w x y (inl before) (inl before') race = shadows.free w x y before before' race
         still_free w x y (inl before) (inr same) race =
             let at_p : IsRace h w x p = subst (λ z. IsRace h w x z) (sym same) race in
             no_race x before (subst (λ v. IsRace h v x p) (one_word h p w access.word at_p.second is.accesses) at_p)
@@ -164,33 +164,33 @@ module _ (h : History) (numbered : IsNumbered h) (p : Place) (is_p : IsPlace h p
         still_free w x y (inr same) (inr same') race =
             not_parallel_in_row h numbered p p is_p is_p refl (subst (λ z. IsParallel h z p) (sym same) (subst (λ z. IsParallel h x z) (sym same') race.parallel))
 
-        module _ (new : ℕ → Kept) (others : (w : ℕ) → w ≢ access.word → new w ≡ kept w) (with : IsKeptWith h access mine (new access.word)) where
+        module _ (new : ℕ → Shadow) (others : (w : ℕ) → w ≢ access.word → new w ≡ kept w) (with : IsShadowWith h access mine (new access.word)) where
           -- a place that is passed, with the word: either it was passed before, or it is p
           not_p : (w : ℕ) (x : Place) → w ≢ access.word → Upto x → is_access h w x ≡ true → Before x
           not_p w x ne (inl before) a = before
           not_p w x ne (inr same) a = absurd (ne (one_word h p w access.word (ap (λ z. is_access h w z) same ∙ a) is.accesses))
 
-          abbrev latest : Kept
+          abbrev latest : Shadow
           latest = new access.word
 
           changes_flag : (b : Bool) → is_change h access.word p ≡ b → access.changes ≡ b
           changes_flag b e = is.changes ∙ e
 
-          changer_here : (x : Place) → latest.changer ≡ Some x → Upto x × (is_change h access.word x ≡ true)
-          changer_here x e = go (true_or_false (is_change h access.word p))
+          writer_here : (x : Place) → latest.writer ≡ Some x → Upto x × (is_change h access.word x ≡ true)
+          writer_here x e = go (true_or_false (is_change h access.word p))
             where
               go : (is_change h access.word p ≡ true) ⊎ (is_change h access.word p ≡ false) → Upto x × (is_change h access.word x ≡ true)
               go (inl change) =
                   let mark : Some access.place ≡ Some x = sym (with.change (changes_flag true change)).0 ∙ e in
                   let same : access.place ≡ x = cc in
                   (inr (sym is.stands ∙ same), ap (λ z. is_change h access.word z) (sym same ∙ is.stands) ∙ change)
-              go (inr none) = let c = watch.changer access.word x (sym (with.read (changes_flag false none)) ∙ e) in (inl c.0, c.1)
+              go (inr none) = let c = shadows.writer access.word x (sym (with.read (changes_flag false none)) ∙ e) in (inl c.0, c.1)
 
           reader_here : (x : Place) → latest.reader ≡ Some x → Upto x × (is_access h access.word x ≡ true)
           reader_here x e = go (true_or_false (is_change h access.word p))
             where
               old : latest.reader ≡ mine.reader → Upto x × (is_access h access.word x ≡ true)
-              old same = let c = watch.reader access.word x (sym same ∙ e) in (inl c.0, c.1)
+              old same = let c = shadows.reader access.word x (sym same ∙ e) in (inl c.0, c.1)
 
               by : (IsBeside h mine.reader access.place × (latest.reader ≡ mine.reader)) ⊎ ((¬ IsBeside h mine.reader access.place) × (latest.reader ≡ Some access.place)) → Upto x × (is_access h access.word x ≡ true)
               by (inl stays) = old stays.1
@@ -203,37 +203,37 @@ module _ (h : History) (numbered : IsNumbered h) (p : Place) (is_p : IsPlace h p
               go (inl change) = old (with.change (changes_flag true change)).1
               go (inr none) = by (with.reader (changes_flag false none))
 
-          changes_here : (x : Place) → Upto x → is_change h access.word x ≡ true → StandsFor h Upto latest.changer x
+          changes_here : (x : Place) → Upto x → is_change h access.word x ≡ true → StandsFor h Upto latest.writer x
           changes_here x passed change = go passed (true_or_false (is_change h access.word p))
             where
-              marked : is_change h access.word p ≡ true → latest.changer ≡ Some p
+              marked : is_change h access.word p ≡ true → latest.writer ≡ Some p
               marked e = (with.change (changes_flag true e)).0 ∙ ap (λ z. Some z) is.stands
 
-              go : Upto x → (is_change h access.word p ≡ true) ⊎ (is_change h access.word p ≡ false) → StandsFor h Upto latest.changer x
-              go (inl before) (inl e) = p_stands latest.changer (marked e) x before (apart x before (is_accessed h access.word x change) (inl change))
-              go (inr same) (inl e) = p_itself latest.changer (marked e) x same
-              go (inl before) (inr none) = stands_on mine.changer latest.changer (with.read (changes_flag false none)) x (watch.changes access.word x before change)
+              go : Upto x → (is_change h access.word p ≡ true) ⊎ (is_change h access.word p ≡ false) → StandsFor h Upto latest.writer x
+              go (inl before) (inl e) = p_stands latest.writer (marked e) x before (apart x before (is_accessed h access.word x change) (inl change))
+              go (inr same) (inl e) = p_itself latest.writer (marked e) x same
+              go (inl before) (inr none) = stands_on mine.writer latest.writer (with.read (changes_flag false none)) x (shadows.changes access.word x before change)
               go (inr same) (inr none) = absurd (let clash : false ≡ true = sym none ∙ ap (λ z. is_change h access.word z) same ∙ change in cc)
 
           reads_here : (x : Place) → Upto x → is_access h access.word x ≡ true → is_change h access.word x ≡ false → StandsFor h Upto latest.reader x
           reads_here x passed a read = go passed (true_or_false (is_change h access.word p))
             where
               on : latest.reader ≡ mine.reader → Before x → StandsFor h Upto latest.reader x
-              on same before = stands_on mine.reader latest.reader same x (watch.reads access.word x before a read)
+              on same before = stands_on mine.reader latest.reader same x (shadows.reads access.word x before a read)
 
               -- the reader precedes p, so what is parallel to the reader is parallel to p
               through : ¬ IsBeside h mine.reader p → latest.reader ≡ Some p → Before x → StandsFor h Upto latest.reader x
               through none taken before y is_y later parallel =
-                  let k = kept_beside mine.reader y (watch.reads access.word x before a read y is_y (λ b. later (inl b)) parallel) in
+                  let k = kept_beside mine.reader y (shadows.reads access.word x before a read y is_y (λ b. later (inl b)) parallel) in
                   is_beside latest.reader p y taken
-                  (beside_later k.0 y (watch.reader access.word k.0 k.1).0 (λ beside. none (is_beside mine.reader k.0 p k.1 beside)) is_y later k.2)
+                  (beside_later k.0 y (shadows.reader access.word k.0 k.1).0 (λ beside. none (is_beside mine.reader k.0 p k.1 beside)) is_y later k.2)
 
               -- the reader is parallel to p, so it is parallel to what p is parallel to
               stays : IsBeside h mine.reader p → latest.reader ≡ mine.reader → p ≡ x → StandsFor h Upto latest.reader x
               stays beside same is_x y is_y later parallel =
                   let k = kept_beside mine.reader p beside in
                   is_beside latest.reader k.0 y (same ∙ k.1)
-                  (beside_both k.0 y (watch.reader access.word k.0 k.1).0 k.2 is_y later (subst (λ z. IsParallel h z y) (sym is_x) parallel))
+                  (beside_both k.0 y (shadows.reader access.word k.0 k.1).0 k.2 is_y later (subst (λ z. IsParallel h z y) (sym is_x) parallel))
 
               at_p : (q : Place) → q ≡ p → IsBeside h mine.reader q → IsBeside h mine.reader p
               at_p q e beside = subst (λ z. IsBeside h mine.reader z) e beside
@@ -253,39 +253,39 @@ module _ (h : History) (numbered : IsNumbered h) (p : Place) (is_p : IsPlace h p
               go (inr same) (inl e) = absurd (let clash : false ≡ true = sym read ∙ ap (λ z. is_change h access.word z) (sym same) ∙ e in cc)
 
           -- the access of p's word, or of another
-          pub passes_access : ((w : ℕ) → (w ≡ access.word) ⊎ (w ≢ access.word)) → IsWatch h Upto new
+          pub passes_access : ((w : ℕ) → (w ≡ access.word) ⊎ (w ≢ access.word)) → IsShadowed h Upto new
           passes_access which = record {
-            changer = λ w x. changer_at w x (which w);
+            writer = λ w x. writer_at w x (which w);
             reader = λ w x. reader_at w x (which w);
             changes = λ w x passed c. changes_at w x passed c (which w);
             reads = λ w x passed a c. reads_at w x passed a c (which w);
             free = still_free;
           }
             where
-              changer_at : (w : ℕ) (x : Place) → (w ≡ access.word) ⊎ (w ≢ access.word) → (new w).changer ≡ Some x → Upto x × (is_change h w x ≡ true)
-              changer_at w x (inl same) e = subst (λ v. (new v).changer ≡ Some x → Upto x × (is_change h v x ≡ true)) (sym same) (changer_here x) e
-              changer_at w x (inr ne) e = let c = watch.changer w x (sym (ap (λ (k : Kept). k.changer) (others w ne)) ∙ e) in (inl c.0, c.1)
+              writer_at : (w : ℕ) (x : Place) → (w ≡ access.word) ⊎ (w ≢ access.word) → (new w).writer ≡ Some x → Upto x × (is_change h w x ≡ true)
+              writer_at w x (inl same) e = subst (λ v. (new v).writer ≡ Some x → Upto x × (is_change h v x ≡ true)) (sym same) (writer_here x) e
+              writer_at w x (inr ne) e = let c = shadows.writer w x (sym (ap (λ (k : Shadow). k.writer) (others w ne)) ∙ e) in (inl c.0, c.1)
 
               reader_at : (w : ℕ) (x : Place) → (w ≡ access.word) ⊎ (w ≢ access.word) → (new w).reader ≡ Some x → Upto x × (is_access h w x ≡ true)
               reader_at w x (inl same) e = subst (λ v. (new v).reader ≡ Some x → Upto x × (is_access h v x ≡ true)) (sym same) (reader_here x) e
-              reader_at w x (inr ne) e = let c = watch.reader w x (sym (ap (λ (k : Kept). k.reader) (others w ne)) ∙ e) in (inl c.0, c.1)
+              reader_at w x (inr ne) e = let c = shadows.reader w x (sym (ap (λ (k : Shadow). k.reader) (others w ne)) ∙ e) in (inl c.0, c.1)
 
-              changes_at : (w : ℕ) (x : Place) → Upto x → is_change h w x ≡ true → (w ≡ access.word) ⊎ (w ≢ access.word) → StandsFor h Upto (new w).changer x
-              changes_at w x passed c (inl same) = subst (λ v. is_change h v x ≡ true → StandsFor h Upto (new v).changer x) (sym same) (changes_here x passed) c
+              changes_at : (w : ℕ) (x : Place) → Upto x → is_change h w x ≡ true → (w ≡ access.word) ⊎ (w ≢ access.word) → StandsFor h Upto (new w).writer x
+              changes_at w x passed c (inl same) = subst (λ v. is_change h v x ≡ true → StandsFor h Upto (new v).writer x) (sym same) (changes_here x passed) c
               changes_at w x passed c (inr ne) =
-                  stands_on (kept w).changer (new w).changer (ap (λ (k : Kept). k.changer) (others w ne)) x (watch.changes w x (not_p w x ne passed (is_accessed h w x c)) c)
+                  stands_on (kept w).writer (new w).writer (ap (λ (k : Shadow). k.writer) (others w ne)) x (shadows.changes w x (not_p w x ne passed (is_accessed h w x c)) c)
 
               reads_at : (w : ℕ) (x : Place) → Upto x → is_access h w x ≡ true → is_change h w x ≡ false → (w ≡ access.word) ⊎ (w ≢ access.word) → StandsFor h Upto (new w).reader x
               reads_at w x passed a c (inl same) =
                   subst (λ v. is_access h v x ≡ true → is_change h v x ≡ false → StandsFor h Upto (new v).reader x) (sym same) (reads_here x passed) a c
-              reads_at w x passed a c (inr ne) = stands_on (kept w).reader (new w).reader (ap (λ (k : Kept). k.reader) (others w ne)) x (watch.reads w x (not_p w x ne passed a) a c)
+              reads_at w x passed a c (inr ne) = stands_on (kept w).reader (new w).reader (ap (λ (k : Shadow). k.reader) (others w ne)) x (shadows.reads w x (not_p w x ne passed a) a c)
 
-      -- the watch goes on over an access that meets no race, in the words of the code
-      pub passes_on : (old latest : Kept) → old ≡ kept access.word → ¬ IsMet h old access → IsKeptWith h access old latest →
-          (new : ℕ → Kept) → ((w : ℕ) → new w ≡ (if access.word == w then latest else kept w)) → IsWatch h Upto new
+      -- the shadows go on over an access that meets no race, in the words of the code
+      pub passes_on : (old latest : Shadow) → old ≡ kept access.word → ¬ IsMet h old access → IsShadowWith h access old latest →
+          (new : ℕ → Shadow) → ((w : ℕ) → new w ≡ (if access.word == w then latest else kept w)) → IsShadowed h Upto new
       passes_on old latest same missed with new updated =
           passes_access (λ met. missed (subst (λ k. IsMet h k access) (sym same) met)) new others
-          (subst (λ k. IsKeptWith h access k (new access.word)) same (subst (λ k. IsKeptWith h access old k) (sym here) with))
+          (subst (λ k. IsShadowWith h access k (new access.word)) same (subst (λ k. IsShadowWith h access old k) (sym here) with))
           (λ w. cases_eq w access.word)
         where
           here : new access.word ≡ latest

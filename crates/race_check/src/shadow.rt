@@ -3,51 +3,51 @@ ghost use Rattle.span_tree.specs.Dag.{IsBefore};
 ghost use Rattle.span_tree.specs.History.{IsNumbered, IsPlace};
 ghost use Rattle.span_tree.specs.Memory.{IsRace};
 ghost use Rattle.race_check.specs.Access.{IsAccessOf};
-ghost use Rattle.race_check.specs.Watch.{IsBeside, IsKeptWith, IsMet, IsWatch, kept_in, nothing};
+ghost use Rattle.race_check.specs.Shadow.{IsBeside, IsShadowWith, IsMet, IsShadowed, no_shadow, shadow_of};
 
 use crate::access::Access;
 use span_tree::{History, Place};
 use std::alloc::{AllocError, Global};
 use std::collections::HashMap;
 
-/// What is kept of the accesses of a word, to be compared with later ones.
+/// The shadow of a word (Feng, Leiserson 1997): what is kept of its accesses, to be compared with later ones.
 #[derive(Clone, Copy, Debug)]
-pub(crate) struct Kept {
+pub(crate) struct Shadow {
     /// The last write or add.
-    pub changer: Option<Place>,
-    /// A read such that what is parallel to an earlier read, and comes later, is parallel to this one.
+    pub writer: Option<Place>,
+    /// A read to which each later place is parallel that is parallel to any read so far.
     pub reader: Option<Place>,
 }
 
-impl Kept {
-    /// Whether one of the two races with an access.
+impl Shadow {
+    /// Whether the writer or the reader races with an access of the word.
     fn meets(self, history: &History, access: Access) -> bool
-        requires changer { IfSome self.changer (IsPlace history.now) }
+        requires writer { IfSome self.writer (IsPlace history.now) }
         requires reader { IfSome self.reader (IsPlace history.now) }
         requires place { IsPlace history.now access.place }
         ensures { IsTrue result ↔ IsMet history.now self access }
     {
-        is_beside(history, self.changer, access.place)
+        is_beside(history, self.writer, access.place)
             || (access.changes && is_beside(history, self.reader, access.place))
     }
 
     /// What is kept with one access more.
-    fn with(self, history: &History, access: Access) -> Kept
+    fn with(self, history: &History, access: Access) -> Shadow
         requires reader { IfSome self.reader (IsPlace history.now) }
         requires place { IsPlace history.now access.place }
-        ensures { IsKeptWith history.now access self result }
+        ensures { IsShadowWith history.now access self result }
     {
         let place = Some(access.place);
         if access.changes {
-            Kept {
-                changer: place,
+            Shadow {
+                writer: place,
                 reader: self.reader,
             }
         } else if is_beside(history, self.reader, access.place) {
             self
         } else {
-            Kept {
-                changer: self.changer,
+            Shadow {
+                writer: self.writer,
                 reader: place,
             }
         }
@@ -66,56 +66,57 @@ fn is_beside(history: &History, kept: Option<Place>, place: Place) -> bool
     }
 }
 
-/// What is kept of each word while a history is passed in serial order.
+/// The shadows of all words, while a history is passed in serial order.
 #[derive(Drop)]
-pub(crate) struct Watch {
-    words: HashMap<u32, Kept>,
+pub(crate) struct ShadowMemory {
+    words: HashMap<u32, Shadow>,
 }
 
-impl Watch {
-    pub fn new(alloc: Global) -> Watch
-        ensures { (word : ℕ) → kept_in result.words word ≡ nothing }
+impl ShadowMemory {
+    /// Nothing is kept of any word.
+    pub fn new(alloc: Global) -> ShadowMemory
+        ensures { (word : ℕ) → shadow_of result.words word ≡ no_shadow }
     {
-        Watch {
+        ShadowMemory {
             words: HashMap::new(alloc),
         }
     }
 
-    /// Passes a place. Where the act there is an access that races with one before it, that is the answer, and nothing
-    /// changes.
+    /// Passes the place that is next in serial order. Where the act there is an access that races with one before it,
+    /// the access is the answer, and is not kept.
     pub fn pass(&mut self, history: &History, place: Place) -> Result<Option<Access>, AllocError>
         requires numbered { IsNumbered history.now }
         requires place { IsPlace history.now place }
-        requires watch { IsWatch history.now (λ x. IsBefore history.now x place) (kept_in self.old.words) }
-        ensures none { IfOk result (λ found. found ≡ None → IsWatch history.now (λ x. IsBefore history.now x place ⊎ (place ≡ x)) (kept_in self.new.words)) }
+        requires shadows { IsShadowed history.now (λ x. IsBefore history.now x place) (shadow_of self.old.words) }
+        ensures none { IfOk result (λ found. found ≡ None → IsShadowed history.now (λ x. IsBefore history.now x place ⊎ (place ≡ x)) (shadow_of self.new.words)) }
         ensures some { IfOk result (λ found. IfSome found (λ access. IsAccessOf history.now place access × (x : Place) × IsBefore history.now x place × IsRace history.now access.word x place)) }
     {
         let Some(access) = Access::at(history, place) else {
             return Ok(None);
         };
-        let kept = self.kept(access.word);
-        if kept.meets(history, access) {
+        let shadow = self.at(access.word);
+        if shadow.meets(history, access) {
             return Ok(Some(access));
         }
-        self.keep(access.word, kept.with(history, access))?;
+        self.set(access.word, shadow.with(history, access))?;
         Ok(None)
     }
 
-    /// What is kept of a word.
-    fn kept(&self, word: u32) -> Kept
-        ensures { result ≡ kept_in self.now.words word }
+    /// The shadow of a word.
+    fn at(&self, word: u32) -> Shadow
+        ensures { result ≡ shadow_of self.now.words word }
     {
-        self.words.get(&word).copied().unwrap_or(Kept {
-            changer: None,
+        self.words.get(&word).copied().unwrap_or(Shadow {
+            writer: None,
             reader: None,
         })
     }
 
-    /// From here on this is kept of a word.
-    fn keep(&mut self, word: u32, kept: Kept) -> Result<(), AllocError>
-        ensures ok { OnOk result ((other : ℕ) → kept_in self.new.words other ≡ (if word == other then kept else kept_in self.old.words other)) }
+    /// From here on this is the word's shadow.
+    fn set(&mut self, word: u32, shadow: Shadow) -> Result<(), AllocError>
+        ensures ok { OnOk result ((other : ℕ) → shadow_of self.new.words other ≡ (if word == other then shadow else shadow_of self.old.words other)) }
     {
-        self.words.insert(word, kept)?;
+        self.words.insert(word, shadow)?;
         Ok(())
     }
 }
