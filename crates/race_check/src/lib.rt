@@ -8,6 +8,8 @@ ghost use Rattle.race_check.specs.Access.{IsAccessOf, IsLeastRacing};
 
 mod access;
 mod shadow;
+#[cfg(test)]
+mod tests;
 
 use access::Access;
 use shadow::ShadowMemory;
