@@ -12,23 +12,25 @@ use Rattle.race_check.specs.declared.Race.{Race}
 use Rattle.race_check.specs.declared.access.Access.{Access}
 use Rattle.race_check.specs.declared.shadow.Shadow.{Shadow}
 use Rattle.race_check.specs.Access.{IsAccessOf, IsLeastRacing}
-use Rattle.race_check.specs.Shadow.{IsShadowed, no_shadow}
+use Rattle.race_check.specs.Shadow.{Before, IsShadowOf, IsShadowed, RacesBefore, Upto, no_shadow}
 use Rattle.race_check.proofs.Accesses.{is_there, one_word}
 use Rattle.race_check.proofs.Passing.{all_passed, now_passed, passed_more, passed_or_behind, passed_stands, stands_passed, still_passed}
 use Rattle.race_check.proofs.Shadowing.{same_shadowed}
 
 -- before the first place nothing is kept
 pub nothing_passed : (h : History) (xs : List Place) (kept : ℕ → Shadow) → ((word : ℕ) → kept word ≡ no_shadow) → IsShadowed h (Contains (take 0 xs)) kept
-nothing_passed h xs kept none = record {
-  writer = λ word x e. absurd (no_place (kept word).writer x (ap (λ (k : Shadow). k.writer) (none word)) e);
-  reader = λ word x e. absurd (no_place (kept word).reader x (ap (λ (k : Shadow). k.reader) (none word)) e);
-  changes = λ word x c. absurd (nothing_in_none x c);
-  reads = λ word x c. absurd (nothing_in_none x c);
-  free = λ word x y c. absurd (nothing_in_none x c);
-}
+nothing_passed h xs kept none = record { shadows = of_word; free = λ word x y c. absurd (nothing_in_none x c) }
   where
     no_place : (o : Option Place) (x : Place) → o ≡ None → o ≡ Some x → ⊥
     no_place o x p q = cc
+
+    of_word : (word : ℕ) → IsShadowOf h (Contains (take 0 xs)) word (kept word)
+    of_word word = record {
+      writer = λ x e. absurd (no_place (kept word).writer x (ap (λ (k : Shadow). k.writer) (none word)) e);
+      reader = λ x e. absurd (no_place (kept word).reader x (ap (λ (k : Shadow). k.reader) (none word)) e);
+      changes = λ x c. absurd (nothing_in_none x c);
+      reads = λ x c. absurd (nothing_in_none x c);
+    }
 
 module _ (h : History) (numbered : IsNumbered h) where
   -- ---- one access with all others of its word
@@ -59,7 +61,7 @@ module _ (h : History) (numbered : IsNumbered h) where
 
   -- ---- the walk
 
-  module _ (xs : List Place) (order : xs ≡ serial_order h) (kept : ℕ → Shadow) where
+  module _ (xs : List Place) (order : xs ≡ serial_order h) (shadow : ℕ → Shadow) where
     module _ (i : ℕ) (d : Place) (lt : i < length xs) where
       abbrev next : Place
       next = get_or xs i d
@@ -74,11 +76,11 @@ module _ (h : History) (numbered : IsNumbered h) where
       before_passed x is =
           stands_passed xs i d x lt (λ again. not_before_itself h numbered next (subst (λ l. StandsBefore l next next) order again)) (subst (λ l. StandsBefore l x next) (sym order) is)
 
-      pub shadowed_before : IsShadowed h (Contains (take i xs)) kept → IsShadowed h (λ x. IsBefore h x next) kept
-      shadowed_before shadows = same_shadowed h (Contains (take i xs)) (λ x. IsBefore h x next) kept passed_before before_passed shadows
+      pub shadowed_before : IsShadowed h (Contains (take i xs)) shadow → IsShadowed h (Before h next) shadow
+      shadowed_before shadows = same_shadowed h (Contains (take i xs)) (Before h next) shadow passed_before before_passed shadows
 
-      pub shadowed_upto : IsShadowed h (λ x. IsBefore h x next ⊎ (next ≡ x)) kept → IsShadowed h (Contains (take (i + 1) xs)) kept
-      shadowed_upto shadows = same_shadowed h (λ x. IsBefore h x next ⊎ (next ≡ x)) (Contains (take (i + 1) xs)) kept to from shadows
+      pub shadowed_upto : IsShadowed h (Upto h next) shadow → IsShadowed h (Contains (take (i + 1) xs)) shadow
+      shadowed_upto shadows = same_shadowed h (Upto h next) (Contains (take (i + 1) xs)) shadow to from shadows
         where
           to : (x : Place) → IsBefore h x next ⊎ (next ≡ x) → Contains (take (i + 1) xs) x
           to x (inl is) = still_passed xs i d x lt (before_passed x is)
@@ -91,7 +93,7 @@ module _ (h : History) (numbered : IsNumbered h) where
               go (inl passed) = inl (passed_before x passed)
               go (inr same) = inr same
 
-    pub no_race : (i : ℕ) → length xs ≤ i → IsShadowed h (Contains (take i xs)) kept → HasNoRace h
+    pub no_race : (i : ℕ) → length xs ≤ i → IsShadowed h (Contains (take i xs)) shadow → HasNoRace h
     no_race i le shadows word x y race = shadows.free word x y (passed x (is_there h word x race.first)) (passed y (is_there h word y race.second)) race
       where
         passed : (z : Place) → IsPlace h z → Contains (take i xs) z
@@ -99,8 +101,8 @@ module _ (h : History) (numbered : IsNumbered h) where
 
   -- ---- the first race
 
-  module _ (kept : ℕ → Shadow) (second : Place) (is_second : IsPlace h second) (shadows : IsShadowed h (λ x. IsBefore h x second) kept)
-      (word : ℕ) (accesses : is_access h word second ≡ true) (witness : (x : Place) × IsBefore h x second × IsRace h word x second) (first : Place) (least : IsLeastRacing h word first second) where
+  module _ (shadow : ℕ → Shadow) (second : Place) (is_second : IsPlace h second) (shadows : IsShadowed h (Before h second) shadow)
+      (word : ℕ) (accesses : is_access h word second ≡ true) (witness : RacesBefore h word second) (first : Place) (least : IsLeastRacing h word first second) where
     first_before : IsBefore h first second
     first_before = go (least.least witness.0 witness.2)
       where
@@ -120,33 +122,28 @@ module _ (h : History) (numbered : IsNumbered h) where
 
   -- ---- what is told of the race
 
-  -- an access at p that races with one before it
-  abbrev pub IsSecond : Place → Access → Type 0
-  IsSecond p second = IsAccessOf h p second × (x : Place) × IsBefore h x p × IsRace h second.word x p
-
   -- the access and the race as the code has them
-  module _ (xs : List Place) (order : xs ≡ serial_order h) (kept : ℕ → Shadow) (i : ℕ) (d : Place) (lt : i < length xs) (shadows : IsShadowed h (Contains (take i xs)) kept)
-      (met : Option Access) (second : Access) (is_met : met ≡ Some second) (meets : IfSome met (IsSecond (get_or xs i d))) (found : Option Race)
-      (some : IfSome found (λ race. (race.second ≡ second.place) × (race.word ≡ second.word) × IsLeastRacing h second.word race.first second.place))
+  module _ (xs : List Place) (order : xs ≡ serial_order h) (shadow : ℕ → Shadow) (i : ℕ) (d : Place) (lt : i < length xs) (shadows : IsShadowed h (Contains (take i xs)) shadow)
+      (met : Option Access) (second : Access) (is_met : met ≡ Some second) (accesses : IfSome met (IsAccessOf h (get_or xs i d))) (races : IfSome met (λ access. RacesBefore h access.word (get_or xs i d)))
+      (found : Option Race) (some : IfSome found (λ race. (race.second ≡ second.place) × (race.word ≡ second.word) × IsLeastRacing h second.word race.first second.place))
       (none : found ≡ None → (x : Place) → IsRace h second.word x second.place → ⊥) where
     abbrev p : Place
     p = get_or xs i d
 
-    is_second : IsSecond p second
-    is_second = subst (λ o. IfSome o (IsSecond p)) is_met meets
+    is_second : IsAccessOf h p second
+    is_second = subst (λ o. IfSome o (IsAccessOf h p)) is_met accesses
+
+    before : RacesBefore h second.word p
+    before = subst (λ o. IfSome o (λ (access : Access). RacesBefore h access.word p)) is_met races
 
     pub first_found : (race : Race) → found ≡ Some race → IsFirstRace h race.word race.first race.second
     first_found race e =
         let told : (race.second ≡ second.place) × (race.word ≡ second.word) × IsLeastRacing h second.word race.first second.place =
         subst (λ o. IfSome o (λ race. (race.second ≡ second.place) × (race.word ≡ second.word) × IsLeastRacing h second.word race.first second.place)) e some in
-        let is = is_second.0 in
         let at_p : IsFirstRace h second.word race.first p =
-        first_race kept p (next_is_place xs order kept i d lt) (shadowed_before xs order kept i d lt shadows) second.word is.accesses (is_second.1, is_second.2, is_second.3) race.first
-        (subst (λ q. IsLeastRacing h second.word race.first q) is.stands told.2) in
-        subst (λ w. IsFirstRace h w race.first race.second) (sym told.1) (subst (λ q. IsFirstRace h second.word race.first q) (sym (told.0 ∙ is.stands)) at_p)
+        first_race shadow p (next_is_place xs order shadow i d lt) (shadowed_before xs order shadow i d lt shadows) second.word is_second.accesses before race.first
+        (subst (λ q. IsLeastRacing h second.word race.first q) is_second.stands told.2) in
+        subst (λ w. IsFirstRace h w race.first race.second) (sym told.1) (subst (λ q. IsFirstRace h second.word race.first q) (sym (told.0 ∙ is_second.stands)) at_p)
 
     pub some_found : (found ≡ None) ↔ HasNoRace h
-    some_found = (
-      λ e. absurd (none e is_second.1 (subst (λ q. IsRace h second.word is_second.1 q) (sym is_second.0.stands) is_second.3)),
-      λ free. absurd (free second.word is_second.1 p is_second.3),
-    )
+    some_found = (λ e. absurd (none e before.0 (subst (λ q. IsRace h second.word before.0 q) (sym is_second.stands) before.2)), λ free. absurd (free second.word before.0 p before.2))

@@ -1,9 +1,7 @@
-ghost use Rattle.std.specs.Prelude.{◌≡◌, ◌⊎◌, ◌↔◌, ℕ, Some, None, IfOk, IfSome, IsTrue, OnOk, if◌then◌else◌, ◌==◌};
-ghost use Rattle.span_tree.specs.Dag.{IsBefore};
+ghost use Rattle.std.specs.Prelude.{◌≡◌, ◌↔◌, ℕ, Some, None, IfOk, IfSome, IsTrue, OnOk, if◌then◌else◌, ◌==◌};
 ghost use Rattle.span_tree.specs.History.{IsNumbered, IsPlace};
-ghost use Rattle.span_tree.specs.Memory.{IsRace};
 ghost use Rattle.race_check.specs.Access.{IsAccessOf};
-ghost use Rattle.race_check.specs.Shadow.{IsBeside, IsShadowWith, IsMet, IsShadowed, no_shadow, shadow_of};
+ghost use Rattle.race_check.specs.Shadow.{Before, IsBeside, IsShadowOf, IsShadowed, RacesBefore, Upto, no_shadow, shadow_of};
 
 use crate::access::Access;
 use span_tree::{History, Place};
@@ -20,22 +18,24 @@ pub(crate) struct Shadow {
 }
 
 impl Shadow {
-    /// Whether the writer or the reader races with an access of the word.
+    /// Whether an access, which comes next, races with one that is passed.
     fn meets(self, history: &History, access: Access) -> bool
-        requires writer { IfSome self.writer (IsPlace history.now) }
-        requires reader { IfSome self.reader (IsPlace history.now) }
-        requires place { IsPlace history.now access.place }
-        ensures { IsTrue result ↔ IsMet history.now self access }
+        requires numbered { IsNumbered history.now }
+        requires access { IsAccessOf history.now access.place access }
+        requires shadow { IsShadowOf history.now (Before history.now access.place) access.word self }
+        ensures { IsTrue result ↔ RacesBefore history.now access.word access.place }
     {
         is_beside(history, self.writer, access.place)
             || (access.changes && is_beside(history, self.reader, access.place))
     }
 
-    /// What is kept with one access more.
+    /// The word's shadow when an access is passed too, which races with none before it.
     fn with(self, history: &History, access: Access) -> Shadow
-        requires reader { IfSome self.reader (IsPlace history.now) }
-        requires place { IsPlace history.now access.place }
-        ensures { IsShadowWith history.now access self result }
+        requires numbered { IsNumbered history.now }
+        requires access { IsAccessOf history.now access.place access }
+        requires shadow { IsShadowOf history.now (Before history.now access.place) access.word self }
+        requires free { RacesBefore history.now access.word access.place → ⊥ }
+        ensures { IsShadowOf history.now (Upto history.now access.place) access.word result }
     {
         let place = Some(access.place);
         if access.changes {
@@ -87,9 +87,10 @@ impl ShadowMemory {
     pub fn pass(&mut self, history: &History, place: Place) -> Result<Option<Access>, AllocError>
         requires numbered { IsNumbered history.now }
         requires place { IsPlace history.now place }
-        requires shadows { IsShadowed history.now (λ x. IsBefore history.now x place) (shadow_of self.old.words) }
-        ensures none { IfOk result (λ found. found ≡ None → IsShadowed history.now (λ x. IsBefore history.now x place ⊎ (place ≡ x)) (shadow_of self.new.words)) }
-        ensures some { IfOk result (λ found. IfSome found (λ access. IsAccessOf history.now place access × (x : Place) × IsBefore history.now x place × IsRace history.now access.word x place)) }
+        requires shadows { IsShadowed history.now (Before history.now place) (shadow_of self.old.words) }
+        ensures none { IfOk result (λ found. found ≡ None → IsShadowed history.now (Upto history.now place) (shadow_of self.new.words)) }
+        ensures access { IfOk result (λ found. IfSome found (IsAccessOf history.now place)) }
+        ensures races { IfOk result (λ found. IfSome found (λ access. RacesBefore history.now access.word place)) }
     {
         let Some(access) = Access::at(history, place) else {
             return Ok(None);

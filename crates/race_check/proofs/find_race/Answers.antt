@@ -16,12 +16,12 @@ pass-requires-clause-shadows c =
 pub returns-in-Some-clause-some : goal.returns-in-Some-clause-some
 returns-in-Some-clause-some c =
     first_found c.args.history.now c.rows.ensures.numbered c.order-place-items.result.now c.order-place-items.ensures (shadow_of c.loop-place.memory.words) c.loop-place.place-index _ c.loop-place-test.true c.loop-place.invariant
-    c.in_ok-second.field-0 c.in-Some.second c.in-Some.is (c.in_ok-second.ensures {u = tt}).some c.race_with.result c.race_with.ensures.some c.race_with.ensures.none
+    c.in_ok-second.field-0 c.in-Some.second c.in-Some.is (c.in_ok-second.ensures {u = tt}).access (c.in_ok-second.ensures {u = tt}).races c.race_with.result c.race_with.ensures.some c.race_with.ensures.none
 
 pub returns-in-Some-clause-none : goal.returns-in-Some-clause-none
 returns-in-Some-clause-none c =
     some_found c.args.history.now c.rows.ensures.numbered c.order-place-items.result.now c.order-place-items.ensures (shadow_of c.loop-place.memory.words) c.loop-place.place-index _ c.loop-place-test.true c.loop-place.invariant
-    c.in_ok-second.field-0 c.in-Some.second c.in-Some.is (c.in_ok-second.ensures {u = tt}).some c.race_with.result c.race_with.ensures.some c.race_with.ensures.none
+    c.in_ok-second.field-0 c.in-Some.second c.in-Some.is (c.in_ok-second.ensures {u = tt}).access (c.in_ok-second.ensures {u = tt}).races c.race_with.result c.race_with.ensures.some c.race_with.ensures.none
 
 pub loop-place-preserved : goal.loop-place-preserved
 loop-place-preserved c =
