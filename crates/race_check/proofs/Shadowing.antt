@@ -117,19 +117,35 @@ module _ (h : History) (numbered : IsNumbered h) (p : Place) (is_p : IsPlace h p
           let c = is.writer k.0 k.1 in
           (k.0, c.0, record { first = is_accessed h word k.0 c.1; second = accesses; change = inl c.1; parallel = k.2 })
 
-      pub reader_races : is_change h word p ≡ true → IsBeside h shadow.reader p → RacesBefore h word p
+      reader_races : is_change h word p ≡ true → IsBeside h shadow.reader p → RacesBefore h word p
       reader_races change beside =
           let k = kept_beside h shadow.reader p beside in
           let c = is.reader k.0 k.1 in
           (k.0, c.0, record { first = c.1; second = accesses; change = inr change; parallel = k.2 })
 
-      pub race_is_met : RacesBefore h word p → IsBeside h shadow.writer p ⊎ ((is_change h word p ≡ true) × IsBeside h shadow.reader p)
+      race_is_met : RacesBefore h word p → IsBeside h shadow.writer p ⊎ ((is_change h word p ≡ true) × IsBeside h shadow.reader p)
       race_is_met (x, before, race) = go (true_or_false (is_change h word x)) race.change
         where
           go : (is_change h word x ≡ true) ⊎ (is_change h word x ≡ false) → (is_change h word x ≡ true) ⊎ (is_change h word p ≡ true) → IsBeside h shadow.writer p ⊎ ((is_change h word p ≡ true) × IsBeside h shadow.reader p)
           go (inl change) either = inl (is.changes x before change p is_p coming race.parallel)
           go (inr read) (inl change) = absurd (let clash : false ≡ true = sym read ∙ change in cc)
           go (inr read) (inr change) = inr (change, is.reads x before race.first read p is_p coming race.parallel)
+
+      -- what the code answers where the writer is not parallel to p
+      pub met_by_reader : (b : Bool) → ¬ IsBeside h shadow.writer p → is_change h word p ≡ true → (b ≡ true → IsBeside h shadow.reader p) × (IsBeside h shadow.reader p → b ≡ true) →
+          (b ≡ true → RacesBefore h word p) × (RacesBefore h word p → b ≡ true)
+      met_by_reader b apart change says = (λ e. reader_races change (says.0 e), λ before. go (race_is_met before))
+        where
+          go : IsBeside h shadow.writer p ⊎ ((is_change h word p ≡ true) × IsBeside h shadow.reader p) → b ≡ true
+          go (inl beside) = absurd (apart beside)
+          go (inr met) = says.1 met.1
+
+      pub met_by_none : ¬ IsBeside h shadow.writer p → is_change h word p ≡ false → ¬ RacesBefore h word p
+      met_by_none apart read before = go (race_is_met before)
+        where
+          go : IsBeside h shadow.writer p ⊎ ((is_change h word p ≡ true) × IsBeside h shadow.reader p) → ⊥
+          go (inl beside) = apart beside
+          go (inr met) = let clash : false ≡ true = sym read ∙ met.0 in cc
 
       -- a change is the writer, since all changes before it precede it
       pub passes_change : is_change h word p ≡ true → ¬ RacesBefore h word p → IsShadowOf h (Upto h p) word (record { writer = Some p; reader = shadow.reader })
@@ -164,7 +180,7 @@ module _ (h : History) (numbered : IsNumbered h) (p : Place) (is_p : IsPlace h p
           where
             reads_here : (x : Place) → Upto h p x → is_access h word x ≡ true → is_change h word x ≡ false → StandsFor h (Upto h p) shadow.reader x
             reads_here x (inl before) a c = stands_on shadow.reader x (is.reads x before a c)
-            reads_here x (inr same) a c y is_y later parallel =
+            reads_here x (inr same) a c = λ y is_y later parallel.
                 let k = kept_beside h shadow.reader p beside in
                 is_beside h shadow.reader k.0 y k.1 (beside_both k.0 y (is.reader k.0 k.1).0 k.2 is_y later (subst (λ z. IsParallel h z y) (sym same) parallel))
 
@@ -178,7 +194,7 @@ module _ (h : History) (numbered : IsNumbered h) (p : Place) (is_p : IsPlace h p
         }
           where
             reads_here : (x : Place) → Upto h p x → is_access h word x ≡ true → is_change h word x ≡ false → StandsFor h (Upto h p) (Some p) x
-            reads_here x (inl before) a c y is_y later parallel =
+            reads_here x (inl before) a c = λ y is_y later parallel.
                 let k = kept_beside h shadow.reader y (is.reads x before a c y is_y (λ b. later (inl b)) parallel) in
                 beside_later k.0 y (is.reader k.0 k.1).0 (λ beside. apart (is_beside h shadow.reader k.0 p k.1 beside)) is_y later k.2
             reads_here x (inr same) a c = p_itself x same

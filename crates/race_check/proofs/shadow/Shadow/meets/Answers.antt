@@ -1,13 +1,25 @@
-use Rattle.std.proofs.Common.{rules, ◌≡◌, ◌↔◌, ℕ, Some, None, IfOk, IfSome, IsTrue, OnOk, if◌then◌else◌, ◌==◌, ◌+◌, ◌-◌, ◌*◌, ◌<◌, ◌≤◌, length, ◌/◌, ◌%◌, Bool, true, false, nat_eq, nat_lt, List, [], ◌∷◌, ◌++◌, slice_index_or, slice_set, bit_and, bit_or, Fits, w8, w32, w64, Bor, MutBor}
-use Rattle.span_tree.specs.History.{IsNumbered, IsPlace}
-use Rattle.race_check.specs.Access.{IsAccessOf}
-use Rattle.race_check.specs.Shadow.{Before, IsBeside, IsShadowOf, IsShadowed, RacesBefore, Upto, no_shadow, shadow_of}
+use Rattle.std.proofs.Common.{◌≡◌, true, false, sym, ◌∙◌}
+use Rattle.race_check.specs.Shadow.{IsBeside, RacesBefore}
+use Rattle.race_check.proofs.Accesses.{is_there}
+use Rattle.race_check.proofs.Shadowing.{met_by_none, met_by_reader}
 use Rattle.race_check.proofs.shadow.Shadow.meets.Goals as goal
 
--- src/shadow.rt:22:5
 pub returns-then-access : goal.returns-then-access
-returns-then-access c = ?
+returns-then-access c =
+    let h = c.args.history.now in
+    let access = c.args.access in
+    let apart : ¬ IsBeside h c.args.self.writer access.place = λ beside. let clash : false ≡ true = (c.if-is_beside.ensures {u = tt}).1 beside in cc in
+    met_by_reader h c.requires.numbered access.place (is_there h access.word access.place c.requires.access.accesses) access.word c.args.self c.requires.shadow c.requires.access.accesses
+    c.is_beside-then-access.result apart (sym c.requires.access.changes ∙ c.if-access.true) c.is_beside-then-access.ensures
 
--- src/shadow.rt:22:5
 pub returns-else-access : goal.returns-else-access
-returns-else-access c = ?
+returns-else-access c =
+    let h = c.args.history.now in
+    let access = c.args.access in
+    let apart : ¬ IsBeside h c.args.self.writer access.place = λ beside. let clash : false ≡ true = (c.if-is_beside.ensures {u = tt}).1 beside in cc in
+    let free : ¬ RacesBefore h access.word access.place =
+    met_by_none h c.requires.numbered access.place (is_there h access.word access.place c.requires.access.accesses) access.word c.args.self c.requires.shadow c.requires.access.accesses
+    apart (sym c.requires.access.changes ∙ c.if-access.false) in (
+      λ e. absurd (let clash : false ≡ true = sym c.if-access.false ∙ e in cc),
+      λ before. absurd (free before),
+    )

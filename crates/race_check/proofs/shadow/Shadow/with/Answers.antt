@@ -1,17 +1,26 @@
-use Rattle.std.proofs.Common.{rules, ◌≡◌, ◌↔◌, ℕ, Some, None, IfOk, IfSome, IsTrue, OnOk, if◌then◌else◌, ◌==◌, ◌+◌, ◌-◌, ◌*◌, ◌<◌, ◌≤◌, length, ◌/◌, ◌%◌, Bool, true, false, nat_eq, nat_lt, List, [], ◌∷◌, ◌++◌, slice_index_or, slice_set, bit_and, bit_or, Fits, w8, w32, w64, Bor, MutBor}
-use Rattle.span_tree.specs.History.{IsNumbered, IsPlace}
-use Rattle.race_check.specs.Access.{IsAccessOf}
-use Rattle.race_check.specs.Shadow.{Before, IsBeside, IsShadowOf, IsShadowed, RacesBefore, Upto, no_shadow, shadow_of}
+use Rattle.std.proofs.Common.{◌≡◌, true, false, refl, sym, ◌∙◌}
+use Rattle.race_check.specs.Shadow.{IsBeside}
+use Rattle.race_check.proofs.Accesses.{is_there}
+use Rattle.race_check.proofs.Shadowing.{passes_change, passes_later_read, passes_parallel_read}
 use Rattle.race_check.proofs.shadow.Shadow.with.Goals as goal
 
--- src/shadow.rt:33:5
 pub returns-then-access : goal.returns-then-access
-returns-then-access c = ?
+returns-then-access c =
+    let h = c.args.history.now in
+    let access = c.args.access in
+    passes_change h c.requires.numbered access.place (is_there h access.word access.place c.requires.access.accesses) access.word c.args.self c.requires.shadow c.requires.access.accesses
+    (sym c.requires.access.changes ∙ c.if-access.true) c.requires.free
 
--- src/shadow.rt:33:5
 pub returns-then-is_beside : goal.returns-then-is_beside
-returns-then-is_beside c = ?
+returns-then-is_beside c =
+    let h = c.args.history.now in
+    let access = c.args.access in
+    passes_parallel_read h c.requires.numbered access.place (is_there h access.word access.place c.requires.access.accesses) access.word c.args.self c.requires.shadow c.requires.access.accesses
+    (sym c.requires.access.changes ∙ c.if-access.false) ((c.if-is_beside.ensures {u = tt}).0 refl)
 
--- src/shadow.rt:33:5
 pub returns-else-is_beside : goal.returns-else-is_beside
-returns-else-is_beside c = ?
+returns-else-is_beside c =
+    let h = c.args.history.now in
+    let access = c.args.access in
+    passes_later_read h c.requires.numbered access.place (is_there h access.word access.place c.requires.access.accesses) access.word c.args.self c.requires.shadow c.requires.access.accesses
+    (sym c.requires.access.changes ∙ c.if-access.false) (λ beside. let clash : false ≡ true = (c.if-is_beside.ensures {u = tt}).1 beside in cc)
