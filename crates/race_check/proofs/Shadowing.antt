@@ -9,11 +9,9 @@ use Rattle.span_tree.specs.Memory.{IsRace, is_access, is_change}
 use Rattle.span_tree.proofs.Deciding.{one_of_three, precedes_on}
 use Rattle.span_tree.proofs.Orders.{not_before_itself, one_is_first, only_places, first_is_in}
 use Rattle.span_tree.proofs.ThreePlaces.{not_parallel_in_row, parallel_is_symmetric, three_places}
-use Rattle.race_check.specs.declared.access.Access.{Access}
 use Rattle.race_check.specs.declared.shadow.Shadow.{Shadow}
-use Rattle.race_check.specs.Access.{IsAccessOf}
 use Rattle.race_check.specs.Shadow.{Before, IsBeside, IsShadowOf, IsShadowed, RacesBefore, StandsFor, Upto}
-use Rattle.race_check.proofs.Accesses.{is_accessed, is_there, one_word}
+use Rattle.race_check.proofs.Accesses.{is_accessed, one_word}
 
 -- what is passed, by another name
 pub same_shadowed : (h : History) (P Q : Place → Type 0) (shadow : ℕ → Shadow) → ((x : Place) → P x → Q x) → ((x : Place) → Q x → P x) → IsShadowed h P shadow → IsShadowed h Q shadow

@@ -1,5 +1,4 @@
 use Rattle.std.proofs.Common.{◌≡◌, true, false, refl, sym, ◌∙◌}
-use Rattle.race_check.specs.Shadow.{IsBeside}
 use Rattle.race_check.proofs.Accesses.{is_there}
 use Rattle.race_check.proofs.Shadowing.{passes_change, passes_later_read, passes_parallel_read}
 use Rattle.race_check.proofs.shadow.Shadow.with.Goals as goal
