@@ -1,0 +1,4 @@
+pub mod Accesses
+pub mod Found
+pub mod Passing
+pub mod Shadowing
