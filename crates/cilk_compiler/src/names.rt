@@ -27,9 +27,10 @@ impl<'a> Names<'a> {
     {
         let number = self.count;
         self.count = number.checked_add(1).ok_or(AllocError)?;
-        if self.numbers.get(name).is_none() {
-            self.numbers.insert(name, number)?;
+        if self.numbers.get(name).is_some() {
+            return Ok(());
         }
+        self.numbers.insert(name, number)?;
         Ok(())
     }
 
