@@ -1,5 +1,7 @@
 pub mod Forms
 pub mod Growing
+pub mod Joining
 pub mod Numbering
 pub mod Patching
 pub mod Stacks
+pub mod Steps

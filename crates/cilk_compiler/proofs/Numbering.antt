@@ -10,20 +10,22 @@ module _ {A : Type 0} (test : A → Bool) where
   -- the first place, where there is one, or the length
   pub first_or_length : (from : ℕ) (xs : List A) → unwrap_or (position_from test from xs) (from + length xs) ≡ from + position_or_len test xs
   first_or_length from [] = refl
-  first_or_length from (x ∷ xs) = by_test (test x)
+  first_or_length from (x ∷ xs) =
+      let more : from + length (x ∷ xs) ≡ (from + 1) + length xs = omega arith in
+      let further : (from + 1) + position_or_len test xs ≡ from + (1 + position_or_len test xs) = omega arith in
+      by_test (test x) (ap (λ n. unwrap_or (position_from test (from + 1) xs) n) more ∙ first_or_length (from + 1) xs ∙ further)
     where
-      rest : unwrap_or (position_from test (from + 1) xs) (from + length (x ∷ xs)) ≡ from + (1 + position_or_len test xs)
-      rest = ap (λ n. unwrap_or (position_from test (from + 1) xs) n) (omega arith) ∙ first_or_length (from + 1) xs ∙ omega arith
-
-      by_test : (b : Bool) → unwrap_or (cond b (Some from) (position_from test (from + 1) xs)) (from + length (x ∷ xs)) ≡ from + cond (not b) (1 + position_or_len test xs) 0
-      by_test true = omega arith
-      by_test false = rest
+      by_test : (b : Bool) → unwrap_or (position_from test (from + 1) xs) (from + length (x ∷ xs)) ≡ from + (1 + position_or_len test xs)
+          → unwrap_or (cond b (Some from) (position_from test (from + 1) xs)) (from + length (x ∷ xs)) ≡ from + cond (not b) (1 + position_or_len test xs) 0
+      by_test true rest = omega arith
+      by_test false rest = rest
 
   -- one more at the end
   pub first_in_more : (from : ℕ) (xs : List A) (next : A) → position_from test from (xs ++ next ∷ []) ≡ option_or (position_from test from xs) (cond (test next) (Some (from + length xs)) None)
-  first_in_more from [] next = ap (λ n. cond (test next) (Some n) None) (omega arith)
+  first_in_more from [] next = let none : from ≡ from + 0 = omega arith in ap (λ n. cond (test next) (Some n) None) none
   first_in_more from (x ∷ xs) next =
-      ap (cond (test x) (Some from)) (first_in_more (from + 1) xs next ∙ ap (λ n. option_or (position_from test (from + 1) xs) (cond (test next) (Some n) None)) (omega arith))
+      let more : (from + 1) + length xs ≡ from + length (x ∷ xs) = omega arith in
+      ap (cond (test x) (Some from)) (first_in_more (from + 1) xs next ∙ ap (λ n. option_or (position_from test (from + 1) xs) (cond (test next) (Some n) None)) more)
       ∙ by_test (test x) (position_from test (from + 1) xs) (cond (test next) (Some (from + length (x ∷ xs))) None)
     where
       by_test : (b : Bool) (found other : Option ℕ) → cond b (Some from) (option_or found other) ≡ option_or (cond b (Some from) found) other
@@ -56,9 +58,10 @@ pub comes : (numbers more : List ℕ → Option ℕ) (names : List (List ℕ)) (
     → ((name : List ℕ) → more name ≡ update bytes_eq numbers next (Some count) name)
     → (name : List ℕ) → more name ≡ position_from (λ other. bytes_eq other name) 0 (names ++ next ∷ [])
 comes numbers more names next count agrees absent is made name =
+    let start : count ≡ 0 + length names = is ∙ omega arith in
     made name
     ∙ by_test (bytes_eq next name) (numbers name) (λ same. sym (ap numbers ((bytes_eq-Decides next name).0 same)) ∙ absent)
-    ∙ ap (λ n. option_or (numbers name) (cond (bytes_eq next name) (Some n) None)) (is ∙ omega arith)
+    ∙ ap (λ n. option_or (numbers name) (cond (bytes_eq next name) (Some n) None)) start
     ∙ ap (λ o. option_or o (cond (bytes_eq next name) (Some (0 + length names)) None)) (agrees name)
     ∙ sym (first_in_more (λ other. bytes_eq other name) 0 names next)
   where

@@ -30,20 +30,20 @@ module _ (old left : List Instr) (right : ℕ → List Instr) where
   first : length (old ++ left) ≡ ends
   first = length-append old left
 
-  pub and_patched : (zero : ℕ) →
+  pub and_patched : (at : ℕ) →
       let test = (old ++ left) ++ JumpIfZero 0 ∷ [] in
       let all = test ++ right (length test) in
-      zero ≡ suc (suc (suc (length all))) →
-      slice_set (all ++ Not ∷ Not ∷ Jump (suc zero) ∷ Const (pos 0) ∷ []) (length (old ++ left)) (JumpIfZero zero)
+      at ≡ suc (suc (suc (length all))) →
+      slice_set (all ++ Not ∷ Not ∷ Jump (suc at) ∷ Const (pos 0) ∷ []) (length (old ++ left)) (JumpIfZero at)
       ≡ old ++ and_code (suc (suc (suc (suc ends + length (right (suc ends)))))) left (right (suc ends))
-  and_patched zero is =
+  and_patched at is =
       let x = JumpIfZero 0 in
       let test = (old ++ left) ++ x ∷ [] in
       let n : length test ≡ suc ends = one_more (old ++ left) x ∙ ap suc first in
       let y = right (suc ends) in
       let all : length (test ++ right (length test)) ≡ suc ends + length y = length-append test (right (length test)) ∙ (λ i. n i + length (right (n i))) in
-      let there : zero ≡ suc (suc (suc (suc ends + length y))) = is ∙ ap (λ k. suc (suc (suc k))) all in
-      set_between (old ++ left) x (right (length test)) (Not ∷ Not ∷ Jump (suc zero) ∷ Const (pos 0) ∷ []) (JumpIfZero zero)
+      let there : at ≡ suc (suc (suc (suc ends + length y))) = is ∙ ap (λ k. suc (suc (suc k))) all in
+      set_between (old ++ left) x (right (length test)) (Not ∷ Not ∷ Jump (suc at) ∷ Const (pos 0) ∷ []) (JumpIfZero at)
       ∙ (λ i. (old ++ left) ++ JumpIfZero (there i) ∷ (right (n i) ++ Not ∷ Not ∷ Jump (suc (there i)) ∷ Const (pos 0) ∷ []))
       ∙ append_assoc old left (JumpIfZero (suc (suc (suc (suc ends + length y)))) ∷ (y ++ Not ∷ Not ∷ Jump (suc (suc (suc (suc (suc ends + length y))))) ∷ Const (pos 0) ∷ []))
 

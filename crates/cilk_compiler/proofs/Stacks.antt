@@ -13,7 +13,7 @@ pub pushed : (stack : List Local) (top : Local) → scope_of (stack ++ top ∷ [
 pushed stack top = ap (map seen) (reverse-append stack (top ∷ []))
 
 pub depth_is : (stack : List Local) → length (scope_of stack) ≡ length stack
-depth_is stack = length-map seen (reverse stack) ∙ length-reverse stack
+depth_is stack = length-map (reverse stack) seen ∙ length-reverse stack
 
 -- the first so many alone
 pub cut : (stack : List Local) (depth : ℕ) → scope_of (take depth stack) ≡ drop (length (scope_of stack) - depth) (scope_of stack)
@@ -27,8 +27,8 @@ cut stack depth =
 
 pub find_in_map : {A B : Type 0} (test : B → Bool) (f : A → B) (xs : List A) → find test (map f xs) ≡ option_map f (find (λ x. test (f x)) xs)
 find_in_map test f [] = refl
-find_in_map test f (x ∷ xs) = by_test (test (f x)) ∙ ap (λ found. option_map f (cond (test (f x)) (Some x) (find (λ y. test (f y)) xs))) refl
+find_in_map test f (x ∷ xs) = by_test (test (f x)) (find_in_map test f xs)
   where
-    by_test : (b : Bool) → cond b (Some (f x)) (find test (map f xs)) ≡ option_map f (cond b (Some x) (find (λ y. test (f y)) xs))
-    by_test true = refl
-    by_test false = find_in_map test f xs
+    by_test : (b : Bool) → find test (map f xs) ≡ option_map f (find (λ y. test (f y)) xs) → cond b (Some (f x)) (find test (map f xs)) ≡ option_map f (cond b (Some x) (find (λ y. test (f y)) xs))
+    by_test true rest = refl
+    by_test false rest = rest

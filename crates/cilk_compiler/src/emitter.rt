@@ -36,12 +36,12 @@ impl<'s, 'a> Emitter<'s, 'a> {
     }
 
     /// Begins a function, with its parameters in scope.
-    pub(crate) fn begin(&mut self, alloc: Global, function: &'a Function) -> Result<(), AllocError>
+    pub(crate) fn begin(&mut self, function: &'a Function) -> Result<(), AllocError>
         ensures { OnOk result (self.new ≡ at_start function.now self.old) }
     {
         self.cilk = function.cilk;
         self.operands = 1;
-        self.locals = Locals::new(alloc);
+        self.locals.restart();
         for parameter in function.params.as_slice() {
             self.locals.declare(parameter.items())?;
         }

@@ -21,7 +21,7 @@ pub(crate) fn compile_functions(
     let mut emitter = Emitter::new(alloc, globals);
     let mut procs = Vec::new(alloc);
     for function in globals.program().functions.as_slice() {
-        let proc = emitter.function(alloc, function)?;
+        let proc = emitter.function(function)?;
         procs.push(proc)?;
     }
     Ok((procs, emitter.instrs))
@@ -29,13 +29,13 @@ pub(crate) fn compile_functions(
 
 impl<'s, 'a> Emitter<'s, 'a> {
     /// Adds the code of a function, and tells its procedure.
-    fn function(&mut self, alloc: Global, function: &'a Function) -> Result<Proc, AllocError>
+    fn function(&mut self, function: &'a Function) -> Result<Proc, AllocError>
         ensures proc { IfOk result (λ proc. proc ≡ proc_at (length self.old.instrs) (resolved_function self.old.globals.now function.now)) }
         ensures instrs { OnOk result (self.new.instrs ≡ self.old.instrs ++ function_code (length self.old.instrs) (resolved_function self.old.globals.now function.now)) }
         ensures globals { OnOk result (self.new.globals ≡ self.old.globals) }
     {
         let start = self.instrs.end();
-        self.begin(alloc, function)?;
+        self.begin(function)?;
         let params = self.locals.next();
         self.statements(function.body.as_slice())?;
         self.sync()?;

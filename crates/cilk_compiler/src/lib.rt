@@ -7,6 +7,7 @@ mod functions;
 mod globals;
 mod instrs;
 mod join;
+mod jumps;
 mod locals;
 mod names;
 mod program;

@@ -45,6 +45,15 @@ impl<'a> Locals<'a> {
         }
     }
 
+    /// Goes back to the point where a function begins.
+    pub(crate) fn restart(&mut self)
+        ensures { self.new ≡ record { statement = 0; local = 0; scope = [] } }
+    {
+        self.statement = 0;
+        self.next = 0;
+        self.stack.clear();
+    }
+
     /// The number that the next local gets.
     pub(crate) fn next(&self) -> u32
         ensures { result ≡ self.now.local }

@@ -1,4 +1,4 @@
-ghost use Rattle.cilk_compiler.specs.Emitting.{array_in, behind, behind_all, behind_list, expr_in, exprs_in, function_in, local_in, returned_in, statements_in, target_in, valued, with_choice, with_code, with_declared, with_instr, with_loop, with_stmt};
+ghost use Rattle.cilk_compiler.specs.Emitting.{array_in, behind, behind_all, behind_list, expr_in, exprs_in, function_in, local_in, returned_in, statements_in, target_in, valued, with_code, with_declared, with_instr, with_stmt};
 ghost use Rattle.cilk_meaning.specs.Resolved.{Add, Assign, Call, Print, Put, Return, Spawn, Sync, Number};
 ghost use Rattle.cilk_meaning.specs.Resolving.{resolving};
 ghost use Rattle.cilk_tree.specs.Lawful.Scope.{declared};
@@ -45,9 +45,20 @@ impl<'s, 'a> Emitter<'s, 'a> {
             Stmt::Put(name, index, value) => self.put(name, index, value),
             Stmt::Print(value) => self.print(value),
             Stmt::If(condition, met, unmet) => {
-                self.choice(condition, met.as_slice(), unmet.as_slice())
+                let fork = self.fork(condition)?;
+                self.list(met.as_slice())?;
+                let met_end = self.part(fork)?;
+                self.list(unmet.as_slice())?;
+                self.meet(met_end);
+                Ok(())
             }
-            Stmt::While(condition, body) => self.turns(condition, body.as_slice()),
+            Stmt::While(condition, body) => {
+                let start = self.instrs.end();
+                self.push(Instr::Turn)?;
+                let fork = self.fork(condition)?;
+                self.list(body.as_slice())?;
+                self.turn_back(start, fork)
+            }
             Stmt::Block(inside) => self.list(inside.as_slice()),
             Stmt::Call(target, name, arguments) => self.call(target, name, arguments.as_slice()),
             Stmt::Spawn(target, name, arguments) => self.spawn(target, name, arguments.as_slice()),
@@ -55,47 +66,6 @@ impl<'s, 'a> Emitter<'s, 'a> {
             Stmt::Sync => self.push(Instr::SyncAll),
             Stmt::Return(value) => self.give_back(value),
         }
-    }
-
-    /// Adds the code of a condition and of the two lists, of which one is run.
-    #[cycle(statement)]
-    fn choice(
-        &mut self,
-        condition: &Expr,
-        met: &'a [Stmt],
-        unmet: &'a [Stmt],
-    ) -> Result<(), AllocError>
-        ensures { OnOk result (self.new ≡ with_choice (expr_in self.old condition.now) (statements_in self.old met.now) (statements_in self.old unmet.now) self.old) }
-    {
-        self.value(condition)?;
-        let test_end = self.instrs.end();
-        self.push(Instr::JumpIfZero(0))?;
-        self.list(met)?;
-        let met_end = self.instrs.end();
-        self.push(Instr::Jump(0))?;
-        let other = self.instrs.end();
-        self.instrs.set(test_end, Instr::JumpIfZero(other));
-        self.list(unmet)?;
-        let unmet_end = self.instrs.end();
-        self.instrs.set(met_end, Instr::Jump(unmet_end));
-        Ok(())
-    }
-
-    /// Adds the code of a condition, which is tested before each turn of a list.
-    #[cycle(statement)]
-    fn turns(&mut self, condition: &Expr, body: &'a [Stmt]) -> Result<(), AllocError>
-        ensures { OnOk result (self.new ≡ with_loop (expr_in self.old condition.now) (statements_in self.old body.now) self.old) }
-    {
-        let start = self.instrs.end();
-        self.push(Instr::Turn)?;
-        self.value(condition)?;
-        let test_end = self.instrs.end();
-        self.push(Instr::JumpIfZero(0))?;
-        self.list(body)?;
-        self.push(Instr::Jump(start))?;
-        let end = self.instrs.end();
-        self.instrs.set(test_end, Instr::JumpIfZero(end));
-        Ok(())
     }
 
     fn declare(&mut self, name: &'a Name) -> Result<(), AllocError>
@@ -181,11 +151,18 @@ impl<'s, 'a> Emitter<'s, 'a> {
         ensures { OnOk result (self.new ≡ with_stmt (Return (returned_in self.old value.now)) self.old) }
     {
         self.sync()?;
-        match value {
-            Some(value) => self.value(value)?,
-            None => self.zero()?,
-        }
+        self.returned(value)?;
         self.push(Instr::Return)
+    }
+
+    /// Adds the code of what a `return` gives.
+    fn returned(&mut self, value: &Option<Expr>) -> Result<(), AllocError>
+        ensures { OnOk result (self.new ≡ valued (returned_in self.old value.now) self.old) }
+    {
+        match value {
+            Some(value) => self.value(value),
+            None => self.zero(),
+        }
     }
 
     /// A value goes to the target, or is dropped.

@@ -1,0 +1,123 @@
+-- What the steps of a statement add together.
+use Rattle.std.proofs.Common.{◌≡◌, ℕ, suc, ◌+◌, ◌<◌, max, List, [], ◌∷◌, ◌++◌, length, map, pos, refl, sym, ap, ◌∙◌, arith, append_assoc, length-append}
+use Rattle.std.specs.Prelude.{slice_set}
+use Rattle.std.proofs.Math.ListN.{length-set}
+use Rattle.cilk_tree.specs.declared.tree.Expr as source_expr
+use Rattle.cilk_tree.specs.declared.tree.Stmt as source_stmt
+use Rattle.cilk_tree.specs.Lawful.Flow.{after_list}
+use Rattle.cilk_meaning.specs.Resolved as tree
+use Rattle.cilk_meaning.specs.Resolved.{Expr}
+use Rattle.cilk_meaning.specs.Resolving.{Resolving, part_in, in_order}
+use Rattle.compiled_code.specs.Emitted.{expr_code, exprs_code, expr_operands, exprs_operands, stmt_code, stmt_operands, sync_code}
+use Rattle.machine_code.specs.declared.instr.Instr.{Instr}
+use Rattle.machine_code.specs.declared.instr.Instr.TheVariants as instr
+use Rattle.machine_code.specs.declared.instr.Instr.TheVariants.{Jump, JumpIfZero, Turn}
+use Rattle.cilk_compiler.specs.declared.emitter.Emitter.{Emitter}
+use Rattle.cilk_compiler.specs.Jumps.{forked, met, parted, turned}
+use Rattle.cilk_compiler.specs.Emitting.{expr_in, statements_in, with_instrs, with_code, with_instr, with_expr, with_exprs, needing, valued, valued_two, with_stmt, behind_list, with_choice, with_loop}
+use Rattle.cilk_compiler.proofs.Growing.{parts_join, instr_joins, three_join, max_assoc}
+use Rattle.cilk_compiler.proofs.Patching.{loop_patched, choice_patched}
+
+module _ (old : Emitter) where
+  pub two_instrs : (first second : Instr) → with_instr second (with_instr first old) ≡ with_code (λ _. first ∷ second ∷ []) old
+  two_instrs first second = ap (λ l. with_instrs l old) (append_assoc old.instrs (first ∷ []) (second ∷ []))
+
+  -- an expression and what takes its value
+  pub value_taken : (value : Expr) (taker : Instr) → with_instr taker (valued value old) ≡ needing (expr_operands value) (with_code (λ at. expr_code at value ++ taker ∷ []) old)
+  value_taken value taker = ap (needing (expr_operands value)) (instr_joins old (λ at. expr_code at value) taker)
+
+  -- two expressions and what takes their values
+  pub two_taken : (first second : Expr) (taker : List Instr) →
+      with_code (λ _. taker) (valued_two first second old)
+      ≡ needing (max (expr_operands first) (suc (expr_operands second))) (with_code (λ at. expr_code at first ++ (expr_code (at + length (expr_code at first)) second ++ taker)) old)
+  two_taken first second taker =
+      ap (needing (max (expr_operands first) (suc (expr_operands second)))) (three_join old (λ at. expr_code at first) (λ at. expr_code at second) (λ _. taker))
+
+  -- arguments and what takes them
+  pub arguments_taken : (arguments : List Expr) (operands : ℕ) (taker : List Instr) →
+      with_code (λ _. taker) (needing operands (with_exprs arguments old)) ≡ needing operands (with_code (λ at. exprs_code at arguments ++ taker) old)
+  arguments_taken arguments operands taker = ap (needing operands) (parts_join old (λ at. exprs_code at arguments) (λ _. taker))
+
+  -- a sync, an expression and what takes its value
+  pub returns_made : (value : Expr) → with_instr instr.Return (valued value (with_code (λ _. sync_code old.«cilk») old)) ≡ with_stmt (tree.Return value) old
+  returns_made value = ap (needing (expr_operands value)) (three_join old (λ _. sync_code old.«cilk») (λ at. expr_code at value) (λ _. instr.Return ∷ []))
+
+  -- one argument more
+  pub argument_joins : (first : Expr) (rest : List Expr) → with_exprs rest (with_expr first old) ≡ with_exprs (first ∷ rest) old
+  argument_joins first rest = parts_join old (λ at. expr_code at first) (λ at. exprs_code at rest)
+
+-- room for one part after another
+max_of_three : (a b c d : ℕ) → max (max (max a b) c) d ≡ max a (max b (max c d))
+max_of_three a b c d = omega arith
+
+-- ---- loops and choices, whose jumps are set when the place is known where they lead
+
+-- a jump of a condition is among what is written behind it
+pub fork_within : (asked after run : Emitter) (fork : ℕ) (statements : List Resolving) → fork ≡ length asked.instrs → after ≡ with_instr (JumpIfZero 0) asked → run ≡ behind_list statements after → fork < length run.instrs
+fork_within asked after run fork statements fork_is after_is run_is =
+    let n : length after.instrs ≡ length (asked.instrs ++ JumpIfZero 0 ∷ []) = ap (λ (e : Emitter). length e.instrs) after_is in
+    let more = stmt_code after.«cilk» (length after.instrs) (in_order statements after.locals) in
+    let m : length run.instrs ≡ length (after.instrs ++ more) = ap (λ (e : Emitter). length e.instrs) run_is in
+    omega (arith, n, m, fork_is, length-append asked.instrs (JumpIfZero 0 ∷ []), length-append after.instrs more)
+
+-- and so is the one between two lists
+pub part_within : (first after both : Emitter) (fork met_end : ℕ) (statements : List Resolving) → met_end ≡ length first.instrs → after ≡ parted fork first → both ≡ behind_list statements after → met_end < length both.instrs
+part_within first after both fork met_end statements met_is after_is both_is =
+    let whole = first.instrs ++ Jump 0 ∷ [] in
+    let n : length after.instrs ≡ length (slice_set whole fork (JumpIfZero (length whole))) = ap (λ (e : Emitter). length e.instrs) after_is in
+    let more = stmt_code after.«cilk» (length after.instrs) (in_order statements after.locals) in
+    let m : length both.instrs ≡ length (after.instrs ++ more) = ap (λ (e : Emitter). length e.instrs) both_is in
+    omega (arith, n, m, met_is, length-set whole fork (JumpIfZero (length whole)), length-append first.instrs (Jump 0 ∷ []), length-append after.instrs more)
+
+module _ (old : Emitter) (condition : source_expr.Expr) where
+  abbrev asked : Emitter → Emitter
+  asked e = valued (expr_in e condition) e
+
+  abbrev forked_on : Emitter → Emitter
+  forked_on e = forked (expr_in e condition) e
+
+  module _ (body : List source_stmt.Stmt) where
+    abbrev run : Emitter → Emitter
+    run e = behind_list (statements_in e body) e
+
+    pub loop_made : (begun after once : Emitter) (start fork : ℕ)
+        → start ≡ length old.instrs → begun ≡ with_instr Turn old → fork ≡ length (asked begun).instrs → after ≡ forked_on begun → once ≡ run after
+        → turned start fork once ≡ with_loop (expr_in old condition) (statements_in old body) old
+    loop_made begun after once start fork start_is begun_is fork_is after_is once_is =
+        let test = expr_in old condition in
+        let inside = in_order (statements_in old body) old.locals in
+        let all : once ≡ run (forked_on (with_instr Turn old)) = once_is ∙ ap run (after_is ∙ ap forked_on begun_is) in
+        let at : fork ≡ length (asked (with_instr Turn old)).instrs = fork_is ∙ ap (λ (e : Emitter). length (asked e).instrs) begun_is in
+        (λ i. turned (start_is i) (at i) (all i))
+        ∙ (λ i. record old {
+          locals = after_list (map part_in (statements_in old body)) old.locals;
+          instrs = loop_patched old.instrs (λ n. expr_code n test) (λ n. stmt_code old.«cilk» n inside) i;
+          operands = max_assoc old.operands (expr_operands test) (stmt_operands inside) i;
+        })
+
+  module _ (met_list unmet_list : List source_stmt.Stmt) where
+    abbrev take_met : Emitter → Emitter
+    take_met e = behind_list (statements_in e met_list) e
+
+    abbrev take_unmet : Emitter → Emitter
+    take_unmet e = behind_list (statements_in e unmet_list) e
+
+    pub choice_made : (after first parting both : Emitter) (fork met_end : ℕ)
+        → fork ≡ length (asked old).instrs → after ≡ forked_on old → first ≡ take_met after → met_end ≡ length first.instrs
+        → parting ≡ parted fork first → both ≡ take_unmet parting
+        → met met_end both ≡ with_choice (expr_in old condition) (statements_in old met_list) (statements_in old unmet_list) old
+    choice_made after first parting both fork met_end fork_is after_is first_is met_is parting_is both_is =
+        let test = expr_in old condition in
+        let between = after_list (map part_in (statements_in old met_list)) old.locals in
+        let yes = in_order (statements_in old met_list) old.locals in
+        let no = in_order (statements_in old unmet_list) between in
+        let first_all : first ≡ take_met (forked_on old) = first_is ∙ ap take_met after_is in
+        let parting_all : parting ≡ parted (length (asked old).instrs) (take_met (forked_on old)) = parting_is ∙ (λ i. parted (fork_is i) (first_all i)) in
+        let all : both ≡ take_unmet (parted (length (asked old).instrs) (take_met (forked_on old))) = both_is ∙ ap take_unmet parting_all in
+        let at : met_end ≡ length (take_met (forked_on old)).instrs = met_is ∙ ap (λ (e : Emitter). length e.instrs) first_all in
+        (λ i. met (at i) (all i))
+        ∙ (λ i. record old {
+          locals = after_list (map part_in (statements_in old unmet_list)) between;
+          instrs = choice_patched old.instrs (expr_code (length old.instrs) test) (λ n. stmt_code old.«cilk» n yes) (λ n. stmt_code old.«cilk» n no) i;
+          operands = max_of_three old.operands (expr_operands test) (stmt_operands yes) (stmt_operands no) i;
+        })
