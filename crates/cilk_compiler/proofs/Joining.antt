@@ -1,10 +1,17 @@
 -- The code of `x op y`, part by part.
-use Rattle.std.proofs.Common.{◌≡◌, ℕ, suc, ◌+◌, ◌<◌, List, [], ◌∷◌, ◌++◌, length, pos, refl, sym, ap, ◌∙◌, arith, append_assoc, length-append}
+use Rattle.std.proofs.Common.{◌≡◌, ℕ, suc, ◌+◌, ◌<◌, List, [], ◌∷◌, ◌++◌, length, pos, refl, sym, ap, ◌∙◌, subst, arith, append_assoc, length-append}
 use Rattle.cilk_tree.specs.declared.tree.BinaryOp.{BinaryOp}
 use Rattle.cilk_tree.specs.declared.tree.BinaryOp.TheVariants as op
 use Rattle.compiled_code.specs.Emitted.{binary_code, then_operate}
 use Rattle.machine_code.specs.declared.instr.Instr.{Instr}
 use Rattle.machine_code.specs.declared.instr.Instr.TheVariants.{Const, Add, Sub, Mul, Div, Rem, Not, Eq, Ne, Lt, Le, Gt, Ge, Jump, JumpIfZero}
+use Rattle.cilk_tree.specs.declared.tree.Expr as source_expr
+use Rattle.cilk_tree.specs.declared.tree.Expr.TheVariants as variant
+use Rattle.cilk_meaning.proofs.Resolving.{resolved_binary}
+use Rattle.compiled_code.specs.Emitted.{expr_code}
+use Rattle.cilk_compiler.specs.declared.emitter.Emitter.{Emitter}
+use Rattle.cilk_compiler.specs.declared.join.Join.{Join}
+use Rattle.cilk_compiler.specs.Emitting.{expr_in, with_expr, with_instrs}
 use Rattle.cilk_compiler.specs.Joins.{opened, join_of, joined, IsWithin}
 use Rattle.cilk_compiler.proofs.Patching.{and_patched, or_patched}
 
@@ -50,3 +57,34 @@ jump_within op.Sub before more = tt
 jump_within op.Mul before more = tt
 jump_within op.Div before more = tt
 jump_within op.Rem before more = tt
+
+-- the steps of the code of `x op y`
+module _ (old : Emitter) (operator : BinaryOp) (left right : source_expr.Expr) (first opening second : Emitter) (join : Join)
+    (first_is : first ≡ with_expr (expr_in old left) old) (opening_is : opening ≡ with_instrs (opened operator first.instrs) first)
+    (join_is : join ≡ join_of operator (length first.instrs)) (second_is : second ≡ with_expr (expr_in opening right) opening) where
+  abbrev open : Emitter → Emitter
+  open e = with_instrs (opened operator e.instrs) e
+
+  opening_all : opening ≡ open (with_expr (expr_in old left) old)
+  opening_all = opening_is ∙ ap open first_is
+
+  -- the right operand stands for the same there
+  pub right_same : expr_in opening right ≡ expr_in old right
+  right_same = ap (λ e. expr_in e right) opening_all
+
+  pub binary_made : (closed : Emitter) (expr : source_expr.Expr) → expr ≡ variant.Binary operator left right → closed ≡ with_instrs (joined join second.instrs) second → closed ≡ with_expr (expr_in old expr) old
+  binary_made closed expr expr_is closed_is =
+      let one = expr_code (length old.instrs) (expr_in old left) in
+      let other : ℕ → List Instr = λ n. expr_code n (expr_in old right) in
+      let all : second ≡ with_expr (expr_in old right) (open (with_expr (expr_in old left) old)) = second_is ∙ ap (λ e. with_expr (expr_in e right) e) opening_all in
+      let join_all : join ≡ join_of operator (length (old.instrs ++ one)) = join_is ∙ ap (λ (e : Emitter). join_of operator (length e.instrs)) first_is in
+      closed_is
+      ∙ (λ i. with_instrs (joined (join_all i) (all i).instrs) (all i))
+      ∙ ap (λ l. with_instrs l old) (operands_join old.instrs one other operator)
+      ∙ ap (λ x. with_expr x old) (sym (ap (expr_in old) expr_is ∙ resolved_binary old.globals.now operator left right old.locals.scope))
+
+  pub join_within : IsWithin join (length second.instrs)
+  join_within =
+      let more = expr_code (length opening.instrs) (expr_in opening right) in
+      let all : second.instrs ≡ opened operator first.instrs ++ more = ap (λ (e : Emitter). e.instrs) second_is ∙ ap (λ (e : Emitter). e.instrs ++ more) opening_is in
+      subst (λ l. IsWithin join (length l)) (sym all) (subst (λ j. IsWithin j (length (opened operator first.instrs ++ more))) (sym join_is) (jump_within operator first.instrs more))

@@ -39,8 +39,9 @@ impl<'s, 'a> Emitter<'s, 'a> {
                 let below = self.expression(left.get())?;
                 let join = self.open(*operator)?;
                 let above = self.expression(right.get())?;
+                let operands = either_or_above(below, above)?;
                 self.close(join)?;
-                either_or_above(below, above)
+                Ok(operands)
             }
         }
     }

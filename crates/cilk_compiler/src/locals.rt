@@ -72,11 +72,10 @@ impl<'a> Locals<'a> {
     pub(crate) fn number(&self, name: &[u8]) -> u32
         ensures { result ≡ local_number self.now.scope name.now }
     {
-        self.stack
-            .iter()
-            .rev()
-            .find(|local| local.name == name)
-            .map_or(0, |local| local.number)
+        match self.stack.iter().rev().find(|local| local.name == name) {
+            Some(local) => local.number,
+            None => 0,
+        }
     }
 
     /// The number of a target, where there is one.

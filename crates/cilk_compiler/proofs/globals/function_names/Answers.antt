@@ -1,16 +1,14 @@
-use Rattle.std.proofs.Common.{rules, ◌≡◌, IfOk, ℕ, ◌+◌, ◌-◌, ◌*◌, ◌<◌, ◌≤◌, length, ◌/◌, ◌%◌, Bool, true, false, nat_eq, nat_lt, List, [], ◌∷◌, ◌++◌, slice_index_or, slice_set, bit_and, bit_or, Fits, w8, w32, w64, Bor, MutBor}
-use Rattle.cilk_compiler.specs.Numbering.{IsNumbering, array_names, function_names}
-use Rattle.cilk_meaning.specs.Resolving.{array_number, function_number}
+use Rattle.std.proofs.Common.{ap, subst}
+use Rattle.cilk_tree.specs.declared.tree.Function.{Function}
+use Rattle.cilk_compiler.specs.Numbering.{IsNumbering}
+use Rattle.cilk_compiler.proofs.Numbering.{names_more, names_all}
 use Rattle.cilk_compiler.proofs.globals.function_names.Goals as goal
 
--- src/globals.rt:80:5
-pub loop-function-init : goal.loop-function-init
-loop-function-init c = ?
-
--- src/globals.rt:80:5
 pub loop-function-preserved : goal.loop-function-preserved
-loop-function-preserved c = ?
+loop-function-preserved c =
+    subst (IsNumbering c.add.new.self) (names_more (λ (function : Function). function.name) c.as_slice-function-items.result.now c.loop-function.function-index c.function-item.result c.items.result.now c.loop-function-test.true c.function-item.is c.items.ensures)
+    (c.in_ok-add.ensures {u = tt} _ c.loop-function.invariant)
 
--- src/globals.rt:76:1
 pub returns : goal.returns
-returns c = ?
+returns c =
+    subst (IsNumbering c.loop-function.names) (names_all (λ (function : Function). function.name) c.as_slice-function-items.result.now _ c.loop-function.function-index c.loop-function-test.false c.as_slice-function-items.ensures) c.loop-function.invariant

@@ -1,8 +1,7 @@
-use Rattle.std.proofs.Common.{rules, ◌≡◌, IfOk, ℕ, ◌+◌, ◌-◌, ◌*◌, ◌<◌, ◌≤◌, length, ◌/◌, ◌%◌, Bool, true, false, nat_eq, nat_lt, List, [], ◌∷◌, ◌++◌, slice_index_or, slice_set, bit_and, bit_or, Fits, w8, w32, w64, Bor, MutBor}
-use Rattle.cilk_compiler.specs.Numbering.{IsNumbering, array_names, function_names}
-use Rattle.cilk_meaning.specs.Resolving.{array_number, function_number}
+use Rattle.std.proofs.Common.{◌∙◌, ap}
+use Rattle.cilk_meaning.specs.Resolving.{function_number}
+use Rattle.cilk_compiler.proofs.Numbering.{function_is}
 use Rattle.cilk_compiler.proofs.globals.Globals.function.Goals as goal
 
--- src/globals.rt:59:5
 pub returns : goal.returns
-returns c = ?
+returns c = c.number.ensures _ c.self.invariant.functions ∙ function_is c.self.inside.program.now c.args.name.now ∙ ap (λ program. function_number program c.args.name.now) c.self.view_is

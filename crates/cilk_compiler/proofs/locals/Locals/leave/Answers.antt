@@ -1,9 +1,13 @@
-use Rattle.std.proofs.Common.{rules, ◌≡◌, ◌-◌, [], length, drop, OnOk, ℕ, ◌+◌, ◌*◌, ◌<◌, ◌≤◌, ◌/◌, ◌%◌, Bool, true, false, nat_eq, nat_lt, List, ◌∷◌, ◌++◌, slice_index_or, slice_set, bit_and, bit_or, Fits, w8, w32, w64, Bor, MutBor}
-use Rattle.cilk_meaning.specs.Resolving.{local_number, target_number}
-use Rattle.cilk_tree.specs.Lawful.Flow.{inside, with_scope}
-use Rattle.cilk_tree.specs.Lawful.Scope.{declared}
+use Rattle.std.proofs.Common.{◌-◌, ◌∙◌, ap, drop, length}
+use Rattle.cilk_tree.specs.Lawful.Flow.{with_scope}
+use Rattle.cilk_tree.specs.Lawful.Scope.{Point}
+use Rattle.cilk_compiler.specs.Scopes.{scope_of}
+use Rattle.cilk_compiler.proofs.Stacks.{cut}
 use Rattle.cilk_compiler.proofs.locals.Locals.leave.Goals as goal
 
--- src/locals.rt:111:5
 pub returns : goal.returns
-returns c = ?
+returns c =
+    let now = c.self.inside in
+    let scope = ap scope_of c.truncate.ensures.items ∙ cut now.stack.items c.args.depth in
+    (λ i. record { statement = now.statement; local = now.next; scope = scope i })
+    ∙ ap (λ (point : Point). with_scope (drop (length point.scope - c.args.depth) point.scope) point) c.self.view_is

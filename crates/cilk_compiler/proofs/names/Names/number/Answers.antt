@@ -1,7 +1,9 @@
-use Rattle.std.proofs.Common.{rules, ◌≡◌, ℕ, List, [], ◌∷◌, ◌++◌, OnOk, ◌+◌, ◌-◌, ◌*◌, ◌<◌, ◌≤◌, length, ◌/◌, ◌%◌, Bool, true, false, nat_eq, nat_lt, slice_index_or, slice_set, bit_and, bit_or, Fits, w8, w32, w64, Bor, MutBor}
-use Rattle.cilk_compiler.specs.Numbering.{IsNumbering, number_in}
+use Rattle.std.proofs.Common.{◌∙◌, ap}
+use Rattle.std.specs.Option.{unwrap_or}
+use Rattle.cilk_compiler.proofs.Numbering.{number_is}
 use Rattle.cilk_compiler.proofs.names.Names.number.Goals as goal
 
--- src/names.rt:38:5
 pub returns : goal.returns
-returns c = ?
+returns c = λ names is.
+    let found = c.copied.ensures ∙ c.get.ensures.value ∙ is.agrees c.args.name.now in
+    c.unwrap_or.ensures ∙ (λ i. unwrap_or (found i) (is.count i)) ∙ number_is names c.args.name.now
