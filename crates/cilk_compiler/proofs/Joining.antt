@@ -62,11 +62,11 @@ jump_within op.Rem before more = tt
 module _ (old : Emitter) (operator : BinaryOp) (left right : source_expr.Expr) (first opening second : Emitter) (join : Join)
     (first_is : first ≡ with_expr (expr_in old left) old) (opening_is : opening ≡ with_instrs (opened operator first.instrs) first)
     (join_is : join ≡ join_of operator (length first.instrs)) (second_is : second ≡ with_expr (expr_in opening right) opening) where
-  abbrev open : Emitter → Emitter
-  open e = with_instrs (opened operator e.instrs) e
+  abbrev opens : Emitter → Emitter
+  opens e = with_instrs (opened operator e.instrs) e
 
-  opening_all : opening ≡ open (with_expr (expr_in old left) old)
-  opening_all = opening_is ∙ ap open first_is
+  opening_all : opening ≡ opens (with_expr (expr_in old left) old)
+  opening_all = opening_is ∙ ap opens first_is
 
   -- the right operand stands for the same there
   pub right_same : expr_in opening right ≡ expr_in old right
@@ -76,7 +76,7 @@ module _ (old : Emitter) (operator : BinaryOp) (left right : source_expr.Expr) (
   binary_made closed expr expr_is closed_is =
       let one = expr_code (length old.instrs) (expr_in old left) in
       let other : ℕ → List Instr = λ n. expr_code n (expr_in old right) in
-      let all : second ≡ with_expr (expr_in old right) (open (with_expr (expr_in old left) old)) = second_is ∙ ap (λ e. with_expr (expr_in e right) e) opening_all in
+      let all : second ≡ with_expr (expr_in old right) (opens (with_expr (expr_in old left) old)) = second_is ∙ ap (λ e. with_expr (expr_in e right) e) opening_all in
       let join_all : join ≡ join_of operator (length (old.instrs ++ one)) = join_is ∙ ap (λ (e : Emitter). join_of operator (length e.instrs)) first_is in
       closed_is
       ∙ (λ i. with_instrs (joined (join_all i) (all i).instrs) (all i))

@@ -1,18 +1,11 @@
-use Rattle.std.proofs.Common.{rules, ◌≡◌, IfOk, ℕ, ◌+◌, ◌-◌, ◌*◌, ◌<◌, ◌≤◌, length, ◌/◌, ◌%◌, Bool, true, false, nat_eq, nat_lt, List, [], ◌∷◌, ◌++◌, slice_index_or, slice_set, bit_and, bit_or, Fits, w8, w32, w64, Bor, MutBor}
-use Rattle.cilk_meaning.specs.Resolving.{extents_from, resolved}
-use Rattle.compiled_code.specs.Emitted.{compiled}
-use Rattle.machine_code.specs.StandsFor.{StandsFor}
-use Rattle.machine_code.specs.Valid.{extents}
+use Rattle.std.proofs.Common.{◌≡◌, ◌+◌, ◌∙◌, rules}
+use Rattle.cilk_compiler.proofs.Laying.{array_laid}
 use Rattle.cilk_compiler.proofs.program.lay_out.Goals as goal
 
--- src/program.rt:41:5
-pub loop-array-init : goal.loop-array-init
-loop-array-init c = ?
-
--- src/program.rt:41:5
 pub loop-array-preserved : goal.loop-array-preserved
-loop-array-preserved c = ?
-
--- src/program.rt:36:1
-pub returns : goal.returns
-returns c = ?
+loop-array-preserved c =
+    let words : c.in_ok-words.words ≡ c.array-item.result.words = search rules in
+    let next : c.in_ok-base.base ≡ c.loop-array.base + c.in_ok-words.words = search rules in
+    array_laid c.loop-array.shared.items c.push.new.self.items c.args.arrays.now c.loop-array.array-index c.loop-array.base c.in_ok-words.words c.in_ok-base.base c.array-item.result
+    c.loop-array-test.true c.array-item.is words next c.in_ok-push.ensures.items
+    ∙ c.loop-array.invariant

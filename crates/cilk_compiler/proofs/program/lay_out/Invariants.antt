@@ -1,9 +1,8 @@
-use Rattle.std.proofs.Common.{◌≡◌, IfOk, ℕ, ◌+◌, ◌-◌, ◌*◌, ◌<◌, ◌≤◌, length}
-use Rattle.cilk_meaning.specs.Resolving.{extents_from, resolved}
-use Rattle.compiled_code.specs.Emitted.{compiled}
-use Rattle.machine_code.specs.StandsFor.{StandsFor}
+use Rattle.std.proofs.Common.{◌≡◌, ◌++◌, drop}
+use Rattle.cilk_meaning.specs.Resolving.{extents_from}
 use Rattle.machine_code.specs.Valid.{extents}
 use Rattle.cilk_compiler.proofs.program.lay_out.Given as goal
 
+-- with the arrays that are left there are all
 abbrev pub invariant-loop-array : goal.invariant-loop-array
-invariant-loop-array l = ?
+invariant-loop-array l = extents l.shared.items ++ extents_from l.base (drop l.array-index l.arrays) ≡ extents_from 0 l.arrays
