@@ -7,14 +7,14 @@ use Rattle.cilk_tree.specs.declared.tree.Stmt as source_stmt
 use Rattle.cilk_tree.specs.Lawful.Flow.{after_list}
 use Rattle.cilk_meaning.specs.Resolved as tree
 use Rattle.cilk_meaning.specs.Resolved.{Expr}
-use Rattle.cilk_meaning.specs.Resolving.{Resolving, part_in, in_order}
+use Rattle.cilk_meaning.specs.Resolving.{Resolving, part_in, in_order, resolved_expr}
 use Rattle.compiled_code.specs.Emitted.{expr_code, exprs_code, expr_operands, exprs_operands, stmt_code, stmt_operands, sync_code}
 use Rattle.machine_code.specs.declared.instr.Instr.{Instr}
 use Rattle.machine_code.specs.declared.instr.Instr.TheVariants as instr
 use Rattle.machine_code.specs.declared.instr.Instr.TheVariants.{Jump, JumpIfZero, Turn}
 use Rattle.cilk_compiler.specs.declared.emitter.Emitter.{Emitter}
 use Rattle.cilk_compiler.specs.Jumps.{forked, met, parted, turned}
-use Rattle.cilk_compiler.specs.Emitting.{expr_in, statements_in, with_instrs, with_code, with_instr, with_expr, with_exprs, needing, valued, valued_two, with_stmt, behind_list, with_choice, with_loop}
+use Rattle.cilk_compiler.specs.Emitting.{expr_in, exprs_in, statements_in, with_instrs, with_code, with_instr, with_expr, with_exprs, needing, valued, valued_two, with_stmt, behind_list, with_choice, with_loop}
 use Rattle.cilk_compiler.proofs.Growing.{parts_join, instr_joins, three_join, max_assoc}
 use Rattle.cilk_compiler.proofs.Patching.{loop_patched, choice_patched}
 
@@ -45,6 +45,30 @@ module _ (old : Emitter) where
   -- one argument more
   pub argument_joins : (first : Expr) (rest : List Expr) → with_exprs rest (with_expr first old) ≡ with_exprs (first ∷ rest) old
   argument_joins first rest = parts_join old (λ at. expr_code at first) (λ at. exprs_code at rest)
+
+-- ---- arguments, one after another
+
+module _ (old now new : Emitter) (argument : source_expr.Expr) (left rest : List source_expr.Expr) (whole : List Expr)
+    (split : left ≡ argument ∷ rest) (left_is : with_exprs (exprs_in old left) now ≡ with_exprs whole old) where
+  -- the argument stands for the same as before the first
+  argument_same : expr_in now argument ≡ expr_in old argument
+  argument_same = λ i. resolved_expr (left_is i).globals.now argument (left_is i).locals.scope
+
+  pub argument_added : new ≡ with_expr (expr_in now argument) now → with_exprs (exprs_in old rest) new ≡ with_exprs whole old
+  argument_added new_is =
+      ap (with_exprs (exprs_in old rest)) (new_is ∙ ap (λ x. with_expr x now) argument_same)
+      ∙ argument_joins now (expr_in old argument) (exprs_in old rest)
+      ∙ ap (λ l. with_exprs (exprs_in old l) now) (sym split)
+      ∙ left_is
+
+  pub operands_added : (most before above more next total : ℕ) → above ≡ expr_operands (expr_in now argument) → more ≡ max most (before + above) → next ≡ suc before
+      → max most (exprs_operands before (exprs_in old left)) ≡ total → max more (exprs_operands next (exprs_in old rest)) ≡ total
+  operands_added most before above more next total above_is more_is next_is total_is =
+      let one : above ≡ expr_operands (expr_in old argument) = above_is ∙ ap expr_operands argument_same in
+      (λ i. max ((more_is ∙ ap (λ n. max most (before + n)) one) i) (exprs_operands (next_is i) (exprs_in old rest)))
+      ∙ max_assoc most (before + expr_operands (expr_in old argument)) (exprs_operands (suc before) (exprs_in old rest))
+      ∙ ap (λ l. max most (exprs_operands before (exprs_in old l))) (sym split)
+      ∙ total_is
 
 -- room for one part after another
 max_of_three : (a b c d : ℕ) → max (max (max a b) c) d ≡ max a (max b (max c d))
