@@ -2,6 +2,7 @@ pub mod Forms
 pub mod Growing
 pub mod Joining
 pub mod Laying
+pub mod Lists
 pub mod Numbering
 pub mod Patching
 pub mod Stacks
