@@ -7,3 +7,4 @@ pub mod Numbering
 pub mod Patching
 pub mod Stacks
 pub mod Steps
+pub mod Whole
