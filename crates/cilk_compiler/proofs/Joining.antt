@@ -1,10 +1,10 @@
 -- The code of `x op y`, part by part.
-use Rattle.std.proofs.Common.{◌≡◌, ℕ, suc, ◌+◌, ◌<◌, List, [], ◌∷◌, ◌++◌, length, pos, refl, sym, ap, ◌∙◌, subst, arith, append_assoc, length-append}
+use Rattle.std.proofs.Common.{◌≡◌, ℕ, List, [], ◌∷◌, ◌++◌, length, refl, sym, ap, ◌∙◌, append_assoc, length-append}
 use Rattle.cilk_tree.specs.declared.tree.BinaryOp.{BinaryOp}
 use Rattle.cilk_tree.specs.declared.tree.BinaryOp.TheVariants as op
 use Rattle.compiled_code.specs.Emitted.{binary_code, then_operate}
 use Rattle.machine_code.specs.declared.instr.Instr.{Instr}
-use Rattle.machine_code.specs.declared.instr.Instr.TheVariants.{Const, Add, Sub, Mul, Div, Rem, Not, Eq, Ne, Lt, Le, Gt, Ge, Jump, JumpIfZero}
+use Rattle.machine_code.specs.declared.instr.Instr.TheVariants.{Add, Sub, Mul, Div, Rem, Eq, Ne, Lt, Le, Gt, Ge}
 use Rattle.cilk_tree.specs.declared.tree.Expr as source_expr
 use Rattle.cilk_tree.specs.declared.tree.Expr.TheVariants as variant
 use Rattle.cilk_meaning.proofs.Resolving.{resolved_binary}
@@ -12,7 +12,7 @@ use Rattle.compiled_code.specs.Emitted.{expr_code}
 use Rattle.cilk_compiler.specs.declared.emitter.Emitter.{Emitter}
 use Rattle.cilk_compiler.specs.declared.join.Join.{Join}
 use Rattle.cilk_compiler.specs.Emitting.{expr_in, with_expr, with_instrs}
-use Rattle.cilk_compiler.specs.Joins.{opened, join_of, joined, IsWithin}
+use Rattle.cilk_compiler.specs.Joins.{opened, join_of, joined}
 use Rattle.cilk_compiler.proofs.Patching.{and_patched, or_patched}
 
 module _ (old left : List Instr) (right : ℕ → List Instr) where
@@ -40,24 +40,6 @@ module _ (old left : List Instr) (right : ℕ → List Instr) where
   operands_join op.Div = operated Div
   operands_join op.Rem = operated Rem
 
--- the jump over the right operand stands behind the left one
-pub jump_within : (operator : BinaryOp) (before more : List Instr) → IsWithin (join_of operator (length before)) (length (opened operator before ++ more))
-jump_within op.And before more = omega (arith, length-append (before ++ JumpIfZero 0 ∷ []) more, length-append before (JumpIfZero 0 ∷ []))
-jump_within op.Or before more =
-    let between = JumpIfZero (suc (suc (suc (length before)))) ∷ Const (pos 1) ∷ Jump 0 ∷ [] in
-    omega (arith, length-append (before ++ between) more, length-append before between)
-jump_within op.Eq before more = tt
-jump_within op.Ne before more = tt
-jump_within op.Lt before more = tt
-jump_within op.Le before more = tt
-jump_within op.Gt before more = tt
-jump_within op.Ge before more = tt
-jump_within op.Add before more = tt
-jump_within op.Sub before more = tt
-jump_within op.Mul before more = tt
-jump_within op.Div before more = tt
-jump_within op.Rem before more = tt
-
 -- the steps of the code of `x op y`
 module _ (old : Emitter) (operator : BinaryOp) (left right : source_expr.Expr) (first opening second : Emitter) (join : Join)
     (first_is : first ≡ with_expr (expr_in old left) old) (opening_is : opening ≡ with_instrs (opened operator first.instrs) first)
@@ -82,9 +64,3 @@ module _ (old : Emitter) (operator : BinaryOp) (left right : source_expr.Expr) (
       ∙ (λ i. with_instrs (joined (join_all i) (all i).instrs) (all i))
       ∙ ap (λ l. with_instrs l old) (operands_join old.instrs one other operator)
       ∙ ap (λ x. with_expr x old) (sym (ap (expr_in old) expr_is ∙ resolved_binary old.globals.now operator left right old.locals.scope))
-
-  pub join_within : IsWithin join (length second.instrs)
-  join_within =
-      let more = expr_code (length opening.instrs) (expr_in opening right) in
-      let all : second.instrs ≡ opened operator first.instrs ++ more = ap (λ (e : Emitter). e.instrs) second_is ∙ ap (λ (e : Emitter). e.instrs ++ more) opening_is in
-      subst (λ l. IsWithin join (length l)) (sym all) (subst (λ j. IsWithin j (length (opened operator first.instrs ++ more))) (sym join_is) (jump_within operator first.instrs more))

@@ -1,6 +1,6 @@
 -- Arrays one behind another.
-use Rattle.std.proofs.Common.{◌≡◌, ℕ, ◌+◌, ◌<◌, List, [], ◌∷◌, ◌++◌, get_or, length, map, drop, refl, sym, ap, ◌∙◌, append_assoc}
-use Rattle.std.proofs.lemmas.List.{append-nil, map-append}
+use Rattle.std.proofs.Common.{◌≡◌, ℕ, ◌+◌, ◌<◌, List, [], ◌∷◌, ◌++◌, get_or, length, drop, sym, ap, ◌∙◌, append_assoc}
+use Rattle.std.proofs.lemmas.List.{map-append}
 use Rattle.cilk_checker.proofs.Turns.{next_dropped}
 use Rattle.cilk_meaning.specs.Resolving.{extents_from}
 use Rattle.cilk_tree.specs.declared.tree.Shared.{Shared}

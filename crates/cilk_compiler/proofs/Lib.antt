@@ -1,5 +1,4 @@
 pub mod Forms
-pub mod Growing
 pub mod Joining
 pub mod Laying
 pub mod Lists

@@ -1,5 +1,5 @@
 -- A jump is written before the place where it leads is known, and set then.
-use Rattle.std.proofs.Common.{◌≡◌, ℕ, suc, ◌+◌, ◌<◌, List, [], ◌∷◌, ◌++◌, length, pos, refl, sym, ap, ◌∙◌, arith, append_assoc, length-append}
+use Rattle.std.proofs.Common.{◌≡◌, ℕ, suc, ◌+◌, List, [], ◌∷◌, ◌++◌, length, pos, sym, ap, ◌∙◌, arith, append_assoc, length-append}
 use Rattle.std.specs.Prelude.{slice_set}
 use Rattle.std.proofs.Math.Seq.{set-append_seam}
 use Rattle.machine_code.specs.declared.instr.Instr.{Instr}
@@ -12,10 +12,6 @@ regroup a x b c = append_assoc (a ++ x ∷ []) b c ∙ append_assoc a (x ∷ [])
 
 one_more : (a : List Instr) (x : Instr) → length (a ++ x ∷ []) ≡ suc (length a)
 one_more a x = omega (arith, length-append a (x ∷ []))
-
--- an instruction is among those that hold it
-pub within : (a : List Instr) (x : Instr) (b : List Instr) → length a < length (a ++ x ∷ b)
-within a x b = omega (arith, length-append a (x ∷ b))
 
 -- the instruction at a place is set
 pub set_between : (a : List Instr) (x : Instr) (b c : List Instr) (y : Instr) → slice_set (((a ++ x ∷ []) ++ b) ++ c) (length a) y ≡ a ++ y ∷ (b ++ c)

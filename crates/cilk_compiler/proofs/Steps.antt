@@ -1,50 +1,31 @@
 -- What the steps of a statement add together.
-use Rattle.std.proofs.Common.{◌≡◌, ℕ, suc, ◌+◌, ◌<◌, max, List, [], ◌∷◌, ◌++◌, length, map, pos, refl, sym, ap, ◌∙◌, arith, append_assoc, length-append}
-use Rattle.std.specs.Prelude.{slice_set}
-use Rattle.std.proofs.Math.ListN.{length-set}
+use Rattle.std.proofs.Common.{◌≡◌, ℕ, suc, ◌+◌, max, List, ◌∷◌, ◌++◌, length, map, sym, ap, ◌∙◌, arith, append_assoc, length-append}
 use Rattle.cilk_tree.specs.declared.tree.Expr as source_expr
 use Rattle.cilk_tree.specs.declared.tree.Stmt as source_stmt
 use Rattle.cilk_tree.specs.Lawful.Flow.{after_list}
-use Rattle.cilk_meaning.specs.Resolved as tree
 use Rattle.cilk_meaning.specs.Resolved.{Expr}
-use Rattle.cilk_meaning.specs.Resolving.{Resolving, part_in, in_order, resolved_expr}
-use Rattle.compiled_code.specs.Emitted.{expr_code, exprs_code, expr_operands, exprs_operands, stmt_code, stmt_operands, sync_code}
+use Rattle.cilk_meaning.specs.Resolving.{part_in, in_order, resolved_expr}
+use Rattle.compiled_code.specs.Emitted.{expr_code, exprs_code, expr_operands, exprs_operands, stmt_code, stmt_operands}
 use Rattle.machine_code.specs.declared.instr.Instr.{Instr}
-use Rattle.machine_code.specs.declared.instr.Instr.TheVariants as instr
-use Rattle.machine_code.specs.declared.instr.Instr.TheVariants.{Jump, JumpIfZero, Turn}
+use Rattle.machine_code.specs.declared.instr.Instr.TheVariants.{Turn}
 use Rattle.cilk_compiler.specs.declared.emitter.Emitter.{Emitter}
 use Rattle.cilk_compiler.specs.Jumps.{forked, met, parted, turned}
-use Rattle.cilk_compiler.specs.Emitting.{expr_in, exprs_in, statements_in, with_instrs, with_code, with_instr, with_expr, with_exprs, needing, valued, valued_two, with_stmt, behind_list, with_choice, with_loop}
-use Rattle.cilk_compiler.proofs.Growing.{parts_join, instr_joins, three_join, max_assoc}
+use Rattle.cilk_compiler.specs.Emitting.{expr_in, exprs_in, statements_in, with_instrs, with_code, with_instr, with_expr, with_exprs, valued, behind_list, with_choice, with_loop}
 use Rattle.cilk_compiler.proofs.Patching.{loop_patched, choice_patched}
 
-module _ (old : Emitter) where
-  pub two_instrs : (first second : Instr) → with_instr second (with_instr first old) ≡ with_code (λ _. first ∷ second ∷ []) old
-  two_instrs first second = ap (λ l. with_instrs l old) (append_assoc old.instrs (first ∷ []) (second ∷ []))
+-- room for one part after another
+max_assoc : (a b c : ℕ) → max (max a b) c ≡ max a (max b c)
+max_assoc a b c = omega arith
 
-  -- an expression and what takes its value
-  pub value_taken : (value : Expr) (taker : Instr) → with_instr taker (valued value old) ≡ needing (expr_operands value) (with_code (λ at. expr_code at value ++ taker ∷ []) old)
-  value_taken value taker = ap (needing (expr_operands value)) (instr_joins old (λ at. expr_code at value) taker)
+max_of_three : (a b c d : ℕ) → max (max (max a b) c) d ≡ max a (max b (max c d))
+max_of_three a b c d = omega arith
 
-  -- two expressions and what takes their values
-  pub two_taken : (first second : Expr) (taker : List Instr) →
-      with_code (λ _. taker) (valued_two first second old)
-      ≡ needing (max (expr_operands first) (suc (expr_operands second))) (with_code (λ at. expr_code at first ++ (expr_code (at + length (expr_code at first)) second ++ taker)) old)
-  two_taken first second taker =
-      ap (needing (max (expr_operands first) (suc (expr_operands second)))) (three_join old (λ at. expr_code at first) (λ at. expr_code at second) (λ _. taker))
-
-  -- arguments and what takes them
-  pub arguments_taken : (arguments : List Expr) (operands : ℕ) (taker : List Instr) →
-      with_code (λ _. taker) (needing operands (with_exprs arguments old)) ≡ needing operands (with_code (λ at. exprs_code at arguments ++ taker) old)
-  arguments_taken arguments operands taker = ap (needing operands) (parts_join old (λ at. exprs_code at arguments) (λ _. taker))
-
-  -- a sync, an expression and what takes its value
-  pub returns_made : (value : Expr) → with_instr instr.Return (valued value (with_code (λ _. sync_code old.«cilk») old)) ≡ with_stmt (tree.Return value) old
-  returns_made value = ap (needing (expr_operands value)) (three_join old (λ _. sync_code old.«cilk») (λ at. expr_code at value) (λ _. instr.Return ∷ []))
-
-  -- one argument more
-  pub argument_joins : (first : Expr) (rest : List Expr) → with_exprs rest (with_expr first old) ≡ with_exprs (first ∷ rest) old
-  argument_joins first rest = parts_join old (λ at. expr_code at first) (λ at. exprs_code at rest)
+-- one part behind another
+parts_join : (e : Emitter) (first second : ℕ → List Instr) → with_code second (with_code first e) ≡ with_code (λ at. first at ++ second (at + length (first at))) e
+parts_join e first second =
+    let at = length e.instrs in
+    ap (λ instrs. with_instrs instrs e)
+    (ap (λ n. (e.instrs ++ first at) ++ second n) (length-append e.instrs (first at)) ∙ append_assoc e.instrs (first at) (second (at + length (first at))))
 
 -- ---- arguments, one after another
 
@@ -57,7 +38,7 @@ module _ (old now new : Emitter) (argument : source_expr.Expr) (left rest : List
   pub argument_added : new ≡ with_expr (expr_in now argument) now → with_exprs (exprs_in old rest) new ≡ with_exprs whole old
   argument_added new_is =
       ap (with_exprs (exprs_in old rest)) (new_is ∙ ap (λ x. with_expr x now) argument_same)
-      ∙ argument_joins now (expr_in old argument) (exprs_in old rest)
+      ∙ parts_join now (λ at. expr_code at (expr_in old argument)) (λ at. exprs_code at (exprs_in old rest))
       ∙ ap (λ l. with_exprs (exprs_in old l) now) (sym split)
       ∙ left_is
 
@@ -70,28 +51,7 @@ module _ (old now new : Emitter) (argument : source_expr.Expr) (left rest : List
       ∙ ap (λ l. max most (exprs_operands before (exprs_in old l))) (sym split)
       ∙ total_is
 
--- room for one part after another
-max_of_three : (a b c d : ℕ) → max (max (max a b) c) d ≡ max a (max b (max c d))
-max_of_three a b c d = omega arith
-
 -- ---- loops and choices, whose jumps are set when the place is known where they lead
-
--- a jump of a condition is among what is written behind it
-pub fork_within : (asked after run : Emitter) (fork : ℕ) (statements : List Resolving) → fork ≡ length asked.instrs → after ≡ with_instr (JumpIfZero 0) asked → run ≡ behind_list statements after → fork < length run.instrs
-fork_within asked after run fork statements fork_is after_is run_is =
-    let n : length after.instrs ≡ length (asked.instrs ++ JumpIfZero 0 ∷ []) = ap (λ (e : Emitter). length e.instrs) after_is in
-    let more = stmt_code after.«cilk» (length after.instrs) (in_order statements after.locals) in
-    let m : length run.instrs ≡ length (after.instrs ++ more) = ap (λ (e : Emitter). length e.instrs) run_is in
-    omega (arith, n, m, fork_is, length-append asked.instrs (JumpIfZero 0 ∷ []), length-append after.instrs more)
-
--- and so is the one between two lists
-pub part_within : (first after both : Emitter) (fork met_end : ℕ) (statements : List Resolving) → met_end ≡ length first.instrs → after ≡ parted fork first → both ≡ behind_list statements after → met_end < length both.instrs
-part_within first after both fork met_end statements met_is after_is both_is =
-    let whole = first.instrs ++ Jump 0 ∷ [] in
-    let n : length after.instrs ≡ length (slice_set whole fork (JumpIfZero (length whole))) = ap (λ (e : Emitter). length e.instrs) after_is in
-    let more = stmt_code after.«cilk» (length after.instrs) (in_order statements after.locals) in
-    let m : length both.instrs ≡ length (after.instrs ++ more) = ap (λ (e : Emitter). length e.instrs) both_is in
-    omega (arith, n, m, met_is, length-set whole fork (JumpIfZero (length whole)), length-append first.instrs (Jump 0 ∷ []), length-append after.instrs more)
 
 module _ (old : Emitter) (condition : source_expr.Expr) where
   abbrev asked : Emitter → Emitter

@@ -1,5 +1,5 @@
 -- Names that are numbered in a list.
-use Rattle.std.specs.Prelude.{◌≡◌, ℕ, List, Option, length, map}
+use Rattle.std.specs.Prelude.{◌≡◌, ℕ, List, length, map}
 use Rattle.std.specs.List.{position_from, position_or_len}
 use Rattle.std.specs.Str.{bytes_eq}
 use Rattle.cilk_checker.specs.Names.{value_at}

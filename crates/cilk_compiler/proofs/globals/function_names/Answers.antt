@@ -1,4 +1,4 @@
-use Rattle.std.proofs.Common.{ap, subst}
+use Rattle.std.proofs.Common.{subst}
 use Rattle.cilk_tree.specs.declared.tree.Function.{Function}
 use Rattle.cilk_compiler.specs.Numbering.{IsNumbering}
 use Rattle.cilk_compiler.proofs.Numbering.{names_more, names_all}

@@ -2,7 +2,6 @@ use Rattle.std.proofs.Common.{◌∙◌, ap, subst, sym, length, ◌<◌, ◌^�
 use Rattle.machine_code.specs.Valid.{extents}
 use Rattle.cilk_meaning.specs.Resolving.{extents_from}
 use Rattle.cilk_tree.specs.declared.tree.Program.{Program}
-use Rattle.cilk_tree.specs.Lawful.Lawful.{IsLawful}
 use Rattle.cilk_compiler.proofs.Whole.{code_made, code_is_valid, code_stands}
 use Rattle.cilk_compiler.proofs.program.compile.Goals as goal
 

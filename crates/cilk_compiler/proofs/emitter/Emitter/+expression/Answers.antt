@@ -1,8 +1,8 @@
-use Rattle.std.proofs.Common.{◌≡◌, suc, max, ◌∙◌, ap, sym}
+use Rattle.std.proofs.Common.{suc, max, ◌∙◌, ap, sym}
 use Rattle.cilk_meaning.proofs.Resolving.{resolved_binary}
 use Rattle.compiled_code.specs.Emitted.{expr_operands}
 use Rattle.cilk_compiler.specs.Emitting.{expr_in, with_expr}
-use Rattle.cilk_compiler.proofs.Joining.{binary_made, right_same, join_within}
+use Rattle.cilk_compiler.proofs.Joining.{binary_made, right_same}
 use Rattle.cilk_compiler.proofs.emitter.Emitter.+expression.Goals as goal
 
 pub returns-in_ok-close-in-Binary-clause-code : goal.returns-in_ok-close-in-Binary-clause-code

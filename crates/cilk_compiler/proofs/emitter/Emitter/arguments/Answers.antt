@@ -1,4 +1,4 @@
-use Rattle.std.proofs.Common.{◌≡◌, suc, ◌+◌, max, drop, ◌∙◌, ap, arith, rules}
+use Rattle.std.proofs.Common.{◌≡◌, ◌+◌, max, drop, ◌∙◌, ap, arith, rules}
 use Rattle.cilk_checker.proofs.Turns.{next_dropped}
 use Rattle.cilk_compiler.specs.Emitting.{exprs_in}
 use Rattle.cilk_compiler.proofs.Steps.{argument_added, operands_added}

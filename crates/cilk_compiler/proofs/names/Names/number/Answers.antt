@@ -1,4 +1,4 @@
-use Rattle.std.proofs.Common.{◌∙◌, ap}
+use Rattle.std.proofs.Common.{◌∙◌}
 use Rattle.std.specs.Option.{unwrap_or}
 use Rattle.cilk_compiler.proofs.Numbering.{number_is}
 use Rattle.cilk_compiler.proofs.names.Names.number.Goals as goal
