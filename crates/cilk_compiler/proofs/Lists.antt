@@ -17,10 +17,10 @@ list_left old now list depth left all depth_is left_is =
     let behind = after_all parts old.locals in
     let reached : now.locals ≡ behind = ap (λ (e : Emitter). e.locals) all in
     let dropped : drop (length behind.scope - length old.locals.scope) behind.scope ≡ old.locals.scope =
-        ap (λ ps. drop (length (after_all ps old.locals).scope - length old.locals.scope) (after_all ps old.locals).scope) (parts_in_scope old.globals.now list)
-        ∙ declared_dropped list old.locals in
+    ap (λ ps. drop (length (after_all ps old.locals).scope - length old.locals.scope) (after_all ps old.locals).scope) (parts_in_scope old.globals.now list)
+    ∙ declared_dropped list old.locals in
     let point : left ≡ after_list parts old.locals =
-        left_is
-        ∙ (λ i. with_scope (drop (length (reached i).scope - depth_is i) (reached i).scope) (reached i))
-        ∙ ap (λ scope. with_scope scope behind) dropped in
+    left_is
+    ∙ (λ i. with_scope (drop (length (reached i).scope - depth_is i) (reached i).scope) (reached i))
+    ∙ ap (λ scope. with_scope scope behind) dropped in
     λ i. at_point (point i) (all i)

@@ -131,7 +131,7 @@ module _ (old test : List Instr) (met unmet : ℕ → List Instr) where
       let aimed = JumpIfZero (length choice_parts) in
       let front = choice_tests ++ aimed ∷ body in
       let forks : choice_forks ≡ front ++ Jump 0 ∷ [] =
-          set_between choice_tests (JumpIfZero 0) body (Jump 0 ∷ []) aimed ∙ sym (append_assoc choice_tests (aimed ∷ body) (Jump 0 ∷ [])) in
+      set_between choice_tests (JumpIfZero 0) body (Jump 0 ∷ []) aimed ∙ sym (append_assoc choice_tests (aimed ∷ body) (Jump 0 ∷ [])) in
       let lengths : length choice_met ≡ length front = omega (arith, length-append (choice_tests ++ JumpIfZero 0 ∷ []) body, length-append choice_tests (JumpIfZero 0 ∷ []), length-append choice_tests (aimed ∷ body)) in
       let n4 : length choice_forks ≡ other = ap length forks ∙ one_more front (Jump 0) ∙ ap suc (sym lengths ∙ n2) in
       let rest = unmet (length choice_forks) in

@@ -23,7 +23,7 @@ cut stack depth =
     let front = take depth stack in
     let back = drop depth stack in
     let split : scope_of stack ≡ scope_of back ++ scope_of front =
-        ap scope_of (sym (take-append-drop depth stack)) ∙ ap (map seen) (reverse-append front back) ∙ map-append seen (reverse back) (reverse front) in
+    ap scope_of (sym (take-append-drop depth stack)) ∙ ap (map seen) (reverse-append front back) ∙ map-append seen (reverse back) (reverse front) in
     let count : length (scope_of stack) - depth ≡ length (scope_of back) = omega (arith, depth_is stack, depth_is back, length-drop depth stack) in
     sym ((λ i. drop (count i) (split i)) ∙ drop-append_seam (scope_of back) (scope_of front))
 

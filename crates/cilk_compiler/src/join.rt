@@ -67,8 +67,7 @@ impl<'s, 'a> Emitter<'s, 'a> {
     {
         let jump = self.instrs.ahead(2)?;
         let other = self.instrs.ahead(3)?;
-        self.instrs
-            .extend(&[Instr::JumpIfZero(other), Instr::Const(1), Instr::Jump(0)])?;
+        self.instrs.extend(&[Instr::JumpIfZero(other), Instr::Const(1), Instr::Jump(0)])?;
         Ok(Join::Or(jump))
     }
 
@@ -91,8 +90,7 @@ impl<'s, 'a> Emitter<'s, 'a> {
     {
         let zero = self.instrs.ahead(3)?;
         let end = self.instrs.ahead(4)?;
-        self.instrs
-            .extend(&[Instr::Not, Instr::Not, Instr::Jump(end), Instr::Const(0)])?;
+        self.instrs.extend(&[Instr::Not, Instr::Not, Instr::Jump(end), Instr::Const(0)])?;
         self.instrs.set(jump, Instr::JumpIfZero(zero));
         Ok(())
     }

@@ -11,7 +11,7 @@ invariant_of-result c =
     let same = c.in_ok-globals.ensures ∙ c.program-program.ensures.same in
     let shared = c.in_ok-shared.ensures ∙ ap (extents_from 0) c.as_slice.ensures ∙ ap (λ (p : Program). extents_from 0 p.shared) c.program-program.ensures.same in
     let code = code_made source c.in_ok-globals.globals c.in_ok-procs.procs.items c.into_vec.result.items (extents c.in_ok-shared.shared.items) c.function.result c.new-2.result
-        same c.in_ok-procs.ensures.procs (c.into_vec.ensures.items ∙ c.in_ok-procs.ensures.instrs) shared c.function.ensures c.new-2.ensures in
+    same c.in_ok-procs.ensures.procs (c.into_vec.ensures.items ∙ c.in_ok-procs.ensures.instrs) shared c.function.ensures c.new-2.ensures in
     code_is_valid source c.program-program.ensures.lawful _ code (subst (λ l. length l < 2 ^ 32) (sym c.into_vec.ensures.items) c.into_vec.ensures.few)
 
 pub returns-clause-stands : goal.returns-clause-stands
@@ -20,5 +20,5 @@ returns-clause-stands c =
     let same = c.in_ok-globals.ensures ∙ c.program-program.ensures.same in
     let shared = c.in_ok-shared.ensures ∙ ap (extents_from 0) c.as_slice.ensures ∙ ap (λ (p : Program). extents_from 0 p.shared) c.program-program.ensures.same in
     let code = code_made source c.in_ok-globals.globals c.in_ok-procs.procs.items c.into_vec.result.items (extents c.in_ok-shared.shared.items) c.function.result c.new-2.result
-        same c.in_ok-procs.ensures.procs (c.into_vec.ensures.items ∙ c.in_ok-procs.ensures.instrs) shared c.function.ensures c.new-2.ensures in
+    same c.in_ok-procs.ensures.procs (c.into_vec.ensures.items ∙ c.in_ok-procs.ensures.instrs) shared c.function.ensures c.new-2.ensures in
     code_stands source c.program-program.ensures.lawful _ code

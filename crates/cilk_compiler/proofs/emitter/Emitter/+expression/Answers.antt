@@ -26,7 +26,7 @@ returns-in_ok-close-in-Binary-clause-operands t c =
     let opening = c.open.new.self in
     let second_is = c.in_ok-above-in-Binary.ensures.code ∙ ap (λ x. with_expr (expr_in opening x) opening) c.get-in-Binary-2.ensures in
     let same = right_same old c.in-Binary.operator left right c.expression-in-Binary.new.self opening c.expression-in-Binary-2.new.self c.in_ok-join-in-Binary.join
-        first_is c.in_ok-join-in-Binary.ensures.code c.in_ok-join-in-Binary.ensures.join second_is in
+    first_is c.in_ok-join-in-Binary.ensures.code c.in_ok-join-in-Binary.ensures.join second_is in
     let below = c.in_ok-below-in-Binary.ensures.operands ∙ ap (λ x. expr_operands (expr_in old x)) c.get-in-Binary.ensures in
     let above = c.in_ok-above-in-Binary.ensures.operands ∙ ap (λ x. expr_operands (expr_in opening x)) c.get-in-Binary-2.ensures ∙ ap expr_operands same in
     c.in_ok-operands-in-Binary.ensures

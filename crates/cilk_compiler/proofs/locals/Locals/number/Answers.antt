@@ -15,7 +15,7 @@ returns-in-Some c =
     let stack = c.self.inside.stack.items in
     let name = c.args.name.now in
     let found : option_map (λ y. y.now) c.find.result ≡ find (λ (local : Local). bytes_eq local.name.now name) (reverse stack) =
-        find_from_yields_List (λ (local : Local). bytes_eq local.name.now name) _ _ c.find.result c.find.ensures.ran (YieldsList-from_rev_slice stack (cc)) (λ x b q k. search (rules, tests)) in
+    find_from_yields_List (λ (local : Local). bytes_eq local.name.now name) _ _ c.find.result c.find.ensures.ran (YieldsList-from_rev_slice stack (cc)) (λ x b q k. search (rules, tests)) in
     number_found stack name (Some c.in-Some.local.now) (sym (ap (option_map (λ y. y.now)) c.in-Some.is) ∙ found)
     ∙ ap (λ (point : Point). local_number point.scope name) c.self.view_is
 
@@ -24,6 +24,6 @@ returns-in-None c =
     let stack = c.self.inside.stack.items in
     let name = c.args.name.now in
     let found : option_map (λ y. y.now) c.find.result ≡ find (λ (local : Local). bytes_eq local.name.now name) (reverse stack) =
-        find_from_yields_List (λ (local : Local). bytes_eq local.name.now name) _ _ c.find.result c.find.ensures.ran (YieldsList-from_rev_slice stack (cc)) (λ x b q k. search (rules, tests)) in
+    find_from_yields_List (λ (local : Local). bytes_eq local.name.now name) _ _ c.find.result c.find.ensures.ran (YieldsList-from_rev_slice stack (cc)) (λ x b q k. search (rules, tests)) in
     number_found stack name None (sym (ap (option_map (λ y. y.now)) c.in-None.is) ∙ found)
     ∙ ap (λ (point : Point). local_number point.scope name) c.self.view_is
