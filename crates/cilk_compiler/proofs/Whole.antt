@@ -4,6 +4,7 @@ use Rattle.std.specs.List.{fold}
 use Rattle.std.specs.Prelude.{codes}
 use Rattle.cilk_tree.specs.declared.tree.Function as source_function
 use Rattle.cilk_tree.specs.declared.tree.Program as source_program
+use Rattle.cilk_tree.specs.declared.tree.Shared.{Shared}
 use Rattle.cilk_tree.specs.Lawful.Lawful.{IsLawful}
 use Rattle.cilk_tree.specs.Lawful.Scope.{Point, declared}
 use Rattle.cilk_meaning.specs.Resolved.{Extent}
@@ -16,7 +17,7 @@ use Rattle.machine_code.specs.declared.code.Proc.{Proc}
 use Rattle.machine_code.specs.declared.instr.Instr.{Instr}
 use Rattle.machine_code.specs.Machine.{Code}
 use Rattle.machine_code.specs.StandsFor.{StandsFor}
-use Rattle.machine_code.specs.Valid.{IsValid}
+use Rattle.machine_code.specs.Valid.{IsValid, words_in}
 use Rattle.cilk_compiler.specs.declared.emitter.Emitter.{Emitter}
 use Rattle.cilk_compiler.specs.Emitting.{at_start, behind_all, functions_in, statements_in}
 
@@ -65,3 +66,9 @@ code_is_valid source lawful code is few =
 
 pub code_stands : (source : source_program.Program) → IsLawful source → (code : Code) → code ≡ compiled (resolved source) → StandsFor code (resolved source)
 code_stands source lawful code is = subst (λ c. StandsFor c (resolved source)) (sym is) (lawful_code source lawful)
+
+-- its arrays have few words
+pub few_words : (source : source_program.Program) → IsLawful source → (arrays : List Shared) → arrays ≡ source.shared → words_in (extents_from 0 arrays) < 2 ^ 32
+few_words source lawful arrays is =
+    let few = (lawful_is_well_formed source lawful).1 in
+    subst (λ l. words_in (extents_from 0 l) < 2 ^ 32) (sym is) (omega (arith, few))

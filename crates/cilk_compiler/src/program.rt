@@ -1,8 +1,8 @@
 ghost use Rattle.cilk_meaning.specs.Resolving.{extents_from, resolved};
 ghost use Rattle.compiled_code.specs.Emitted.{compiled};
 ghost use Rattle.machine_code.specs.StandsFor.{StandsFor};
-ghost use Rattle.machine_code.specs.Valid.{extents};
-ghost use Rattle.std.specs.Prelude.{◌≡◌, IfOk};
+ghost use Rattle.machine_code.specs.Valid.{extents, words_in};
+ghost use Rattle.std.specs.Prelude.{◌≡◌, ◌<◌, ◌^◌, IfOk};
 
 use crate::functions::compile_functions;
 use crate::globals::Globals;
@@ -12,8 +12,8 @@ use machine_code::{Code, Extent};
 use outside::Words;
 use std::alloc::{AllocError, Global};
 
-/// The code of a lawful program, which wants what the program wants. It has no input: all shared words start with 0. Want of
-/// memory is the only error.
+/// The code of a lawful program, which wants what the program wants. It has no input: all shared words start with 0. The error is
+/// want of memory, which a code of 2^32 instructions counts as; that of a text of a MiB is far from it.
 pub fn compile(alloc: Global, checked: &Checked) -> Result<Code, AllocError>
     ensures compiled { IfOk result (λ code. code ≡ compiled (resolved checked.now)) }
     ensures stands { IfOk result (λ code. StandsFor code (resolved checked.now)) }
@@ -34,14 +34,15 @@ pub fn compile(alloc: Global, checked: &Checked) -> Result<Code, AllocError>
 
 /// Where the arrays lie, one behind another from word 0 on.
 fn lay_out(alloc: Global, arrays: &[Shared]) -> Result<Vec<Extent>, AllocError>
+    requires { words_in (extents_from 0 arrays.now) < 2 ^ 32 }
     ensures { IfOk result (λ shared. extents shared.items ≡ extents_from 0 arrays.now) }
 {
     let mut shared = Vec::new(alloc);
-    let mut base: u32 = 0;
+    let mut base = 0;
     for array in arrays {
-        let words = u32::try_from(array.words).ok().ok_or(AllocError)?;
+        let words = array.words as u32;
         shared.push(Extent { base, words })?;
-        base = base.checked_add(words).ok_or(AllocError)?;
+        base += words;
     }
     Ok(shared)
 }

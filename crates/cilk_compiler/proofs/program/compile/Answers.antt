@@ -2,8 +2,12 @@ use Rattle.std.proofs.Common.{◌∙◌, ap, subst, sym, length, ◌<◌, ◌^�
 use Rattle.machine_code.specs.Valid.{extents}
 use Rattle.cilk_meaning.specs.Resolving.{extents_from}
 use Rattle.cilk_tree.specs.declared.tree.Program.{Program}
-use Rattle.cilk_compiler.proofs.Whole.{code_made, code_is_valid, code_stands}
+use Rattle.cilk_compiler.proofs.Whole.{code_made, code_is_valid, code_stands, few_words}
 use Rattle.cilk_compiler.proofs.program.compile.Goals as goal
+
+pub lay_out-requires : goal.lay_out-requires
+lay_out-requires c =
+    few_words c.args.checked.now c.program-program.ensures.lawful c.as_slice.result.now (c.as_slice.ensures ∙ ap (λ (p : Program). p.shared) c.program-program.ensures.same)
 
 pub invariant_of-result : goal.invariant_of-result
 invariant_of-result c =
