@@ -1,0 +1,9 @@
+pub mod Forms
+pub mod Joining
+pub mod Laying
+pub mod Lists
+pub mod Numbering
+pub mod Patching
+pub mod Stacks
+pub mod Steps
+pub mod Whole
