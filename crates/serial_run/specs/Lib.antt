@@ -1,1 +1,2 @@
 pub mod Elision
+pub mod Running

@@ -1,8 +1,9 @@
 //! The serial elision of a code: its end, history, shared words and ticks.
 #![tactic(auto)]
 
-mod serial;
+mod run;
+mod serial_elision;
 mod serial_end;
 
-pub use serial::serial;
+pub use serial_elision::serial;
 pub use serial_end::SerialEnd;

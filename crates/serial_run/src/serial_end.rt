@@ -2,7 +2,7 @@ use cilk_meaning::NodeEnd;
 use outside::Words;
 use span_tree::History;
 
-/// What the serial elision of a code leaves: how it ended, the history of what it did, the value of each shared word, and how many ticks it made.
+/// What a serial run leaves: how it ended, the history of what it did, the value of each shared word, and how many ticks it made.
 #[derive(Debug, Drop)]
 pub struct SerialEnd {
     pub end: NodeEnd,

@@ -15,6 +15,5 @@ use std::alloc::{AllocError, Global};
 pub fn serial(alloc: Global, code: &Code, budget: u64) -> Result<SerialEnd, AllocError>
     ensures elision { (program : Program) → StandsFor code.now program → IfOk result (λ ended. IsElision code.now program budget ended) }
 {
-    let _ = (alloc, code, budget);
     Err(AllocError)
 }

@@ -1,0 +1,2 @@
+mod Blind
+mod Coming
