@@ -85,6 +85,10 @@ module _ (code : Code) (depth : ℕ) (frame : Frame) (block : Block) (come : Has
     lasted = comes_on code depth come.procedure come.arguments come.events (replicate steps.count Steps ++ Answered answer ∷ []) _ _ come.lasted (steps.comes block);
   }
 
+  pub resumed_procedure : (request : Request) (answer : Answer) (next : Frame) (steps : HasResumed code request answer frame next) → (come_resumed request answer next steps).procedure ≡ come.procedure
+  unfolding come_resumed
+  resumed_procedure request answer next steps = refl
+
 or_true : (b c : Bool) → c ≡ true → (b || c) ≡ true
 or_true true c e = refl
 or_true false c e = e

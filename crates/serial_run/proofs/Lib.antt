@@ -1,2 +1,7 @@
 mod Blind
 mod Coming
+mod Requests
+mod Returning
+mod Spawning
+mod Standing
+mod Turning

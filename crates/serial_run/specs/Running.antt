@@ -10,6 +10,7 @@ use Rattle.machine_code.specs.Early.{Event, TakesEarly, at_sync}
 use Rattle.machine_code.specs.Machine.{Code, Frame, wants}
 use Rattle.machine_code.specs.Valid.{words_in}
 use Rattle.plain_machine.specs.Lasting.{HasLasted}
+use Rattle.plain_machine.specs.Standing.{StandsIn}
 use Rattle.plain_machine.specs.Starting.{IsTarget}
 use Rattle.serial_run.specs.Elision.{AreWords}
 use Rattle.serial_run.specs.declared.run.Parent.{Parent}
@@ -44,6 +45,7 @@ pub record GoesAs (code : Code) (frame : Frame) (entry : Entry) : Type 0 where
 
 -- A frame that waits for its child, whose value can go to its target.
 pub record Waits (code : Code) (depth : ℕ) (parent : Parent) (waiting : service.Parent) : Type 0 where
+  pub fine : StandsIn code parent.frame.frame
   pub block : Block
   pub come : HasCome code depth parent.frame.frame (block ++ parent.target ∷ [])
   pub target : parent.target ≡ waiting.target
@@ -64,6 +66,7 @@ AreAbove history row (waiting ∷ others) = IsParentRow history row waiting.entr
 
 -- The run stands for the state. Its frames want what the instances want where values may come early in this code.
 pub record Stands (code : Code) (run : Run) (state : State) : Type 0 where
+  pub fine : StandsIn code run.frame.frame
   pub block : Block
   pub come : HasCome code (length run.parents.items) run.frame.frame block
   pub goes : TakesEarly code → GoesAs code run.frame.frame state.running

@@ -1,7 +1,6 @@
-use machine_code::Code;
+
 use plain_machine::Frame;
 use span_tree::Recording;
-use std::alloc::{AllocError, Global};
 
 /// A frame that waits for its child, whose value goes to this local.
 #[derive(Debug, Drop)]
@@ -10,7 +9,8 @@ pub struct Parent {
     pub target: Option<u32>,
 }
 
-/// A serial run: the frame that runs, those that wait for it, the nearest last, what happened so far, the shared words, and how many ticks are left.
+/// A serial run: the frame that runs, those that wait for their children, the nearest last, what happened so far, the shared words, and
+/// how many ticks are left.
 #[derive(Debug, Drop)]
 pub struct Run {
     pub frame: Frame,
@@ -19,3 +19,4 @@ pub struct Run {
     pub words: Vec<i64>,
     pub left: u64,
 }
+
