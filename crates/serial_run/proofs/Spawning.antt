@@ -57,7 +57,7 @@ module _ (code : Code) (old new : Run) (target : Option ℕ) (procedure : ℕ) (
       size : length new.parents.items ≡ suc (length old.parents.items)
       size = ap length parents ∙ (let more = length-append old.parents.items (record { frame = waits; target = target } ∷ []) in omega (arith, more))
 
-      behind : HasCome code (length old.parents.items) waits.frame (s.block ++ target ∷ [])
+      abbrev behind : HasCome code (length old.parents.items) waits.frame (s.block ++ target ∷ [])
       behind = come_resumed code (length old.parents.items) old.frame.frame s.block s.come (Spawn target procedure arguments) Done waits.frame a.resumed
 
       before_lasts : Lasts code (length old.parents.items) s.come.procedure old.frame.frame

@@ -1,8 +1,8 @@
 -- What a run stands for behind each request.
 use Rattle.std.proofs.Common.{◌≡◌, ◌≢◌, ◌⊎◌, ℕ, zero, suc, ◌+◌, ◌<◌, ◌≤◌, List, [], ◌∷◌, ◌++◌, length, reverse, get_or, set, Option, Some, None, Result, Ok, Err, refl, sym, ap, ◌∙◌, subst, inl, inr, arith}
 use Rattle.std.specs.Prelude.{ℤ, Bool, true, false, ◌==◌, if◌then◌else◌, slice_get, OnOk}
-use Rattle.std.proofs.lemmas.Bool.{eqb-true, eqb-false}
-use Rattle.std.proofs.lemmas.List.{length-reverse, reverse-append, length-set, get_or-set_same, get_or-set_other}
+use Rattle.std.proofs.lemmas.Bool.{cases_lt, eqb-true, eqb-false}
+use Rattle.std.proofs.lemmas.List.{length-append, length-reverse, reverse-append, length-set, get_or-set_same, get_or-set_other}
 use Rattle.std.proofs.lemmas.Option.{slice_get-get_or, get_or_from_slice_get}
 use Rattle.cilk_meaning.specs.Alone.{Block, block_after}
 use Rattle.cilk_meaning.specs.Serve as service
@@ -23,7 +23,7 @@ use Rattle.serial_run.specs.declared.run.Run.{Run}
 use Rattle.serial_run.proofs.Coming.{come_resumed, come_stepped, goes_answered, goes_stepped, goes_synced}
 use Rattle.span_tree.specs.History.{History, Row, row_at}
 use Rattle.span_tree.specs.Recording.{IsParentRow, with_act}
-use Rattle.span_tree.proofs.Growing.{with_length, with_parent}
+use Rattle.span_tree.proofs.Growing.{get_front, get_last, with_length, with_parent}
 
 -- ---- rows
 
@@ -58,6 +58,24 @@ module _ (count : ℕ) (memory : ℕ → ℤ) (items : List ℤ) (words : AreWor
 
   pub words_set : AreWords count (with_word word value memory) (set items word value)
   words_set = record { count_is = length-set items word value ∙ words.count_is; each_is = λ other inside. set_here other inside (other == word) refl }
+
+pub no_words : (memory : ℕ → ℤ) (items : List ℤ) → items ≡ [] → AreWords 0 memory items
+no_words memory items e = record { count_is = ap length e; each_is = λ word inside. absurd (omega (arith, inside)) }
+
+-- a list with one word more
+pub words_more : (count : ℕ) (memory : ℕ → ℤ) (items more : List ℤ) (value : ℤ) → AreWords count memory items → value ≡ memory count → more ≡ items ++ value ∷ [] → AreWords (count + 1) memory more
+words_more count memory items more value words is e = record {
+  count_is = let n = words.count_is in let m = ap length e in omega (arith, n, m, length-append items (value ∷ []));
+  each_is = λ word inside. ap (λ l. slice_get l word) e ∙ go word (cases_lt word count) inside;
+}
+  where
+    go : (word : ℕ) → (word < count) ⊎ (count ≤ word) → word < count + 1 → slice_get (items ++ value ∷ []) word ≡ Some (memory word)
+    go word (inl before) inside = get_front items value (memory word) word (words.each_is word before)
+    go word (inr behind) inside =
+        let n = words.count_is in
+        let here : word ≡ length items = omega (arith, behind, inside, n) in
+        let last : word ≡ count = omega (arith, behind, inside) in
+        ap (slice_get (items ++ value ∷ [])) here ∙ get_last items value ∙ ap Some (is ∙ ap memory (sym last))
 
 -- ---- a request that the frame goes on from
 

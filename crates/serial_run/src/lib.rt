@@ -4,6 +4,7 @@
 mod run;
 mod serial_elision;
 mod serial_end;
+mod words;
 
 pub use serial_elision::serial;
 pub use serial_end::SerialEnd;

@@ -3,6 +3,7 @@ ghost use Rattle.cilk_meaning.specs.Resolved.{Program};
 ghost use Rattle.machine_code.specs.StandsFor.{StandsFor};
 ghost use Rattle.serial_run.specs.Elision.{IsElision};
 
+use crate::run::Run;
 use crate::serial_end::SerialEnd;
 use machine_code::Code;
 use std::alloc::{AllocError, Global};
@@ -15,5 +16,10 @@ use std::alloc::{AllocError, Global};
 pub fn serial(alloc: Global, code: &Code, budget: u64) -> Result<SerialEnd, AllocError>
     ensures elision { (program : Program) → StandsFor code.now program → IfOk result (λ ended. IsElision code.now program budget ended) }
 {
-    Err(AllocError)
+    let mut run = Run::start(alloc, code, budget)?;
+    loop {
+        if let Some(end) = run.turn(alloc, code)? {
+            return run.finish(alloc, end, budget);
+        }
+    }
 }

@@ -1,0 +1,37 @@
+use Rattle.std.proofs.Common.{rules, ◌≡◌, ◌+◌, ◌*◌, ◌-◌, ◌<◌, ◌≤◌, ℕ, length, IfOk, MatchOption, OnOk, ◌/◌, ◌%◌, Bool, true, false, nat_eq, nat_lt, List, [], ◌∷◌, ◌++◌, slice_index_or, slice_set, bit_and, bit_or, Fits, w8, w32, w64, Bor, MutBor}
+use Rattle.cilk_meaning.specs.Serve.{State, first_state, serve}
+use Rattle.cilk_meaning.specs.Wants as wanted
+use Rattle.cilk_meaning.specs.Wants.{Asks}
+use Rattle.cilk_meaning.specs.World.{End}
+use Rattle.machine_code.specs.Machine.{Code as Codes}
+use Rattle.machine_code.specs.Machine.{starts}
+use Rattle.machine_code.specs.StandsFor.{start_words_of}
+use Rattle.plain_machine.specs.Shown.{WantsNext}
+use Rattle.plain_machine.specs.Starting.{IsTarget}
+use Rattle.serial_run.specs.Running.{IsStanding, Stands}
+use Rattle.serial_run.specs.Serving.{EndsAs, GoesBack, IsDone, LeadsTo, Serves, ServesWant, meant_by, with_value}
+use Rattle.serial_run.proofs.run.Run.spawn.Goals as goal
+
+-- src/run.rt:185:21
+pub overflow_add-depth : goal.overflow_add-depth
+overflow_add-depth c = ?
+
+-- src/run.rt:186:21
+pub start-requires-clause-proc : goal.start-requires-clause-proc
+start-requires-clause-proc c = ?
+
+-- src/run.rt:186:21
+pub start-requires-clause-args : goal.start-requires-clause-args
+start-requires-clause-args c = ?
+
+-- src/run.rt:186:21
+pub start-requires-clause-depth : goal.start-requires-clause-depth
+start-requires-clause-depth c = ?
+
+-- src/run.rt:189:9
+pub answer-requires-clause-stands : goal.answer-requires-clause-stands
+answer-requires-clause-stands c = ?
+
+-- src/run.rt:172:5
+pub returns : goal.returns
+returns c = ?
