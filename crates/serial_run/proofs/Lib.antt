@@ -1,5 +1,6 @@
 mod Blind
 mod Coming
+mod Ending
 mod Requests
 mod Returning
 mod Spawning

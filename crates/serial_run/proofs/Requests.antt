@@ -1,5 +1,5 @@
 -- Each request as the run serves it.
-use Rattle.std.proofs.Common.{◌≡◌, ℕ, zero, suc, ◌+◌, ◌<◌, ◌≤◌, List, [], ◌∷◌, ◌++◌, length, reverse, set, get_or, Option, Some, None, Result, Ok, Err, refl, sym, ap, ◌∙◌, subst, arith}
+use Rattle.std.proofs.Common.{◌≡◌, ℕ, zero, suc, ◌+◌, ◌<◌, ◌≤◌, List, [], ◌∷◌, ◌++◌, length, reverse, set, get_or, Option, Some, None, Result, Ok, Err, refl, sym, ap, ◌∙◌, subst, ◌⊎◌, inl, inr, arith}
 use Rattle.std.specs.Prelude.{ℤ, slice_get, OnOk}
 use Rattle.std.proofs.lemmas.Option.{get_or_from_slice_get}
 use Rattle.std.specs.declared.alloc.AllocError.{AllocError}
@@ -16,11 +16,14 @@ use Rattle.machine_code.specs.Machine.{Code, Frame, starts, wants}
 use Rattle.machine_code.specs.Valid.{words_in}
 use Rattle.plain_machine.specs.Shown.{WantsNext, meant}
 use Rattle.plain_machine.specs.declared.want.Answer as declared
+use Rattle.plain_machine.specs.declared.want.Answer.TheVariants as given
+use Rattle.plain_machine.specs.declared.want.Want as saying
+use Rattle.plain_machine.specs.declared.want.Want.TheVariants as shown
 use Rattle.plain_machine.specs.Standing.{StandsIn}
 use Rattle.plain_machine.specs.Stepping.{HasResumed}
 use Rattle.serial_run.specs.Elision.{AreWords}
 use Rattle.serial_run.specs.Running.{AllWait, AreAbove, GoesAs, HasCome, IsStanding, Stands, Waits, targeted}
-use Rattle.serial_run.specs.Serving.{Serves}
+use Rattle.serial_run.specs.Serving.{Serves, ServesWant, meant_by}
 use Rattle.serial_run.specs.declared.run.Run.{Run}
 use Rattle.serial_run.proofs.Blind.{wants_words}
 use Rattle.serial_run.proofs.Coming.{goes_answered, goes_synced}
@@ -181,3 +184,16 @@ module _ (code : Code) (old new : Run) (parents : new.parents.items ≡ old.pare
           replied_stands code old new state s (act_stays Sync made state s) wanted.Sync (Children []) (Children state.running.kept) [] (world.after_sync state.running.row state.world) a.resumed a.fine goes
           (act_history Sync made state s) refl
           (subst (λ items. AreWords (words_in code.shared) state.world.memory items) (sym words) s.words)
+
+-- a want that is no act
+pub quiet_serves : (code : Code) (old new : Run) → new.parents.items ≡ old.parents.items → new.left ≡ old.left → new.recording ≡ old.recording → new.words.items ≡ old.words.items →
+    (said : saying.Want) (arguments : List ℤ) → (said ≡ shown.Call) ⊎ (said ≡ shown.LoopTurn) → WantsNext code old.frame.frame (meant_by said arguments) → StandsIn code new.frame.frame →
+    (result : Result (Unit {0}) AllocError) →
+    OnOk result ((request : Request) → WantsNext code old.frame.frame (Asks request) → wants code new.frame.frame ≡ after (wants code old.frame.frame) (meant request given.Done)) →
+    OnOk result ((request : Request) → WantsNext code old.frame.frame (Asks request) → HasResumed code request (meant request given.Done) old.frame.frame new.frame.frame) → OnOk result (ServesWant code (meant_by said arguments) old new)
+quiet_serves code old new parents left quiet words said arguments (inl is) next fine result goes resumed =
+    subst (λ s. OnOk result (ServesWant code (meant_by s arguments) old new)) (sym is)
+    (answering code old.frame.frame new.frame.frame wanted.Call given.Done (subst (λ s. WantsNext code old.frame.frame (meant_by s arguments)) is next) fine result goes resumed (call_serves code old new parents left quiet words))
+quiet_serves code old new parents left quiet words said arguments (inr is) next fine result goes resumed =
+    subst (λ s. OnOk result (ServesWant code (meant_by s arguments) old new)) (sym is)
+    (answering code old.frame.frame new.frame.frame wanted.LoopTurn given.Done (subst (λ s. WantsNext code old.frame.frame (meant_by s arguments)) is next) fine result goes resumed (turn_serves code old new parents left quiet words))

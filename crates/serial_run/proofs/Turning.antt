@@ -15,6 +15,7 @@ use Rattle.plain_machine.specs.Shown.{Shown, WantsNext, arguments_of, shown_want
 use Rattle.plain_machine.specs.Standing.{StandsIn}
 use Rattle.plain_machine.specs.Stepping.{HasStepped}
 use Rattle.plain_machine.specs.declared.want.Want as declared
+use Rattle.plain_machine.specs.declared.want.Want.TheVariants as shown
 use Rattle.machine_code.specs.Valid.{words_in}
 use Rattle.serial_run.specs.Elision.{AreWords}
 use Rattle.span_tree.specs.Recording.{Recorded}
@@ -50,16 +51,29 @@ pub wants_so : (code : Code) (frame next : Frame) (said : declared.Want) (argume
     wants code next ≡ wants code frame → WantsNext code next (meant_by said arguments)
 wants_so code frame next said arguments e h same = ap now same ∙ seen (now (wants code frame)) said arguments e h
 
+-- a want that ends nothing is a request
+pub is_request : (said : declared.Want) (arguments : List ℤ) → ((value : ℤ) → said ≡ shown.Return value → ⊥) → ((kind : TrapKind) → said ≡ shown.Trap kind → ⊥) → (request : Request) × (meant_by said arguments ≡ Asks request)
+is_request (shown.Read word) arguments h k = (Read word, refl)
+is_request (shown.Write word value) arguments h k = (Write word value, refl)
+is_request (shown.Add word addend) arguments h k = (Add word addend, refl)
+is_request (shown.Print value) arguments h k = (Print value, refl)
+is_request (shown.Spawn procedure target) arguments h k = (Spawn target procedure arguments, refl)
+is_request shown.Sync arguments h k = (Sync, refl)
+is_request shown.Call arguments h k = (Call, refl)
+is_request shown.LoopTurn arguments h k = (LoopTurn, refl)
+is_request (shown.Return value) arguments h k = absurd (h value refl)
+is_request (shown.Trap kind) arguments h k = absurd (k kind refl)
+
 -- ---- steps of the service
 
 module _ (code : Code) (left : ℕ) (state : State) where
   asks_served : (request : Request) → now state.running.goes ≡ Some (Asks request) → serve (starts code) (suc left) state ≡ serve (starts code) left (served (starts code) request state)
   asks_served request e = ap (λ o. serve_want (serve_request (starts code) (suc left)) (serve_return (serve_request (starts code) (suc left)) state.waiting) o state) e
 
-  spent_served : (request : Request) → now state.running.goes ≡ Some (Asks request) → serve (starts code) 0 state ≡ record { end = Budget; world = state.world }
+  pub spent_served : (request : Request) → now state.running.goes ≡ Some (Asks request) → serve (starts code) 0 state ≡ record { end = Budget; world = state.world }
   spent_served request e = ap (λ o. serve_want (serve_request (starts code) 0) (serve_return (serve_request (starts code) 0) state.waiting) o state) e
 
-  trap_served : (kind : TrapKind) → now state.running.goes ≡ Some (Traps kind) → serve (starts code) left state ≡ record { end = Trapped kind; world = state.world }
+  pub trap_served : (kind : TrapKind) → now state.running.goes ≡ Some (Traps kind) → serve (starts code) left state ≡ record { end = Trapped kind; world = state.world }
   trap_served kind e = ap (λ o. serve_want (serve_request (starts code) left) (serve_return (serve_request (starts code) left) state.waiting) o state) e
 
   return_served : (value : ℤ) → now state.running.goes ≡ Some (Returns value) → serve (starts code) left state ≡ serve_return (serve_request (starts code) left) state.waiting value state.world

@@ -1,29 +1,43 @@
-use Rattle.std.proofs.Common.{rules, IfOk, ◌≡◌, ℕ, ◌+◌, ◌-◌, ◌*◌, ◌<◌, ◌≤◌, length, ◌/◌, ◌%◌, Bool, true, false, nat_eq, nat_lt, List, [], ◌∷◌, ◌++◌, slice_index_or, slice_set, bit_and, bit_or, Fits, w8, w32, w64, Bor, MutBor}
-use Rattle.cilk_meaning.specs.Resolved.{Program}
-use Rattle.machine_code.specs.StandsFor.{StandsFor}
-use Rattle.serial_run.specs.Elision.{IsElision}
+use Rattle.std.proofs.Common.{◌+◌, ◌*◌, ◌<◌, length, subst}
+use Rattle.std.specs.Prelude.{MatchOption}
+use Rattle.serial_run.specs.Serving.{EndsAs, LeadsTo}
+use Rattle.serial_run.proofs.Ending.{leaves_elision, service_of, within_budget}
 use Rattle.serial_run.proofs.serial_elision.serial.Goals as goal
 
--- src/serial_elision.rt:20:5
 pub loop-run-init : goal.loop-run-init
-loop-run-init c = ?
+loop-run-init c = c.in_ok-run.ensures {u = tt}
 
--- src/serial_elision.rt:21:28
 pub turn-requires : goal.turn-requires
-turn-requires c = ?
+turn-requires c = (c.loop-run.invariant.state, c.loop-run.invariant.stands)
 
--- src/serial_elision.rt:22:13
 pub finish-requires : goal.finish-requires
-finish-requires c = ?
+finish-requires c =
+    let code = c.args.code.now in
+    let whole = service_of code c.args.budget in
+    within_budget code whole c.args.budget c.in-Some.end c.turn.new.self
+    (subst (λ stop. MatchOption stop (LeadsTo code whole c.args.budget c.turn.new.self) (λ end. EndsAs code whole c.args.budget end c.turn.new.self)) c.in-Some.is
+    ((c.in_ok-end.ensures {u = tt}).goes whole c.args.budget c.loop-run.invariant))
 
--- src/serial_elision.rt:22:13
 pub returns-in-Some : goal.returns-in-Some
-returns-in-Some c = ?
+returns-in-Some c =
+    let code = c.args.code.now in
+    let whole = service_of code c.args.budget in
+    let ends = subst (λ stop. MatchOption stop (LeadsTo code whole c.args.budget c.turn.new.self) (λ end. EndsAs code whole c.args.budget end c.turn.new.self)) c.in-Some.is
+        ((c.in_ok-end.ensures {u = tt}).goes whole c.args.budget c.loop-run.invariant) in
+    record {
+      elision = λ program is.
+          leaves_elision code program c.args.budget c.in-Some.end c.turn.new.self ends is c.finish.result c.finish.ensures.end c.finish.ensures.history c.finish.ensures.memory c.finish.ensures.ticks;
+    }
 
--- src/serial_elision.rt:20:5
 pub loop-run-smaller : goal.loop-run-smaller
-loop-run-smaller c = ?
+loop-run-smaller c =
+    subst
+    (λ stop. MatchOption stop (2 * c.turn.new.self.left + length c.turn.new.self.parents.items < 2 * c.loop-run.run.left + length c.loop-run.run.parents.items) (λ end. Unit {0}))
+    c.in_default.is (c.in_ok-end.ensures {u = tt}).nearer
 
--- src/serial_elision.rt:20:5
 pub loop-run-preserved : goal.loop-run-preserved
-loop-run-preserved c = ?
+loop-run-preserved c =
+    let code = c.args.code.now in
+    let whole = service_of code c.args.budget in
+    subst (λ stop. MatchOption stop (LeadsTo code whole c.args.budget c.turn.new.self) (λ end. EndsAs code whole c.args.budget end c.turn.new.self)) c.in_default.is
+    ((c.in_ok-end.ensures {u = tt}).goes whole c.args.budget c.loop-run.invariant)

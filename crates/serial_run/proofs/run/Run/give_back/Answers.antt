@@ -1,17 +1,18 @@
-use Rattle.std.proofs.Common.{rules, ◌≡◌, ◌+◌, ◌*◌, ◌-◌, ◌<◌, ◌≤◌, ℕ, length, IfOk, MatchOption, OnOk, ◌/◌, ◌%◌, Bool, true, false, nat_eq, nat_lt, List, [], ◌∷◌, ◌++◌, slice_index_or, slice_set, bit_and, bit_or, Fits, w8, w32, w64, Bor, MutBor, ℤ, pos, ◌+ℤ◌, ◌-ℤ◌, ◌*ℤ◌, ◌≤ℤ◌, ◌<ℤ◌, FitsSigned, to_z, of_z}
-use Rattle.cilk_meaning.specs.Serve.{State, first_state, serve}
-use Rattle.cilk_meaning.specs.Wants as wanted
-use Rattle.cilk_meaning.specs.Wants.{Asks}
-use Rattle.cilk_meaning.specs.World.{End}
-use Rattle.machine_code.specs.Machine.{Code as Codes}
-use Rattle.machine_code.specs.Machine.{starts}
-use Rattle.machine_code.specs.StandsFor.{start_words_of}
-use Rattle.plain_machine.specs.Shown.{WantsNext}
-use Rattle.plain_machine.specs.Starting.{IsTarget}
-use Rattle.serial_run.specs.Running.{IsStanding, Stands}
-use Rattle.serial_run.specs.Serving.{EndsAs, GoesBack, IsDone, LeadsTo, Serves, ServesWant, meant_by, with_value}
+use Rattle.std.proofs.Common.{◌≡◌, ap, refl, sym, ◌∙◌, w64, to_z, of_z, FitsSigned, rules}
+use Rattle.std.proofs.lemmas.Int.{to_z-of_z}
+use Rattle.serial_run.specs.Serving.{with_value}
+use Rattle.serial_run.proofs.Returning.{can_leave, can_receive, goes_back, is_done}
 use Rattle.serial_run.proofs.run.Run.give_back.Goals as goal
 
--- src/run.rt:87:5
+pub leave-requires : goal.leave-requires
+leave-requires c = can_leave c.requires.0 c.args.self.now c.requires.1.0 c.requires.1.1 c.in-Some.parent c.pop.new.self.items c.in-Some.ensures.items
+
+pub resumed-requires : goal.resumed-requires
+resumed-requires c = can_receive c.requires.0 c.args.self.now c.requires.1.0 c.requires.1.1 c.in-Some.parent c.pop.new.self.items c.in-Some.ensures.items
+
 pub returns-in-Some-clause-back : goal.returns-in-Some-clause-back
-returns-in-Some-clause-back c = ?
+returns-in-Some-clause-back c code state s =
+    let fits : FitsSigned w64 c.args.value = search rules in
+    goes_back code c.args.self.now state s c.in-Some.parent c.pop.new.self.items c.in-Some.ensures.items _ c.args.value refl
+    (c.resumed.ensures.given ∙ ap (λ value. with_value c.in-Some.parent.target value c.in-Some.parent.frame.frame) (to_z-of_z w64 c.args.value fits))
+    (c.resumed.ensures.stands code) c.leave.ensures.parent c.leave.ensures.history refl

@@ -1,21 +1,11 @@
-use Rattle.std.proofs.Common.{rules, ◌≡◌, ◌+◌, ◌*◌, ◌-◌, ◌<◌, ◌≤◌, ℕ, length, IfOk, MatchOption, OnOk, ◌/◌, ◌%◌, Bool, true, false, nat_eq, nat_lt, List, [], ◌∷◌, ◌++◌, slice_index_or, slice_set, bit_and, bit_or, Fits, w8, w32, w64, Bor, MutBor, ℤ, pos, ◌+ℤ◌, ◌-ℤ◌, ◌*ℤ◌, ◌≤ℤ◌, ◌<ℤ◌, FitsSigned, to_z, of_z}
-use Rattle.cilk_meaning.specs.Serve.{State, first_state, serve}
-use Rattle.cilk_meaning.specs.Wants as wanted
-use Rattle.cilk_meaning.specs.Wants.{Asks}
-use Rattle.cilk_meaning.specs.World.{End}
-use Rattle.machine_code.specs.Machine.{Code as Codes}
-use Rattle.machine_code.specs.Machine.{starts}
-use Rattle.machine_code.specs.StandsFor.{start_words_of}
-use Rattle.plain_machine.specs.Shown.{WantsNext}
-use Rattle.plain_machine.specs.Starting.{IsTarget}
-use Rattle.serial_run.specs.Running.{IsStanding, Stands}
-use Rattle.serial_run.specs.Serving.{EndsAs, GoesBack, IsDone, LeadsTo, Serves, ServesWant, meant_by, with_value}
+use Rattle.std.proofs.Common.{refl}
+use Rattle.serial_run.proofs.Requests.{quiet_serves}
 use Rattle.serial_run.proofs.run.Run.serve.Goals as goal
 
--- src/run.rt:115:44
 pub answer-requires-clause-stands : goal.answer-requires-clause-stands
-answer-requires-clause-stands c = ?
+answer-requires-clause-stands c = c.requires.standing.1.fine
 
--- src/run.rt:103:5
 pub returns-in-Call : goal.returns-in-Call
-returns-in-Call c = ?
+returns-in-Call c =
+    quiet_serves c.args.code.now c.args.self.now _ refl refl refl refl c.args.want c.args.self.now.frame.arguments c.in-Call.is c.requires.wants c.answer.ensures.stands
+    c.answer.result c.answer.ensures.wants c.answer.ensures.resumed
