@@ -1,5 +1,5 @@
 -- What holds of each request of a frame: its word is one of the code's, and values without a target change nothing behind it.
-use Rattle.std.proofs.Common.{◌≡◌, ℕ, zero, suc, ◌+◌, ◌<◌, List, length, [], ◌∷◌, ◌++◌, Option, Some, None, Result, Ok, Err, refl, sym, ap, ◌∙◌, subst, arith}
+use Rattle.std.proofs.Common.{◌≡◌, ℕ, zero, suc, ◌+◌, ◌<◌, List, length, [], ◌∷◌, ◌++◌, Option, Some, None, Result, Ok, Err, refl, ap, subst, arith}
 use Rattle.std.proofs.lemmas.Bool.{ltb-true}
 use Rattle.std.specs.Prelude.{ℤ, pos, negsuc, ◌==◌, nat_lt, Bool, true, false, if◌then◌else◌, slice_get}
 use Rattle.cilk_tree.specs.declared.tree.BinaryOp.{BinaryOp}
@@ -18,7 +18,7 @@ use Rattle.cilk_meaning.specs.Wants.{Request, Want, Asks, Returns, Traps, Deposi
 use Rattle.machine_code.specs.declared.code.Proc.{Proc}
 use Rattle.machine_code.specs.declared.instr.Instr.{Instr}
 use Rattle.machine_code.specs.declared.instr.Instr.TheVariants as instr
-use Rattle.machine_code.specs.Machine.{Code, Activation, Frame, Move, GoesOn, Requests, Ends, Stuck, popping, given, with_proc, binary, unary, returned, act, look, go_on, remaining, settle, settled, last_want, want_and, resumed, wants_for, wants, stored, start_frame, starts, starts_at}
+use Rattle.machine_code.specs.Machine.{Code, Activation, Frame, Move, GoesOn, Requests, Ends, Stuck, popping, given, with_proc, binary, unary, returned, act, look, go_on, remaining, settle, settled, last_want, want_and, resumed, wants_for, stored, start_frame, starts, starts_at}
 use Rattle.machine_code.specs.Valid.{AreInOrder, words_in}
 use Rattle.plain_machine.specs.Shown.{WantsNext}
 use Rattle.serial_run.specs.Running.{IsBlind, if_targeted, targeted}

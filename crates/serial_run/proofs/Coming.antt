@@ -1,14 +1,13 @@
 -- Frames that go as instances do: behind an answer, and behind a value that comes early.
-use Rattle.std.proofs.Common.{◌≡◌, ℕ, zero, suc, ◌+◌, ◌<◌, ◌≤◌, List, [], ◌∷◌, ◌++◌, append_assoc, length, drop, Option, Some, None, refl, sym, ap, ◌∙◌, subst, arith}
+use Rattle.std.proofs.Common.{◌≡◌, ℕ, suc, ◌≤◌, List, [], ◌∷◌, ◌++◌, append_assoc, length, drop, Option, Some, None, refl, sym, ap, ◌∙◌}
 use Rattle.std.specs.Prelude.{ℤ, Bool, true, false, ◌||◌, ◌==◌, if◌then◌else◌, slice_get, replicate}
 use Rattle.std.proofs.lemmas.Bool.{eq-eqb}
 use Rattle.std.proofs.lemmas.List.{append-nil}
 use Rattle.cilk_meaning.specs.Alone.{Block, block_after}
 use Rattle.cilk_meaning.specs.Instance.{Meaning, limits}
 use Rattle.cilk_meaning.specs.Serve.{Entry, answered, after, first_of, rest_of, now, with_child}
-use Rattle.cilk_meaning.specs.Serve as service
-use Rattle.cilk_meaning.specs.Wants.{Request, Want, Asks, Deposit, Answer, Value, Children, Done}
-use Rattle.machine_code.specs.Early.{Event, Steps, Answered, Receives, HasRun, Run, TakesEarly, after_events, answers_in, at_sync, awaits, goes_on_with, held, start_run, with_values}
+use Rattle.cilk_meaning.specs.Wants.{Request, Deposit, Answer, Value, Children, Done}
+use Rattle.machine_code.specs.Early.{Event, Steps, Answered, Receives, Run, TakesEarly, after_events, answers_in, at_sync, awaits, goes_on_with, held, start_run, with_values}
 use Rattle.machine_code.specs.Machine.{Code, Frame, start_frame, starts, wants}
 use Rattle.machine_code.specs.Valid.{IsValid, params_of}
 use Rattle.machine_code.specs.declared.code.Proc.{Proc}

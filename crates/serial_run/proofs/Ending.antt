@@ -1,11 +1,11 @@
 -- The beginning of a run, and what it leaves.
-use Rattle.std.proofs.Common.{◌≡◌, ℕ, zero, suc, ◌+◌, ◌-◌, ◌<◌, ◌≤◌, List, [], ◌∷◌, length, reverse, Some, Result, Ok, Err, refl, sym, ap, ◌∙◌, subst, arith}
-use Rattle.std.specs.Prelude.{ℤ, IfOk, slice_get}
+use Rattle.std.proofs.Common.{◌≡◌, ℕ, ◌-◌, ◌≤◌, [], length, reverse, Some, Result, Ok, Err, sym, ap, ◌∙◌, subst, arith}
+use Rattle.std.specs.Prelude.{IfOk, slice_get}
 use Rattle.std.specs.declared.alloc.AllocError.{AllocError}
 use Rattle.cilk_meaning.specs.declared.ends.NodeEnd.{NodeEnd}
 use Rattle.cilk_meaning.specs.Instance.{limits}
 use Rattle.cilk_meaning.specs.Resolved.{Program}
-use Rattle.cilk_meaning.specs.Serve.{State, first_state, serve}
+use Rattle.cilk_meaning.specs.Serve.{first_state, serve}
 use Rattle.cilk_meaning.specs.World.{End, ticks_of}
 use Rattle.cilk_meaning.proofs.Elisions.{elision_is_service}
 use Rattle.elision_history.specs.Logged.{history_of, logged}
@@ -15,7 +15,7 @@ use Rattle.machine_code.specs.Valid.{params_of, words_in}
 use Rattle.machine_code.specs.declared.code.Proc.{Proc}
 use Rattle.plain_machine.specs.Standing.{StandsIn}
 use Rattle.serial_run.specs.Elision.{AreWords, IsElision, elision_of}
-use Rattle.serial_run.specs.Running.{AllWait, AreAbove, HasCome, Stands}
+use Rattle.serial_run.specs.Running.{AllWait, HasCome}
 use Rattle.serial_run.specs.Serving.{EndsAs, LeadsTo}
 use Rattle.serial_run.specs.declared.run.Run.{Run}
 use Rattle.serial_run.specs.declared.serial_end.SerialEnd.{SerialEnd}

@@ -1,17 +1,15 @@
 -- Each request as the run serves it.
-use Rattle.std.proofs.Common.{◌≡◌, ℕ, zero, suc, ◌+◌, ◌<◌, ◌≤◌, List, [], ◌∷◌, ◌++◌, length, reverse, set, get_or, Option, Some, None, Result, Ok, Err, refl, sym, ap, ◌∙◌, subst, ◌⊎◌, inl, inr, arith}
-use Rattle.std.specs.Prelude.{ℤ, slice_get, OnOk}
+use Rattle.std.proofs.Common.{◌≡◌, ℕ, ◌<◌, List, [], length, set, get_or, Result, Ok, Err, refl, sym, ap, ◌∙◌, subst, ◌⊎◌, inl, inr, arith}
+use Rattle.std.specs.Prelude.{ℤ, OnOk}
 use Rattle.std.proofs.lemmas.Option.{get_or_from_slice_get}
 use Rattle.std.specs.declared.alloc.AllocError.{AllocError}
-use Rattle.cilk_meaning.specs.Instance.{Meaning}
-use Rattle.cilk_meaning.specs.Serve as service
-use Rattle.cilk_meaning.specs.Serve.{Entry, State, after, answered, now, replied, served}
+use Rattle.cilk_meaning.specs.Serve.{State, after, answered, replied, served}
 use Rattle.cilk_meaning.specs.Wants as wanted
 use Rattle.cilk_meaning.specs.Wants.{Request, Asks, Deposit, Answer, Value, Children, Done}
 use Rattle.cilk_meaning.specs.World as world
 use Rattle.cilk_meaning.specs.World.{World, sum_or_old, with_word}
-use Rattle.elision_history.specs.Logged.{after_act, logged}
-use Rattle.machine_code.specs.Early.{TakesEarly, at_sync}
+use Rattle.elision_history.specs.Logged.{logged}
+use Rattle.machine_code.specs.Early.{TakesEarly}
 use Rattle.machine_code.specs.Machine.{Code, Frame, starts, wants}
 use Rattle.machine_code.specs.Valid.{words_in}
 use Rattle.plain_machine.specs.Shown.{WantsNext, meant}
@@ -22,15 +20,15 @@ use Rattle.plain_machine.specs.declared.want.Want.TheVariants as shown
 use Rattle.plain_machine.specs.Standing.{StandsIn}
 use Rattle.plain_machine.specs.Stepping.{HasResumed}
 use Rattle.serial_run.specs.Elision.{AreWords}
-use Rattle.serial_run.specs.Running.{AllWait, AreAbove, GoesAs, HasCome, IsStanding, Stands, Waits, targeted}
+use Rattle.serial_run.specs.Running.{GoesAs, IsStanding, Stands}
 use Rattle.serial_run.specs.Serving.{Serves, ServesWant, meant_by}
 use Rattle.serial_run.specs.declared.run.Run.{Run}
 use Rattle.serial_run.proofs.Blind.{wants_words}
 use Rattle.serial_run.proofs.Coming.{goes_answered, goes_synced}
 use Rattle.serial_run.proofs.Standing.{Stays, replied_stands, words_set}
 use Rattle.span_tree.specs.declared.act.Act.{Act}
-use Rattle.span_tree.specs.declared.act.Act.TheVariants.{Read, Write, Add, Print, Spawn, Sync}
-use Rattle.span_tree.specs.History.{History, row_at}
+use Rattle.span_tree.specs.declared.act.Act.TheVariants.{Read, Write, Add, Print, Sync}
+use Rattle.span_tree.specs.History.{row_at}
 use Rattle.span_tree.specs.Recording.{Recorded, recorded, with_act}
 use Rattle.span_tree.proofs.Growing.{with_length, with_parent}
 

@@ -1,24 +1,23 @@
 -- A value that goes back to the nearest parent.
-use Rattle.std.proofs.Common.{◌≡◌, ◌≢◌, ℕ, zero, suc, ◌+◌, ◌<◌, ◌≤◌, List, [], ◌∷◌, ◌++◌, length, reverse, Option, Some, None, refl, sym, ap, ◌∙◌, subst, arith}
+use Rattle.std.proofs.Common.{◌≡◌, ◌≢◌, ℕ, List, [], ◌∷◌, ◌++◌, length, reverse, Option, Some, None, refl, sym, ap, ◌∙◌, subst, arith}
 use Rattle.std.specs.Prelude.{ℤ}
 use Rattle.std.proofs.lemmas.List.{length-reverse, reverse-append}
 use Rattle.cilk_meaning.specs.declared.ends.NodeEnd.TheVariants.{Finished}
 use Rattle.cilk_meaning.specs.Alone.{Block}
 use Rattle.cilk_meaning.specs.Serve as service
 use Rattle.cilk_meaning.specs.Serve.{Entry, State, with_child}
-use Rattle.elision_history.specs.Logged.{logged}
 use Rattle.machine_code.specs.Early.{TakesEarly}
 use Rattle.machine_code.specs.Machine.{Code, Frame}
 use Rattle.machine_code.specs.Valid.{words_in}
 use Rattle.plain_machine.specs.Standing.{StandsIn}
 use Rattle.plain_machine.specs.Starting.{IsTarget}
 use Rattle.serial_run.specs.Elision.{AreWords}
-use Rattle.serial_run.specs.Running.{AllWait, AreAbove, GoesAs, HasCome, IsStanding, Stands, Waits}
+use Rattle.serial_run.specs.Running.{AllWait, AreAbove, GoesAs, HasCome, Stands, Waits}
 use Rattle.serial_run.specs.Serving.{GoesBack, IsDone, with_value}
 use Rattle.serial_run.specs.declared.run.Parent.{Parent}
 use Rattle.serial_run.specs.declared.run.Run.{Run}
 use Rattle.serial_run.proofs.Coming.{come_given, given_goes, goes_on_alone}
-use Rattle.span_tree.specs.History.{History, row_at}
+use Rattle.span_tree.specs.History.{row_at}
 use Rattle.span_tree.specs.Recording.{IsParentRow}
 use Rattle.span_tree.specs.declared.act.Place.{Place}
 use Rattle.span_tree.proofs.Ways.{some_same}

@@ -1,33 +1,29 @@
 -- A child that is spawned.
-use Rattle.std.proofs.Common.{◌≡◌, ℕ, zero, suc, ◌+◌, ◌<◌, ◌≤◌, List, [], ◌∷◌, ◌++◌, length, reverse, Option, Some, None, refl, sym, ap, ◌∙◌, subst, arith}
+use Rattle.std.proofs.Common.{◌≡◌, ℕ, suc, ◌+◌, ◌<◌, List, [], ◌∷◌, ◌++◌, length, reverse, Option, Some, None, refl, sym, ap, ◌∙◌, subst, arith}
 use Rattle.std.specs.Prelude.{ℤ, slice_get}
 use Rattle.std.proofs.lemmas.List.{length-append, length-reverse, reverse-append}
-use Rattle.cilk_meaning.specs.Alone.{Block}
-use Rattle.cilk_meaning.specs.Instance.{limits}
 use Rattle.cilk_meaning.specs.Serve as service
 use Rattle.cilk_meaning.specs.Serve.{Entry, State, answered, served}
-use Rattle.cilk_meaning.specs.Wants.{Asks, Done, Spawn}
-use Rattle.elision_history.specs.Logged.{logged}
-use Rattle.machine_code.specs.Early.{Event, Run as Reached, TakesEarly}
+use Rattle.cilk_meaning.specs.Wants.{Done, Spawn}
+use Rattle.machine_code.specs.Early.{Event, Run as Reached}
 use Rattle.machine_code.specs.Machine.{Code, Frame, start_frame, starts, wants}
 use Rattle.machine_code.specs.Valid.{params_of, words_in}
 use Rattle.machine_code.specs.declared.code.Proc.{Proc}
 use Rattle.machine_code.proofs.Steps.{is_inside}
 use Rattle.plain_machine.specs.Lasting.{HasLasted, Lasts}
-use Rattle.plain_machine.specs.Shown.{Shown, WantsNext}
+use Rattle.plain_machine.specs.Shown.{Shown}
 use Rattle.plain_machine.specs.Standing.{StandsIn, own_locals}
 use Rattle.plain_machine.specs.Starting.{CanStart, IsTarget}
 use Rattle.serial_run.specs.Elision.{AreWords}
-use Rattle.serial_run.specs.Running.{AllWait, AreAbove, GoesAs, HasCome, IsStanding, Stands, Waits}
+use Rattle.serial_run.specs.Running.{AllWait, AreAbove, GoesAs, HasCome, Stands, Waits}
 use Rattle.serial_run.specs.Serving.{Serves}
-use Rattle.serial_run.specs.declared.run.Parent.{Parent}
 use Rattle.serial_run.specs.declared.run.Run.{Run}
 use Rattle.serial_run.proofs.Blind.{starts_blind}
 use Rattle.serial_run.proofs.Coming.{come_first, come_resumed, goes_answered, goes_first, resumed_procedure}
 use Rattle.serial_run.proofs.Requests.{Answering}
 use Rattle.serial_run.proofs.Standing.{above_grows, parents_length}
 use Rattle.span_tree.specs.History.{History, Row, row_at}
-use Rattle.span_tree.specs.Recording.{IsParentRow, Recorded, spawned, with_child}
+use Rattle.span_tree.specs.Recording.{Recorded, spawned, with_child}
 use Rattle.span_tree.proofs.Growing.{child_length, child_parent, new_row}
 
 -- what lasts in each frame, as the machine has it
@@ -111,12 +107,15 @@ module _ (code : Code) (old new : Run) (target : Option ℕ) (procedure : ℕ) (
 
       -- the rows above the child's
       child_above : AreAbove grown state.world.rows (waiting ∷ state.waiting)
-      child_above =
-          ((length (row_at old.recording.history old.recording.row).acts,
+      child_above = (
+        (
+          length (row_at old.recording.history old.recording.row).acts,
           ap (λ row. (row_at grown row).parent) s.rows ∙ ap (λ (r : Row). r.parent) (new_row old.recording.history old.recording.row procedure arguments inside)
-          ∙ ap (λ row. Some (record { row = row; act = length (row_at old.recording.history old.recording.row).acts })) s.row),
-          (let rows = s.rows in let here = s.inside in omega (arith, rows, here)),
-          above_grows old.recording.history grown (child_parent old.recording.history old.recording.row procedure arguments inside) state.running.row s.inside state.waiting s.above)
+              ∙ ap (λ row. Some (record { row = row; act = length (row_at old.recording.history old.recording.row).acts })) s.row,
+        ),
+        (let rows = s.rows in let here = s.inside in omega (arith, rows, here)),
+        above_grows old.recording.history grown (child_parent old.recording.history old.recording.row procedure arguments inside) state.running.row s.inside state.waiting s.above,
+      )
 
       grows : new.recording.history ≡ grown
       grows = ap (λ (r : Recorded). r.history) recording

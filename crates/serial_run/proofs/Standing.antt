@@ -1,29 +1,27 @@
 -- What a run stands for behind each request.
-use Rattle.std.proofs.Common.{◌≡◌, ◌≢◌, ◌⊎◌, ℕ, zero, suc, ◌+◌, ◌<◌, ◌≤◌, List, [], ◌∷◌, ◌++◌, length, reverse, get_or, set, Option, Some, None, Result, Ok, Err, refl, sym, ap, ◌∙◌, subst, inl, inr, arith}
-use Rattle.std.specs.Prelude.{ℤ, Bool, true, false, ◌==◌, if◌then◌else◌, slice_get, OnOk}
+use Rattle.std.proofs.Common.{◌≡◌, ◌⊎◌, ℕ, suc, ◌+◌, ◌<◌, ◌≤◌, List, [], ◌∷◌, ◌++◌, length, reverse, get_or, set, Some, refl, sym, ap, ◌∙◌, subst, inl, inr, arith}
+use Rattle.std.specs.Prelude.{ℤ, Bool, true, false, ◌==◌, if◌then◌else◌, slice_get}
 use Rattle.std.proofs.lemmas.Bool.{cases_lt, eqb-true, eqb-false}
-use Rattle.std.proofs.lemmas.List.{length-append, length-reverse, reverse-append, length-set, get_or-set_same, get_or-set_other}
+use Rattle.std.proofs.lemmas.List.{length-append, length-reverse, length-set, get_or-set_same, get_or-set_other}
 use Rattle.std.proofs.lemmas.Option.{slice_get-get_or, get_or_from_slice_get}
-use Rattle.cilk_meaning.specs.Alone.{Block, block_after}
+use Rattle.cilk_meaning.specs.Alone.{block_after}
 use Rattle.cilk_meaning.specs.Serve as service
 use Rattle.cilk_meaning.specs.Serve.{Entry, State, after, answered, now, replied, served, with_child}
-use Rattle.cilk_meaning.specs.Wants as wanted
-use Rattle.cilk_meaning.specs.Wants.{Request, Deposit, Answer, Value, Children, Done}
+use Rattle.cilk_meaning.specs.Wants.{Request, Deposit, Answer}
 use Rattle.cilk_meaning.specs.World.{World, with_word}
 use Rattle.elision_history.specs.Logged.{logged}
-use Rattle.machine_code.specs.Early.{TakesEarly, at_sync}
-use Rattle.machine_code.specs.Machine.{Code, Frame, starts, wants}
+use Rattle.machine_code.specs.Early.{TakesEarly}
+use Rattle.machine_code.specs.Machine.{Code}
 use Rattle.machine_code.specs.Valid.{words_in}
 use Rattle.plain_machine.specs.Standing.{StandsIn}
-use Rattle.plain_machine.specs.Stepping.{HasResumed, HasStepped}
+use Rattle.plain_machine.specs.Stepping.{HasResumed}
 use Rattle.serial_run.specs.Elision.{AreWords}
-use Rattle.serial_run.specs.Running.{AllWait, AreAbove, GoesAs, HasCome, IsStanding, Stands, Waits, targeted}
+use Rattle.serial_run.specs.Running.{AllWait, AreAbove, GoesAs, HasCome, Stands}
 use Rattle.serial_run.specs.declared.run.Parent.{Parent}
 use Rattle.serial_run.specs.declared.run.Run.{Run}
-use Rattle.serial_run.proofs.Coming.{come_resumed, come_stepped, goes_answered, goes_stepped, goes_synced}
-use Rattle.span_tree.specs.History.{History, Row, row_at}
-use Rattle.span_tree.specs.Recording.{IsParentRow, with_act}
-use Rattle.span_tree.proofs.Growing.{get_front, get_last, with_length, with_parent}
+use Rattle.serial_run.proofs.Coming.{come_resumed}
+use Rattle.span_tree.specs.History.{History, row_at}
+use Rattle.span_tree.proofs.Growing.{get_front, get_last}
 
 -- ---- rows
 

@@ -1,7 +1,7 @@
 -- What a turn of the run is to the service.
-use Rattle.std.proofs.Common.{◌≡◌, ◌≢◌, ℕ, zero, suc, ◌+◌, ◌-◌, ◌*◌, ◌<◌, ◌≤◌, List, [], ◌∷◌, length, reverse, Option, Some, None, Result, Ok, Err, refl, sym, ap, ◌∙◌, subst, arith}
+use Rattle.std.proofs.Common.{◌≡◌, ℕ, suc, ◌+◌, ◌*◌, ◌<◌, ◌≤◌, List, [], ◌∷◌, length, reverse, Option, Some, None, refl, sym, ap, ◌∙◌, subst, arith}
 use Rattle.std.specs.Option.{option_map}
-use Rattle.std.specs.Prelude.{ℤ, MatchOption, OnOk}
+use Rattle.std.specs.Prelude.{ℤ, MatchOption}
 use Rattle.cilk_meaning.specs.declared.ends.NodeEnd.{NodeEnd}
 use Rattle.cilk_meaning.specs.declared.ends.NodeEnd.TheVariants.{Finished, Trapped, Budget}
 use Rattle.cilk_meaning.specs.declared.ends.TrapKind.{TrapKind}
@@ -11,7 +11,7 @@ use Rattle.cilk_meaning.specs.Wants.{Request, Read, Write, Add, Print, Spawn, Sy
 use Rattle.cilk_meaning.specs.World.{End}
 use Rattle.machine_code.specs.Early.{TakesEarly}
 use Rattle.machine_code.specs.Machine.{Code, Frame, starts, wants}
-use Rattle.plain_machine.specs.Shown.{Shown, WantsNext, arguments_of, shown_want}
+use Rattle.plain_machine.specs.Shown.{WantsNext, arguments_of, shown_want}
 use Rattle.plain_machine.specs.Standing.{StandsIn}
 use Rattle.plain_machine.specs.Stepping.{HasStepped}
 use Rattle.plain_machine.specs.declared.want.Want as declared
@@ -19,8 +19,8 @@ use Rattle.plain_machine.specs.declared.want.Want.TheVariants as shown
 use Rattle.machine_code.specs.Valid.{words_in}
 use Rattle.serial_run.specs.Elision.{AreWords}
 use Rattle.span_tree.specs.Recording.{Recorded}
-use Rattle.serial_run.specs.Running.{AllWait, AreAbove, GoesAs, HasCome, IsStanding, Stands}
-use Rattle.serial_run.specs.Serving.{EndsAs, GoesBack, IsDone, LeadsTo, Serves, ServesWant, meant_by}
+use Rattle.serial_run.specs.Running.{AllWait, AreAbove, HasCome, IsStanding, Stands}
+use Rattle.serial_run.specs.Serving.{EndsAs, GoesBack, IsDone, LeadsTo, Serves, meant_by}
 use Rattle.serial_run.specs.declared.run.Run.{Run}
 use Rattle.serial_run.proofs.Coming.{come_stepped, goes_stepped, goes_want}
 use Rattle.serial_run.proofs.Standing.{parents_length}

@@ -21,7 +21,7 @@ use std::alloc::{AllocError, Global};
 use std::mem;
 
 /// A frame that waits for its child, whose value goes to this local.
-#[derive(Debug, Drop)]
+#[derive(Drop)]
 pub struct Parent {
     pub frame: Frame,
     pub target: Option<u32>,
@@ -44,7 +44,7 @@ impl Parent {
 
 /// A serial run: the frame that runs, those that wait for their children, the nearest last, what happened so far, the shared words, and
 /// how many ticks are left.
-#[derive(Debug, Drop)]
+#[derive(Drop)]
 pub struct Run {
     pub frame: Frame,
     pub parents: Vec<Parent>,

@@ -23,7 +23,7 @@ returns-in-Some c =
     let code = c.args.code.now in
     let whole = service_of code c.args.budget in
     let ends = subst (λ stop. MatchOption stop (LeadsTo code whole c.args.budget c.turn.new.self) (λ end. EndsAs code whole c.args.budget end c.turn.new.self)) c.in-Some.is
-        ((c.in_ok-end.ensures {u = tt}).goes whole c.args.budget c.loop-run.invariant) in
+    ((c.in_ok-end.ensures {u = tt}).goes whole c.args.budget c.loop-run.invariant) in
     record {
       elision = λ program is.
           leaves_elision code program c.args.budget c.in-Some.end c.turn.new.self ends is c.finish.result c.finish.ensures.end c.finish.ensures.history c.finish.ensures.memory c.finish.ensures.ticks;

@@ -1,7 +1,7 @@
-use Rattle.std.proofs.Common.{◌≡◌, ap, refl, sym, ◌∙◌, w64, to_z, of_z, FitsSigned, rules}
+use Rattle.std.proofs.Common.{ap, refl, ◌∙◌, w64, FitsSigned, rules}
 use Rattle.std.proofs.lemmas.Int.{to_z-of_z}
 use Rattle.serial_run.specs.Serving.{with_value}
-use Rattle.serial_run.proofs.Returning.{can_leave, can_receive, goes_back, is_done}
+use Rattle.serial_run.proofs.Returning.{can_leave, can_receive, goes_back}
 use Rattle.serial_run.proofs.run.Run.give_back.Goals as goal
 
 pub leave-requires : goal.leave-requires

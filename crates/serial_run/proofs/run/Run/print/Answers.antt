@@ -1,5 +1,4 @@
-use Rattle.std.proofs.Common.{◌≡◌, ap, arith, refl, sym, ◌∙◌, subst, get_or, set, w64, to_z, of_z, FitsSigned, rules}
-use Rattle.std.specs.Prelude.{ℤ}
+use Rattle.std.proofs.Common.{◌≡◌, ap, refl, ◌∙◌, w64, to_z, of_z, FitsSigned, rules}
 use Rattle.std.proofs.lemmas.Int.{to_z-of_z}
 use Rattle.cilk_meaning.specs.Wants as wanted
 use Rattle.plain_machine.specs.declared.want.Answer.TheVariants as given

@@ -1,4 +1,4 @@
-use Rattle.std.proofs.Common.{◌≡◌, ◌+◌, ap, arith, refl, sym, ◌∙◌, length, List, [], ◌∷◌, ◌++◌}
+use Rattle.std.proofs.Common.{◌+◌, ap, arith, refl, ◌∙◌, length, [], ◌∷◌, ◌++◌}
 use Rattle.cilk_meaning.specs.Wants.{Spawn}
 use Rattle.machine_code.specs.Machine.{start_frame, starts}
 use Rattle.plain_machine.specs.Shown.{Shown}

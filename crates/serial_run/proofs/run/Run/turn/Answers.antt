@@ -15,9 +15,11 @@ pub want-requires : goal.want-requires
 want-requires c = c.requires.1.fine
 
 pub give_back-requires : goal.give_back-requires
-give_back-requires c =
-    (c.args.code.now, standing_on c.args.code.now c.args.self.now _
-    (record { parents = refl; recording = refl; words = refl; fine = c.want.ensures.stands; stepped = c.want.ensures.stepped; same = c.want.ensures.same }) c.requires)
+give_back-requires c = (
+  c.args.code.now,
+  standing_on c.args.code.now c.args.self.now _
+      (record { parents = refl; recording = refl; words = refl; fine = c.want.ensures.stands; stepped = c.want.ensures.stepped; same = c.want.ensures.same }) c.requires,
+)
 
 pub serve-requires : goal.serve-requires
 serve-requires c = record {
