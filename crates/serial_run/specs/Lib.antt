@@ -1,0 +1,3 @@
+pub mod Elision
+pub mod Running
+pub mod Serving
