@@ -1,10 +1,10 @@
 -- A test that a code is well formed, for codes that are written out: where it gives true, the code is.
-use Rattle.std.proofs.Common.{◌≡◌, ◌⊎◌, ℕ, zero, suc, ◌+◌, ◌-◌, ◌<◌, ◌≤◌, ◌^◌, List, [], ◌∷◌, length, Option, Some, None, refl, sym, ap, ◌∙◌, subst, inl, inr, arith}
+use Rattle.std.proofs.Common.{◌≡◌, ◌⊎◌, ℕ, zero, suc, ◌+◌, ◌-◌, ◌<◌, ◌≤◌, ◌^◌, List, [], ◌∷◌, length, Option, Some, None, refl, subst, inl, inr, arith}
 use Rattle.std.proofs.lemmas.Bool.Decides.{nat_tests}
 use Rattle.std.specs.Prelude.{Bool, true, false, not, ◌&&◌, ◌||◌, if◌then◌else◌, ◌==◌, nat_lt, nat_le, slice_get}
 use Rattle.cilk_meaning.specs.Resolved as resolved
 use Rattle.machine_code.specs.Machine.{Code}
-use Rattle.machine_code.specs.Valid.{IsValid, IsSound, IsFine, IsForward, IsInRange, IsProc, IsLocal, GoesForward, Leads, Shape, AreInOrder, goes_behind, jumps_to, params_of, puts, takes, words_in}
+use Rattle.machine_code.specs.Valid.{IsValid, IsSound, IsFine, IsForward, IsInRange, IsLocal, Leads, Shape, AreInOrder, goes_behind, jumps_to, puts, takes, words_in}
 use Rattle.machine_code.specs.declared.code.Proc.{Proc}
 use Rattle.machine_code.specs.declared.instr.Instr.{Instr}
 use Rattle.machine_code.specs.declared.instr.Instr.TheVariants as instr

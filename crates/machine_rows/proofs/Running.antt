@@ -1,9 +1,9 @@
 -- What is done with a frame keeps that it came to be by events.
-use Rattle.std.proofs.Common.{◌≡◌, ℕ, ℤ, Option, Some, None, List, [], ◌∷◌, ◌++◌, length, slice_get, refl, sym, ap, ◌∙◌, ◌≤◌, replicate, subst, arith, rules}
+use Rattle.std.proofs.Common.{◌≡◌, ℕ, ℤ, Option, Some, None, List, [], ◌∷◌, ◌++◌, length, slice_get, refl, ap, ◌∙◌, ◌≤◌, replicate, subst}
 use Rattle.cilk_meaning.specs.Alone.{block_after}
 use Rattle.cilk_meaning.specs.Instance.{limits}
 use Rattle.cilk_meaning.specs.Wants.{Request, Answer}
-use Rattle.machine_code.specs.Early.{Event, Steps, Answered, Run, HasRun, after_events, goes_on_with, happens, start_run}
+use Rattle.machine_code.specs.Early.{Event, Steps, Answered, Run, after_events, goes_on_with, happens, start_run}
 use Rattle.machine_code.specs.Machine.{Code, Frame, start_frame}
 use Rattle.machine_code.specs.Valid.{IsValid, params_of}
 use Rattle.machine_code.specs.declared.code.Proc.{Proc}

@@ -62,6 +62,7 @@ pub(crate) const CHILD: u32 = 28;
 pub(crate) const SPAWN_ALONE: u32 = 29;
 
 static PROCS: [Proc; 30] = [
+    // MAIN
     Proc {
         cilk: false,
         start: 0,
@@ -69,6 +70,7 @@ static PROCS: [Proc; 30] = [
         locals: 0,
         operands: 1,
     },
+    // ADD
     Proc {
         cilk: false,
         start: 2,
@@ -76,6 +78,7 @@ static PROCS: [Proc; 30] = [
         locals: 2,
         operands: 2,
     },
+    // SUB
     Proc {
         cilk: false,
         start: 6,
@@ -83,6 +86,7 @@ static PROCS: [Proc; 30] = [
         locals: 2,
         operands: 2,
     },
+    // MUL
     Proc {
         cilk: false,
         start: 10,
@@ -90,6 +94,7 @@ static PROCS: [Proc; 30] = [
         locals: 2,
         operands: 2,
     },
+    // DIV
     Proc {
         cilk: false,
         start: 14,
@@ -97,6 +102,7 @@ static PROCS: [Proc; 30] = [
         locals: 2,
         operands: 2,
     },
+    // REM
     Proc {
         cilk: false,
         start: 18,
@@ -104,6 +110,7 @@ static PROCS: [Proc; 30] = [
         locals: 2,
         operands: 2,
     },
+    // EQ
     Proc {
         cilk: false,
         start: 22,
@@ -111,6 +118,7 @@ static PROCS: [Proc; 30] = [
         locals: 2,
         operands: 2,
     },
+    // NE
     Proc {
         cilk: false,
         start: 26,
@@ -118,6 +126,7 @@ static PROCS: [Proc; 30] = [
         locals: 2,
         operands: 2,
     },
+    // LT
     Proc {
         cilk: false,
         start: 30,
@@ -125,6 +134,7 @@ static PROCS: [Proc; 30] = [
         locals: 2,
         operands: 2,
     },
+    // LE
     Proc {
         cilk: false,
         start: 34,
@@ -132,6 +142,7 @@ static PROCS: [Proc; 30] = [
         locals: 2,
         operands: 2,
     },
+    // GT
     Proc {
         cilk: false,
         start: 38,
@@ -139,6 +150,7 @@ static PROCS: [Proc; 30] = [
         locals: 2,
         operands: 2,
     },
+    // GE
     Proc {
         cilk: false,
         start: 42,
@@ -146,6 +158,7 @@ static PROCS: [Proc; 30] = [
         locals: 2,
         operands: 2,
     },
+    // NEG
     Proc {
         cilk: false,
         start: 46,
@@ -153,6 +166,7 @@ static PROCS: [Proc; 30] = [
         locals: 1,
         operands: 1,
     },
+    // NOT
     Proc {
         cilk: false,
         start: 49,
@@ -160,6 +174,7 @@ static PROCS: [Proc; 30] = [
         locals: 1,
         operands: 1,
     },
+    // READ_FIRST
     Proc {
         cilk: false,
         start: 52,
@@ -167,6 +182,7 @@ static PROCS: [Proc; 30] = [
         locals: 1,
         operands: 1,
     },
+    // READ
     Proc {
         cilk: false,
         start: 55,
@@ -174,6 +190,7 @@ static PROCS: [Proc; 30] = [
         locals: 1,
         operands: 1,
     },
+    // WRITE
     Proc {
         cilk: false,
         start: 58,
@@ -181,6 +198,7 @@ static PROCS: [Proc; 30] = [
         locals: 2,
         operands: 2,
     },
+    // FETCH_ADD
     Proc {
         cilk: false,
         start: 63,
@@ -188,6 +206,7 @@ static PROCS: [Proc; 30] = [
         locals: 2,
         operands: 2,
     },
+    // WRITE_QUOTIENT
     Proc {
         cilk: false,
         start: 67,
@@ -195,6 +214,7 @@ static PROCS: [Proc; 30] = [
         locals: 2,
         operands: 3,
     },
+    // AND_QUOTIENT
     Proc {
         cilk: false,
         start: 74,
@@ -202,6 +222,7 @@ static PROCS: [Proc; 30] = [
         locals: 2,
         operands: 2,
     },
+    // COUNT_DOWN
     Proc {
         cilk: false,
         start: 82,
@@ -209,6 +230,7 @@ static PROCS: [Proc; 30] = [
         locals: 1,
         operands: 2,
     },
+    // ADD_TO_CALL
     Proc {
         cilk: false,
         start: 94,
@@ -216,6 +238,7 @@ static PROCS: [Proc; 30] = [
         locals: 2,
         operands: 3,
     },
+    // CALL_OF_QUOTIENT
     Proc {
         cilk: false,
         start: 102,
@@ -223,6 +246,7 @@ static PROCS: [Proc; 30] = [
         locals: 2,
         operands: 2,
     },
+    // DESCEND
     Proc {
         cilk: false,
         start: 108,
@@ -230,6 +254,7 @@ static PROCS: [Proc; 30] = [
         locals: 0,
         operands: 1,
     },
+    // POP
     Proc {
         cilk: false,
         start: 110,
@@ -237,6 +262,7 @@ static PROCS: [Proc; 30] = [
         locals: 2,
         operands: 2,
     },
+    // STORE
     Proc {
         cilk: false,
         start: 114,
@@ -244,6 +270,7 @@ static PROCS: [Proc; 30] = [
         locals: 3,
         operands: 2,
     },
+    // SPAWN
     Proc {
         cilk: true,
         start: 122,
@@ -251,6 +278,7 @@ static PROCS: [Proc; 30] = [
         locals: 1,
         operands: 2,
     },
+    // PRINT
     Proc {
         cilk: false,
         start: 132,
@@ -258,6 +286,7 @@ static PROCS: [Proc; 30] = [
         locals: 1,
         operands: 1,
     },
+    // CHILD
     Proc {
         cilk: true,
         start: 136,
@@ -265,6 +294,7 @@ static PROCS: [Proc; 30] = [
         locals: 2,
         operands: 2,
     },
+    // SPAWN_ALONE
     Proc {
         cilk: true,
         start: 140,
@@ -275,73 +305,92 @@ static PROCS: [Proc; 30] = [
 ];
 
 static INSTRS: [Instr; 148] = [
+    // MAIN
     Instr::Const(0),
     Instr::Return,
+    // ADD
     Instr::Load(0),
     Instr::Load(1),
     Instr::Add,
     Instr::Return,
+    // SUB
     Instr::Load(0),
     Instr::Load(1),
     Instr::Sub,
     Instr::Return,
+    // MUL
     Instr::Load(0),
     Instr::Load(1),
     Instr::Mul,
     Instr::Return,
+    // DIV
     Instr::Load(0),
     Instr::Load(1),
     Instr::Div,
     Instr::Return,
+    // REM
     Instr::Load(0),
     Instr::Load(1),
     Instr::Rem,
     Instr::Return,
+    // EQ
     Instr::Load(0),
     Instr::Load(1),
     Instr::Eq,
     Instr::Return,
+    // NE
     Instr::Load(0),
     Instr::Load(1),
     Instr::Ne,
     Instr::Return,
+    // LT
     Instr::Load(0),
     Instr::Load(1),
     Instr::Lt,
     Instr::Return,
+    // LE
     Instr::Load(0),
     Instr::Load(1),
     Instr::Le,
     Instr::Return,
+    // GT
     Instr::Load(0),
     Instr::Load(1),
     Instr::Gt,
     Instr::Return,
+    // GE
     Instr::Load(0),
     Instr::Load(1),
     Instr::Ge,
     Instr::Return,
+    // NEG
     Instr::Load(0),
     Instr::Neg,
     Instr::Return,
+    // NOT
     Instr::Load(0),
     Instr::Not,
     Instr::Return,
+    // READ_FIRST
     Instr::Load(0),
     Instr::ReadShared(0),
     Instr::Return,
+    // READ
     Instr::Load(0),
     Instr::ReadShared(1),
     Instr::Return,
+    // WRITE
     Instr::Load(0),
     Instr::Load(1),
     Instr::WriteShared(1),
     Instr::Const(3),
     Instr::Return,
+    // FETCH_ADD
     Instr::Load(0),
     Instr::Load(1),
     Instr::AddShared(1),
     Instr::Return,
+    // WRITE_QUOTIENT
     Instr::Load(0),
     Instr::Const(6),
     Instr::Load(1),
@@ -349,6 +398,7 @@ static INSTRS: [Instr; 148] = [
     Instr::WriteShared(1),
     Instr::Const(0),
     Instr::Return,
+    // AND_QUOTIENT
     Instr::Load(0),
     Instr::JumpIfZero(80),
     Instr::Const(6),
@@ -357,6 +407,7 @@ static INSTRS: [Instr; 148] = [
     Instr::Return,
     Instr::Const(0),
     Instr::Return,
+    // COUNT_DOWN
     Instr::Turn,
     Instr::Load(0),
     Instr::JumpIfZero(92),
@@ -369,6 +420,7 @@ static INSTRS: [Instr; 148] = [
     Instr::Jump(82),
     Instr::Const(7),
     Instr::Return,
+    // ADD_TO_CALL
     Instr::Const(100),
     Instr::Load(0),
     Instr::Load(1),
@@ -377,18 +429,22 @@ static INSTRS: [Instr; 148] = [
     Instr::PrintTop,
     Instr::Const(0),
     Instr::Return,
+    // CALL_OF_QUOTIENT
     Instr::Load(0),
     Instr::Load(1),
     Instr::Div,
     Instr::Const(1),
     Instr::Call(SUB),
     Instr::Return,
+    // DESCEND
     Instr::Call(DESCEND),
     Instr::Return,
+    // POP
     Instr::Load(0),
     Instr::Load(1),
     Instr::Pop,
     Instr::Return,
+    // STORE
     Instr::Load(0),
     Instr::Store(2),
     Instr::Load(1),
@@ -397,6 +453,7 @@ static INSTRS: [Instr; 148] = [
     Instr::Load(0),
     Instr::Sub,
     Instr::Return,
+    // SPAWN
     Instr::Const(7),
     Instr::Const(8),
     Instr::Spawn(CHILD, Some(0)),
@@ -407,14 +464,17 @@ static INSTRS: [Instr; 148] = [
     Instr::PrintTop,
     Instr::Const(0),
     Instr::Return,
+    // PRINT
     Instr::Load(0),
     Instr::PrintTop,
     Instr::Const(0),
     Instr::Return,
+    // CHILD
     Instr::Load(0),
     Instr::Load(1),
     Instr::Sub,
     Instr::Return,
+    // SPAWN_ALONE
     Instr::Load(0),
     Instr::Load(1),
     Instr::Spawn(CHILD, None),
