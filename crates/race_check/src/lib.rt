@@ -33,7 +33,7 @@ pub fn find_race(alloc: Global, history: &History) -> Result<Option<Race>, Alloc
     ensures some { IfOk result (λ found. (race : Race) → found ≡ Some race → IsFirstRace history.now race.word race.first race.second) }
     ensures none { IfOk result (λ found. (found ≡ None) ↔ HasNoRace history.now) }
 {
-    // What it says of the history is needed throughout: it is numbered.
+    // `rows` says that the history is numbered, on which all laws of the serial order stand.
     let _ = history.rows();
     let mut memory = ShadowMemory::new(alloc);
     for place in history.order() {
