@@ -11,7 +11,8 @@ use Rattle.cilk_tree.specs.Lawful.Scope.{Point}
 use Rattle.cilk_meaning.proofs.Resolving.{resolving_if, resolving_while}
 use Rattle.cilk_meaning.specs.Resolving.{Resolving, resolving, resolving_here}
 use Rattle.cilk_compiler.specs.declared.emitter.Emitter.{Emitter}
-use Rattle.cilk_compiler.specs.Emitting.{expr_in, statements_in, with_choice, with_loop, at_point, behind}
+use Rattle.cilk_compiler.specs.Emitting.{expr_in, statements_in, at_point, behind}
+use Rattle.cilk_compiler.proofs.Steps.{with_choice, with_loop}
 
 -- What a step adds at the point inside a statement is what the statement adds.
 module _ (old new : Emitter) (point : Point) (advanced : point ≡ inside old.locals) (statement : Stmt) where

@@ -3,14 +3,15 @@ use Rattle.std.proofs.Common.{◌≡◌, ℕ, suc, ◌+◌, max, List, ◌∷◌
 use Rattle.cilk_tree.specs.declared.tree.Expr as source_expr
 use Rattle.cilk_tree.specs.declared.tree.Stmt as source_stmt
 use Rattle.cilk_tree.specs.Lawful.Flow.{after_list}
+use Rattle.cilk_meaning.specs.Resolved as tree
 use Rattle.cilk_meaning.specs.Resolved.{Expr}
-use Rattle.cilk_meaning.specs.Resolving.{part_in, in_order, resolved_expr}
+use Rattle.cilk_meaning.specs.Resolving.{Resolving, part_in, in_order, resolved_expr}
 use Rattle.compiled_code.specs.Emitted.{expr_code, exprs_code, expr_operands, exprs_operands, stmt_code, stmt_operands}
 use Rattle.machine_code.specs.declared.instr.Instr.{Instr}
 use Rattle.machine_code.specs.declared.instr.Instr.TheVariants.{Turn}
 use Rattle.cilk_compiler.specs.declared.emitter.Emitter.{Emitter}
 use Rattle.cilk_compiler.specs.Jumps.{forked, met, parted, turned}
-use Rattle.cilk_compiler.specs.Emitting.{expr_in, exprs_in, statements_in, with_instrs, with_code, with_instr, with_expr, with_exprs, valued, behind_list, with_choice, with_loop}
+use Rattle.cilk_compiler.specs.Emitting.{expr_in, exprs_in, statements_in, with_instrs, with_code, with_instr, with_expr, with_exprs, valued, with_stmt, at_point, behind_list}
 use Rattle.cilk_compiler.proofs.Patching.{loop_patched, choice_patched}
 
 -- room for one part after another
@@ -52,6 +53,16 @@ module _ (old now new : Emitter) (argument : source_expr.Expr) (left rest : List
       ∙ total_is
 
 -- ---- loops and choices, whose jumps are set when the place is known where they lead
+
+-- behind an `if`
+abbrev pub with_choice : Expr → List Resolving → List Resolving → Emitter → Emitter
+with_choice condition met unmet e =
+    let between = after_list (map part_in met) e.locals in
+    at_point (after_list (map part_in unmet) between) (with_stmt (tree.If condition (in_order met e.locals) (in_order unmet between)) e)
+
+-- behind a `while`
+abbrev pub with_loop : Expr → List Resolving → Emitter → Emitter
+with_loop condition body e = at_point (after_list (map part_in body) e.locals) (with_stmt (tree.While condition (in_order body e.locals)) e)
 
 module _ (old : Emitter) (condition : source_expr.Expr) where
   abbrev asked : Emitter → Emitter

@@ -100,13 +100,3 @@ behind_all statements e = at_point (after_all (map part_in statements) e.locals)
 -- behind a list that a statement holds
 abbrev pub behind_list : List Resolving → Emitter → Emitter
 behind_list statements e = at_point (after_list (map part_in statements) e.locals) (with_stmt (in_order statements e.locals) e)
-
--- behind an `if`
-abbrev pub with_choice : Expr → List Resolving → List Resolving → Emitter → Emitter
-with_choice condition met unmet e =
-    let between = after_list (map part_in met) e.locals in
-    at_point (after_list (map part_in unmet) between) (with_stmt (tree.If condition (in_order met e.locals) (in_order unmet between)) e)
-
--- behind a `while`
-abbrev pub with_loop : Expr → List Resolving → Emitter → Emitter
-with_loop condition body e = at_point (after_list (map part_in body) e.locals) (with_stmt (tree.While condition (in_order body e.locals)) e)

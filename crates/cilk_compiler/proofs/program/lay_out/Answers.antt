@@ -1,6 +1,4 @@
-use Rattle.std.proofs.Common.{◌≡◌, ◌+◌, ◌∙◌, ap, refl, drop, arith}
-use Rattle.cilk_meaning.specs.Resolving.{extents_from}
-use Rattle.machine_code.specs.Valid.{words_in}
+use Rattle.std.proofs.Common.{◌+◌, ◌∙◌, refl, arith}
 use Rattle.cilk_compiler.proofs.Laying.{array_laid, words_left}
 use Rattle.cilk_compiler.proofs.program.lay_out.Goals as goal
 
