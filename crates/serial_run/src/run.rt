@@ -181,6 +181,7 @@ impl Run {
         requires wants { WantsNext code.now self.old.frame.frame (Asks (wanted.Spawn target proc self.old.frame.arguments)) }
         ensures { OnOk result (Serves code.now (wanted.Spawn target proc self.old.frame.arguments) self.old self.new) }
     {
+        // laws of the machine: the child can be started, and its value can go to its target
         children_can_start();
         has_run_stands();
         let depth = self.frame.depth() + 1;
