@@ -1,5 +1,5 @@
 -- What a text calls for is one thing.
-use Rattle.std.proofs.Common.{◌≡◌, ◌⊎◌, inl, inr, ℕ, ◌<◌, ◌≤◌, ◌==◌, Bool, true, false, Option, Some, None, List, [], length, refl, sym, ap, ◌∙◌, subst, arith}
+use Rattle.std.proofs.Common.{◌≡◌, ◌⊎◌, inl, inr, ℕ, ◌<◌, ◌≤◌, true, false, Option, Some, None, List, [], length, refl, sym, ap, ◌∙◌, subst, arith}
 use Rattle.std.proofs.lemmas.Bool.Decides.{nat_tests}
 use Rattle.cilk_tree.specs.declared.place.CheckPlace.{CheckPlace}
 use Rattle.cilk_tree.specs.declared.tree.Program.{Program}
@@ -23,12 +23,12 @@ use Rattle.span_tree.specs.declared.act.Act.TheVariants as act
 use Rattle.span_tree.specs.declared.act.Place.{Place}
 use Rattle.span_tree.specs.Dag.{IsBefore}
 use Rattle.span_tree.specs.History.{History, IsNumbered, act_at}
-use Rattle.span_tree.specs.Memory.{HasNoRace, IsFirstRace, accesses, holds_at, is_access}
+use Rattle.span_tree.specs.Memory.{IsFirstRace, accesses, holds_at, is_access}
 use Rattle.span_tree.proofs.Orders.{not_before_itself, not_both_before}
 use Rattle.backer_top.specs.declared.status.SourceRefusal.TheVariants as source
 use Rattle.backer_top.specs.declared.status.Status.{Status}
 use Rattle.backer_top.specs.declared.status.Status.TheVariants.{Done, Words, Source, ReadFault, WriteFault, Trap, Budget, Race, Memory}
-use Rattle.backer_top.specs.Due.{Accepts, IsDue, IsOfAccepted, IsProgramOf, Makes, Reply, Tells, TellsRace, NoRace, First, TooLong, Unread, Unlawful, Accepted, done, elided, elided_history, only}
+use Rattle.backer_top.specs.Due.{IsDue, IsOfAccepted, Makes, Reply, Tells, TellsRace, NoRace, First, TooLong, Unread, Unlawful, Accepted, done, elided, elided_history, only}
 use Rattle.backer_top.specs.Output.{lines}
 use Rattle.backer_top.specs.RaceLine.{race_line}
 use Rattle.backer_top.specs.Reading.{source_limit}
@@ -76,7 +76,7 @@ module _ (history : History) (numbered : IsNumbered history) where
   first_once : (one other : found.Race) → IsFirstRace history one.word one.first one.second → IsFirstRace history other.word other.first other.second → one ≡ other
   first_once one other is also =
       let places = same_places one.first one.second other.first other.second
-          (is.least other.word other.first other.second also.race also.before) (also.least one.word one.first one.second is.race is.before) in
+      (is.least other.word other.first other.second also.race also.before) (also.least one.word one.first one.second is.race is.before) in
       let there = subst (λ place. is_access history other.word place ≡ true) (sym places.0) also.race.first in
       same_race one other (accesses_one_there (act_at history one.first) one.word other.word is.race.first there) places.0 places.1
 

@@ -167,7 +167,6 @@ module _ {S : Type 0} (shelf : ShelfUse S) where
       let more = long_text (shelf.texts shelf.old) shelf.file (joined (pieces ++ last ∷ [])) source_limit long told in
       (text, record { told = more.1; calls = record { pieces = pieces; last = last; some = some; calls = calls; within = within; long = long; same = more.2 }; cause = more.0 })
 
-
   module _ {O : Type 0} (out : SinkUse O) (command : Offline) where
     abbrev Written : List ℕ → Type 0
     Written = IsWritten out.held out.took out.old out.new

@@ -10,7 +10,7 @@ use Rattle.backer_top.specs.declared.status.Status.{Status}
 use Rattle.backer_top.specs.declared.status.Status.TheVariants.{Done, Words, Source, ReadFault, WriteFault, Trap, Budget, Race, Memory}
 use Rattle.backer_top.specs.declared.status.SourceRefusal.TheVariants.{TooLong, Read, Check}
 use Rattle.backer_top.specs.Lines.{IsLineOf}
-use Rattle.backer_top.specs.Status.{HasFixedLine, error_line, place_words, trap_name}
+use Rattle.backer_top.specs.Status.{HasFixedLine, error_line, place_words}
 
 -- the line of a trap on node 0
 abbrev pub trap_text : TrapKind → List ℕ

@@ -56,11 +56,7 @@ impl Reply {
 }
 
 /// What the command makes of a lawful program.
-pub(crate) fn made(
-    alloc: Global,
-    command: &Offline,
-    checked: &Checked,
-) -> Result<Reply, AllocError>
+pub(crate) fn made(alloc: Global, command: &Offline, checked: &Checked) -> Result<Reply, AllocError>
     ensures { IfOk result (Makes command.now checked.now) }
 {
     match command {
@@ -120,11 +116,7 @@ fn elide(alloc: Global, checked: &Checked, budget: u64) -> Result<SerialEnd, All
 }
 
 /// The first race of a history, in a line.
-fn first_race(
-    alloc: Global,
-    program: &Program,
-    history: &History,
-) -> Result<Reply, AllocError>
+fn first_race(alloc: Global, program: &Program, history: &History) -> Result<Reply, AllocError>
     ensures { IfOk result (TellsRace program.now history.now) }
 {
     match find_race(alloc, history)? {

@@ -13,7 +13,12 @@ fn assert_told(
     out: &str,
     line: &str,
 ) -> Result<(), Fail> {
-    let left = run(alloc, &["race", "f"], source.as_bytes().to_vec(alloc)?, NOTHING)?;
+    let left = run(
+        alloc,
+        &["race", "f"],
+        source.as_bytes().to_vec(alloc)?,
+        NOTHING,
+    )?;
     assert_eq!(rt; left.ended.number(), number, "{source}");
     assert_eq!(rt; left.out.held(), out.as_bytes(), "{source}");
     assert_eq!(rt; left.err.held(), line.as_bytes(), "{source}");
@@ -122,9 +127,14 @@ fn no_races(rt: HostRuntime) -> Result<(), Fail> {
 /// A race is looked for only where the elision finished.
 #[test]
 fn unfinished(rt: HostRuntime) -> Result<(), Fail> {
-    let racing = "int a[1]; cilk void put(int v) { a[0] = v; } cilk int main() { spawn put(1); spawn put(2); sync; ";
+    let racing =
+        "int a[1]; cilk void put(int v) { a[0] = v; } cilk int main() { spawn put(1); spawn put(2); sync; ";
     for (end, number, line) in [
-        ("print(1 / 0); }", 5, "backer: trap DivideByZero on node 0\n"),
+        (
+            "print(1 / 0); }",
+            5,
+            "backer: trap DivideByZero on node 0\n",
+        ),
         ("while (1) ; }", 6, "backer: budget spent on node 0\n"),
     ] {
         let source = super::repeating(rt.alloc(), racing, end, 1, "")?;
@@ -146,8 +156,16 @@ fn many_reads(rt: HostRuntime) -> Result<(), Fail> {
 fn refused(rt: HostRuntime) -> Result<(), Fail> {
     let line = "backer: source refused: 202 in function main statement 0\n";
     assert_told(&rt, rt.alloc(), "int main() { print(y); }", 2, "", line)?;
-    let left = run(rt.alloc(), &["race", "f"], b"int".to_vec(rt.alloc())?, NOTHING)?;
-    assert_eq!(rt; left.err.held(), b"backer: source refused: 103 at byte 3\n".as_slice());
+    let left = run(
+        rt.alloc(),
+        &["race", "f"],
+        b"int".to_vec(rt.alloc())?,
+        NOTHING,
+    )?;
+    assert_eq!(rt;
+        left.err.held(),
+        b"backer: source refused: 103 at byte 3\n".as_slice()
+    );
     assert!(rt; left.ended.status != Status::Done);
     Ok(())
 }

@@ -152,7 +152,8 @@ fn trapping_programs(rt: HostRuntime) -> Result<(), Fail> {
     Ok(())
 }
 
-const FIB_OF_10: &str = "cilk int fib(int n) { int x, y; if (n < 2) return n; x = spawn fib(n - 1); y = spawn fib(n - 2); sync; return x + y; } cilk int main(void) { int r; r = spawn fib(10); sync; print(r); return 0; }";
+const FIB_OF_10: &str =
+    "cilk int fib(int n) { int x, y; if (n < 2) return n; x = spawn fib(n - 1); y = spawn fib(n - 2); sync; return x + y; } cilk int main(void) { int r; r = spawn fib(10); sync; print(r); return 0; }";
 
 /// The elision of fib(10) makes 445 ticks.
 #[test]
@@ -228,14 +229,20 @@ fn pieces_of_a_loop(rt: HostRuntime) -> Result<(), Fail> {
 /// Sums of 8,192 words by halves, filled by halves: 38,399 ticks.
 #[test]
 fn sums_by_halves(rt: HostRuntime) -> Result<(), Fail> {
-    let source = "int a[8192]; cilk void fill(int lo, int hi) { int mid; if (hi - lo <= 16) { while (lo < hi) { a[lo] = lo * 15 % 1000; lo = lo + 1; } } else { mid = (lo + hi) / 2; spawn fill(lo, mid); spawn fill(mid, hi); } } cilk int total(int lo, int hi) { int mid; int s; int t; if (hi - lo <= 16) { while (lo < hi) { s = s + a[lo]; lo = lo + 1; } } else { mid = (lo + hi) / 2; s = spawn total(lo, mid); t = spawn total(mid, hi); sync; s = s + t; } return s; } cilk int main() { int x; spawn fill(0, 8192); sync; x = spawn total(0, 8192); sync; print(x); return 0; }";
+    let source =
+        "int a[8192]; cilk void fill(int lo, int hi) { int mid; if (hi - lo <= 16) { while (lo < hi) { a[lo] = lo * 15 % 1000; lo = lo + 1; } } else { mid = (lo + hi) / 2; spawn fill(lo, mid); spawn fill(mid, hi); } } cilk int total(int lo, int hi) { int mid; int s; int t; if (hi - lo <= 16) { while (lo < hi) { s = s + a[lo]; lo = lo + 1; } } else { mid = (lo + hi) / 2; s = spawn total(lo, mid); t = spawn total(mid, hi); sync; s = s + t; } return s; } cilk int main() { int x; spawn fill(0, 8192); sync; x = spawn total(0, 8192); sync; print(x); return 0; }";
     static ROWS: [(&[&str], u8, &str); 3] = [
         (&["serial", "f", "--budget", "38399"], 0, "4072040\n"),
         (&["serial", "f", "--budget", "38398"], 6, ""),
         (&["race", "f"], 0, "no race\n"),
     ];
     for &(words, number, out) in &ROWS {
-        let left = run(rt.alloc(), words, source.as_bytes().to_vec(rt.alloc())?, NOTHING)?;
+        let left = run(
+            rt.alloc(),
+            words,
+            source.as_bytes().to_vec(rt.alloc())?,
+            NOTHING,
+        )?;
         assert_eq!(rt; left.ended.number(), number, "{out}");
         assert_eq!(rt; left.out.held(), out.as_bytes(), "{out}");
     }

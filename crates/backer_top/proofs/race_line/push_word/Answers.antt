@@ -15,9 +15,9 @@ returns-then-index-array c =
     let later = drop (place + 1) arrays in
     let front : drop place arrays ≡ array ∷ later = drop_more arrays place array c.loop-array-test.true ∙ ap (λ a. a ∷ later) (sym c.array-item.is) in
     let words : word_words arrays c.args.word ≡ array.name ++ (codes "[" ++ decimal index ++ codes "]") =
-        sym c.loop-array.invariant.left ∙ ap (λ rest. word_words rest index) front ∙ found_in array later index c.if-index-array.true in
+    sym c.loop-array.invariant.left ∙ ap (λ rest. word_words rest index) front ∙ found_in array later index c.if-index-array.true in
     let named : c.extend_from_slice.new.self.items ≡ c.args.line.now.items ++ array.name =
-        c.in_ok-extend_from_slice.ensures.items ∙ ap (λ line. line ++ c.items.result.now) c.loop-array.invariant.same ∙ ap (λ name. c.args.line.now.items ++ name) c.items.ensures in
+    c.in_ok-extend_from_slice.ensures.items ∙ ap (λ line. line ++ c.items.result.now) c.loop-array.invariant.same ∙ ap (λ name. c.args.line.now.items ++ name) c.items.ensures in
     on_ok_weaker c.push_index.result
     (λ added. added ∙ ap (λ line. line ++ (codes "[" ++ decimal index ++ codes "]")) named
     ∙ append_assoc c.args.line.now.items array.name (codes "[" ++ decimal index ++ codes "]") ∙ ap (λ words. c.args.line.now.items ++ words) (sym words)) c.push_index.ensures
