@@ -2,6 +2,7 @@
 """Times `backer check` on lawful sources of one shape, as long as 1 MiB and the counts allow.
 
 Usage: bench/check.py, from a checkout where `rt ci` has built the program. Prints a table of bytes, seconds and answers.
+`bench/check.py --compile` times `backer serial --budget=1` on them: reading, checking, compiling, and one tick.
 `bench/check.py --write FOLDER` only writes the sources.
 """
 import itertools
@@ -149,7 +150,8 @@ def main():
             (folder / f"{number}.cilk").write_text(source)
             print(f"{number}.cilk: {len(source):,} bytes, {shape}")
         return
-    print_table("check", {shape: source.encode() for shape, source in SOURCES.items()})
+    words = ["serial", "--budget=1"] if sys.argv[1:2] == ["--compile"] else ["check"]
+    print_table(words, {shape: source.encode() for shape, source in SOURCES.items()})
 
 
 main()

@@ -34,4 +34,4 @@ SOURCES = {
 }
 
 
-print_table("serial", SOURCES)
+print_table(["serial"], SOURCES)
