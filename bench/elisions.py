@@ -240,7 +240,7 @@ print(a[N // 2])
 """)
 
 # Each program with the size at which it stays just below 2,000,000 ticks.
-PROGRAMS = [(FIB, 27), (SUM, 65536), (SIEVE, 390000), (MATRIX, 80), (QUEENS, 8), (SORT, 24000)]
+PROGRAMS = [(FIB, 27), (SUM, 65536), (SIEVE, 325000), (MATRIX, 86), (QUEENS, 9), (SORT, 16700)]
 
 
 def cilk_of(source, size):
