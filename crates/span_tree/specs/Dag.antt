@@ -41,7 +41,7 @@ PartUnsynced history row (i ∷ xs) (j ∷ ys) =
     ((i < j) × (xs ≢ []) × NoSync (row_at history row).acts i j)
     ⊎ ((i ≡ j) × (child : ℕ) × (act_at history (record { row = row; act = i }) ≡ Some (Spawn child)) × PartUnsynced history child xs ys)
 
--- x is serially before y, and the dag has no way from x to y
+-- x is serially before y, and the dag has no path from x to y
 abbrev pub RunsBeside : History → Place → Place → Type 0
 RunsBeside history x y = PartUnsynced history 0 (way history x) (way history y)
 

@@ -93,7 +93,8 @@ pub record IsWordOrder (start : ℕ → ℤ) (history : History) (word : ℕ) (p
   pub dag : (x y : Place) → Contains places x → Contains places y → Precedes history x y → StandsBefore places x y
   pub reads : ReadsLastWrites start (filter_map (act_at history) places)
 
--- Location consistency (Frigo, Luchangco 1998): each shared word has such a list, and no other words are accessed.
+-- Location consistency (Frigo, Luchangco 1998) of a history with as many shared words as there are lists: each word's list is such an
+-- order, and no other word is accessed.
 pub record IsLocationConsistent (start : ℕ → ℤ) (history : History) (orders : List (List Place)) : Type 0 where
   pub lists : (word : ℕ) (places : List Place) → slice_get orders word ≡ Some places → IsWordOrder start history word places
   pub shared : (word : ℕ) (place : Place) → is_access history word place ≡ true → word < length orders
