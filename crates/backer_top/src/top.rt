@@ -1,4 +1,4 @@
-ghost use Rattle.std.specs.Prelude.{◌≡◌, ◌≢◌, ◌⊎◌, ◌≤◌, List, ℕ, true, false, None, Some, map, length, string_bytes, IfOk, IfErr};
+ghost use Rattle.std.specs.Prelude.{◌≡◌, ◌≢◌, ◌↔◌, ◌≤◌, List, ℕ, true, false, None, Some, map, length, string_bytes, IfOk, IfErr};
 ghost use Rattle.backer_top.specs.Lines.{IsLineOf, IsTelling, line_bytes};
 ghost use Rattle.backer_top.specs.Outcome.{IsOutcome, IsReading, StopsWith};
 ghost use Rattle.backer_top.specs.Output.{IsHalfTold, IsTold, sink_use};
@@ -31,12 +31,10 @@ pub fn backer<L: Shelf, O: Sink, E: Sink>(
     out: &mut O,
     err: &mut E,
 ) -> Ended
-    // The words are refused only where they are no command, and then unless memory runs out; the shelf is not called, and the line is
-    // put on `err`.
-    ensures words { result.status ≡ Status.Words → IsNoCommand (map string_bytes words.now) }
-    ensures refused { IsNoCommand (map string_bytes words.now) → (result.status ≡ Status.Words) ⊎ (result.status ≡ Status.Memory) }
-    ensures no_call { IsNoCommand (map string_bytes words.now) → shelf.new ≡ shelf.old }
-    ensures words_told { IsNoCommand (map string_bytes words.now) → (text : List ℕ) → IsTelling E.held E.took E.failed err.old err.new text result }
+    // The words are refused exactly where they are no command; then the shelf is not called, and the line is put on `err`.
+    ensures words { (result.status ≡ Status.Words) ↔ IsNoCommand (map string_bytes words.now) }
+    ensures no_call { result.status ≡ Status.Words → shelf.new ≡ shelf.old }
+    ensures words_told { result.status ≡ Status.Words → (text : List ℕ) → IsTelling E.held E.took E.failed err.old err.new text result }
 
     // One text serves all that is said of a command.
     ensures command { (command : Offline) → IsCommand (map string_bytes words.now) (Command.Offline command) →

@@ -18,12 +18,13 @@ const ELISION_BUDGET: Range = Range {
 };
 
 /// The command that the words are. `words` are those behind the program's name. `Words` comes exactly where they are no
-/// command.
+/// command: memory is wanted only for one.
 pub fn read_words(alloc: Global, words: &[String]) -> Result<Command, WordRefusal>
     ensures command { IfOk result (λ command. IsCommand (map string_bytes words.now) command) }
     ensures only { (command : Command) → IsCommand (map string_bytes words.now) command →
         MatchResult result (λ found. found ≡ command) (λ refusal. refusal ≡ WordRefusal.Memory) }
     ensures words { result ≡ Err WordRefusal.Words → (command : Command) → ¬ IsCommand (map string_bytes words.now) command }
+    ensures memory { result ≡ Err WordRefusal.Memory → ((command : Command) × IsCommand (map string_bytes words.now) command) }
 {
     let Some((name, others)) = words.split_first() else {
         return Err(WordRefusal::Words);
@@ -39,6 +40,8 @@ fn read_offline(alloc: Global, name: &str, gathered: &Gathered) -> Result<Offlin
     ensures command { IfOk result (λ command. IsOffline name.now (file_in gathered.now) (values_in gathered.now) command) }
     ensures words { result ≡ Err WordRefusal.Words → (command : OfflineCommand) →
         ¬ IsOffline name.now (file_in gathered.now) (values_in gathered.now) command }
+    ensures memory { result ≡ Err WordRefusal.Memory → ((command : OfflineCommand) ×
+        IsOffline name.now (file_in gathered.now) (values_in gathered.now) command) }
 {
     let file = file_named(gathered).ok_or(WordRefusal::Words)?;
     match name {

@@ -1,6 +1,7 @@
 use Rattle.std.proofs.Common.{◌≡◌, Err, ◌∷◌, map, string_bytes, sym, ap, ◌∙◌}
 use Rattle.std.proofs.lemmas.Result.{err_from_is_err_and}
-use Rattle.command_words.specs.declared.refusal.WordRefusal.TheVariants.{Words}
+use Rattle.command_words.specs.declared.command.Command.TheVariants.{Offline}
+use Rattle.command_words.specs.declared.refusal.WordRefusal.TheVariants.{Memory, Words}
 use Rattle.command_words.proofs.Commands.{other_refusal, is_command, none_gathered, no_command, only_command}
 use Rattle.command_words.proofs.reading.read_words.Goals as goal
 
@@ -29,3 +30,10 @@ returns-clause-command c = is_command (map string_bytes c.args.words.now) c.as_s
 
 pub returns-clause-only : goal.returns-clause-only
 returns-clause-only c command is = only_command (map string_bytes c.args.words.now) c.as_str.result.now (map string_bytes c.in-Some.others.now) (ap (map string_bytes) c.in-Some.ensures.cases.0 ∙ ap (λ name. name ∷ map string_bytes c.in-Some.others.now) (sym c.as_str.ensures.value)) c.in-Some-of_words.gathered c.in_ok-command.command (sym c.in-Some-of_words.ensures) c.in_ok-command.ensures.command command is
+
+pub returns-in_err-command-clause-memory : goal.returns-in_err-command-clause-memory
+returns-in_err-command-clause-memory c memory =
+    let from = err_from_is_err_and c.from_residual.result c.from_residual.ensures.1 in
+    let wanted : c.in_err-command.field-0.0 ≡ Memory = cc in
+    let command = (c.in_err-command.ensures {u = tt}).memory (ap Err wanted) in
+    (Offline command.0, is_command (map string_bytes c.args.words.now) c.as_str.result.now (map string_bytes c.in-Some.others.now) (ap (map string_bytes) c.in-Some.ensures.cases.0 ∙ ap (λ name. name ∷ map string_bytes c.in-Some.others.now) (sym c.as_str.ensures.value)) c.in-Some-of_words.gathered command.0 (sym c.in-Some-of_words.ensures) command.1)
