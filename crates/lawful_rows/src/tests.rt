@@ -1,19 +1,27 @@
 //! The rows of `check`: which programs are lawful, and where each other one breaks which rule first.
-use super::{Left, NOTHING, numbered, printed, run};
 use backer_top::{Ended, SourceRefusal, Status};
 use cilk_checker::CheckPlace;
+use cilk_reader::read_program;
+use cilk_tree::print_program;
+use row_calls::{Left, NOTHING, numbered, run};
 use std::alloc::{AllocError, Global};
 use std::process::Abort;
 use std::test::Fail;
 
+/// The call ended with this number, put this line on `err`, and nothing on `out`.
+fn assert_told(rt: &impl Abort, left: &Left, number: u8, line: &str, row: &str) {
+    assert!(rt; left.tells(number, line), "{row}");
+}
+
+/// The canonical text of the source, which is read.
+fn printed(alloc: Global, source: &str) -> Result<Vec<u8>, Fail> {
+    let program = read_program(alloc, source.as_bytes())?;
+    Ok(print_program(alloc, &program)?)
+}
+
 /// Compares the answer of `check` with what is written: the end of its line on `err`, or nothing where the program is
 /// lawful.
-pub(super) fn assert_checked(
-    rt: &impl Abort,
-    alloc: Global,
-    source: &str,
-    breach: &str,
-) -> Result<(), Fail> {
+fn assert_checked(rt: &impl Abort, alloc: Global, source: &str, breach: &str) -> Result<(), Fail> {
     let left = run(
         alloc,
         &["check", "f"],
@@ -24,7 +32,7 @@ pub(super) fn assert_checked(
         return assert_accepted(rt, alloc, source, &left);
     }
     let line = format!(in alloc; "backer: source refused: {breach}\n")?;
-    left.assert_told(rt, 2, line.as_str(), source);
+    assert_told(rt, &left, 2, line.as_str(), source);
     Ok(())
 }
 
@@ -36,7 +44,7 @@ fn assert_accepted(rt: &impl Abort, alloc: Global, source: &str, left: &Left) ->
     };
     assert_eq!(rt; left.err.puts(), 0, "{source}");
     let text = printed(alloc, source)?;
-    left.assert_is(rt, ended, text.as_slice(), "", source);
+    assert!(rt; left.is(ended, text.as_slice(), ""), "{source}");
     Ok(())
 }
 
@@ -60,11 +68,7 @@ fn assert_each_checked(rt: &impl Abort, alloc: Global, rows: &[(&str, &str)]) ->
 }
 
 /// `assert_main` of each row.
-pub(super) fn assert_each_main(
-    rt: &impl Abort,
-    alloc: Global,
-    rows: &[(&str, &str)],
-) -> Result<(), Fail> {
+fn assert_each_main(rt: &impl Abort, alloc: Global, rows: &[(&str, &str)]) -> Result<(), Fail> {
     for &(body, breach) in rows {
         assert_main(rt, alloc, body, breach)?;
     }
@@ -608,4 +612,65 @@ fn breaches(rt: HostRuntime) -> Result<(), Fail> {
         );
     }
     Ok(())
+}
+
+/// Sources with `fetch_add`.
+#[test]
+fn lawful_additions(rt: HostRuntime) -> Result<(), Fail> {
+    static ROWS: [(&str, &str); 17] = [
+        ("fetch_add(a[0], 1); int x; x = fetch_add(a[x], x);", ""),
+        (
+            "int x; fetch_add(x[0], 1);",
+            "203 in function main statement 1",
+        ),
+        ("fetch_add(f[0], 1);", "203 in function main statement 0"),
+        ("fetch_add(u[0], 1);", "202 in function main statement 0"),
+        ("fetch_add(a[u], 1);", "202 in function main statement 0"),
+        ("fetch_add(a[0], u);", "202 in function main statement 0"),
+        ("fetch_add(a[0], a);", "203 in function main statement 0"),
+        ("fetch_add(a[a], 1);", "203 in function main statement 0"),
+        (
+            "a = fetch_add(a[0], 1);",
+            "203 in function main statement 0",
+        ),
+        (
+            "f = fetch_add(a[0], 1);",
+            "203 in function main statement 0",
+        ),
+        (
+            "u = fetch_add(a[0], 1);",
+            "202 in function main statement 0",
+        ),
+        (
+            "int x = spawn c(1); x = fetch_add(a[0], 1);",
+            "209 in function main statement 2",
+        ),
+        (
+            "int x = spawn c(1); fetch_add(a[x], 1);",
+            "209 in function main statement 2",
+        ),
+        (
+            "int x = spawn c(1); fetch_add(a[0], 1 + x);",
+            "209 in function main statement 2",
+        ),
+        (
+            "int x = spawn c(1); fetch_add(a[0], 1); print(x);",
+            "209 in function main statement 3",
+        ),
+        (
+            "int x = spawn c(1); int y; y = fetch_add(a[0], 1); sync; print(x + y);",
+            "",
+        ),
+        (
+            "int x = spawn c(1); sync; x = fetch_add(a[x], x); print(x);",
+            "",
+        ),
+    ];
+    assert_each_main(&rt, rt.alloc(), &ROWS)?;
+    assert_checked(
+        &rt,
+        rt.alloc(),
+        "int a[1]; int f(int p) { p = fetch_add(a[0], p); fetch_add(a[0], 1); return p; } int main() { }",
+        "",
+    )
 }

@@ -1,6 +1,7 @@
 //! The rows of `serial`: what programs print as their serial elision, where they trap, and what they may cost.
-use super::{Ended, Failing, NOTHING, Status, numbered, repeating, run, run_source};
+use backer_top::{Ended, Status};
 use cilk_meaning::TrapKind;
+use row_calls::{Failing, NOTHING, numbered, repeating, run, run_source};
 use std::alloc::Global;
 use std::process::Abort;
 use std::test::Fail;
@@ -24,7 +25,7 @@ fn assert_run(
         status,
         mute: false,
     };
-    left.assert_is(rt, ended, out.as_bytes(), line, source);
+    assert!(rt; left.is(ended, out.as_bytes(), line), "{source}");
     Ok(())
 }
 

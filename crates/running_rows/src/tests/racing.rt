@@ -1,5 +1,5 @@
 //! The rows of `race`: the first determinacy race of programs, or that there is none.
-use super::{NOTHING, Status, run};
+use row_calls::{NOTHING, repeating, run};
 use std::alloc::Global;
 use std::process::Abort;
 use std::test::Fail;
@@ -137,7 +137,7 @@ fn unfinished(rt: HostRuntime) -> Result<(), Fail> {
         ),
         ("while (1) ; }", 6, "backer: budget spent on node 0\n"),
     ] {
-        let source = super::repeating(rt.alloc(), racing, end, 1, "")?;
+        let source = repeating(rt.alloc(), racing, end, 1, "")?;
         assert_told(&rt, rt.alloc(), source.as_str(), number, "", line)?;
     }
     Ok(())

@@ -1,9 +1,9 @@
-//! The rows of `fetch_add`: what text is one, where its levels and counts end, how it is printed, and which are lawful.
-use super::checking::{assert_checked, assert_each_main};
+//! The rows of `fetch_add`: what text is one, where its levels and counts end, and how it is printed.
 use super::{
     assert_each_canonical, assert_each_unexpected, assert_refusal, assert_refused, is_read,
-    numbered, repeated, repeating,
+    repeated,
 };
+use row_calls::{numbered, repeating};
 use std::test::Fail;
 
 #[test]
@@ -129,64 +129,4 @@ fn canonical_additions(rt: HostRuntime) -> Result<(), Fail> {
         ),
     ];
     assert_each_canonical(&rt, rt.alloc(), &ROWS)
-}
-
-#[test]
-fn lawful_additions(rt: HostRuntime) -> Result<(), Fail> {
-    static ROWS: [(&str, &str); 17] = [
-        ("fetch_add(a[0], 1); int x; x = fetch_add(a[x], x);", ""),
-        (
-            "int x; fetch_add(x[0], 1);",
-            "203 in function main statement 1",
-        ),
-        ("fetch_add(f[0], 1);", "203 in function main statement 0"),
-        ("fetch_add(u[0], 1);", "202 in function main statement 0"),
-        ("fetch_add(a[u], 1);", "202 in function main statement 0"),
-        ("fetch_add(a[0], u);", "202 in function main statement 0"),
-        ("fetch_add(a[0], a);", "203 in function main statement 0"),
-        ("fetch_add(a[a], 1);", "203 in function main statement 0"),
-        (
-            "a = fetch_add(a[0], 1);",
-            "203 in function main statement 0",
-        ),
-        (
-            "f = fetch_add(a[0], 1);",
-            "203 in function main statement 0",
-        ),
-        (
-            "u = fetch_add(a[0], 1);",
-            "202 in function main statement 0",
-        ),
-        (
-            "int x = spawn c(1); x = fetch_add(a[0], 1);",
-            "209 in function main statement 2",
-        ),
-        (
-            "int x = spawn c(1); fetch_add(a[x], 1);",
-            "209 in function main statement 2",
-        ),
-        (
-            "int x = spawn c(1); fetch_add(a[0], 1 + x);",
-            "209 in function main statement 2",
-        ),
-        (
-            "int x = spawn c(1); fetch_add(a[0], 1); print(x);",
-            "209 in function main statement 3",
-        ),
-        (
-            "int x = spawn c(1); int y; y = fetch_add(a[0], 1); sync; print(x + y);",
-            "",
-        ),
-        (
-            "int x = spawn c(1); sync; x = fetch_add(a[x], x); print(x);",
-            "",
-        ),
-    ];
-    assert_each_main(&rt, rt.alloc(), &ROWS)?;
-    assert_checked(
-        &rt,
-        rt.alloc(),
-        "int a[1]; int f(int p) { p = fetch_add(a[0], p); fetch_add(a[0], 1); return p; } int main() { }",
-        "",
-    )
 }

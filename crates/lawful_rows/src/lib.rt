@@ -1,0 +1,5 @@
+//! Rows of `check`, as tests alone.
+#![tactic(auto)]
+
+#[cfg(test)]
+mod tests;

@@ -1,0 +1,3 @@
+//! The rows of `serial` and `race`.
+mod racing;
+mod running;
