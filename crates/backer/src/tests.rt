@@ -1,7 +1,7 @@
 //! The rows of words, reading and writing, over a shelf and sinks in memory.
 use backer_top::{Ended, SourceRefusal, Status};
 use cilk_meaning::TrapKind;
-use row_calls::{Failing, Left, NOTHING, repeating, run, run_source};
+use row_calls::{Failing, Left, NOTHING, numbered, repeating, run, run_source};
 use std::alloc::{AllocError, Global};
 use std::process::Abort;
 use std::test::Fail;

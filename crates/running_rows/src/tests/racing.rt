@@ -1,4 +1,5 @@
 //! The rows of `race`: the first determinacy race of programs, or that there is none.
+use backer_top::Status;
 use row_calls::{NOTHING, repeating, run};
 use std::alloc::Global;
 use std::process::Abort;
