@@ -1,0 +1,14 @@
+pub mod Search
+pub mod Owed
+pub mod Decide
+pub mod Lists
+pub mod Pages
+pub mod ReadsLast
+pub mod HomeLists
+pub mod TakeUps
+pub mod Places
+pub mod Tokens
+pub mod Waits
+pub mod Blocks
+pub mod Settled
+pub mod Dags

@@ -1,0 +1,221 @@
+-- While an Add waits its frame stays on top of its node's stack, and makes no act but the one that is served.
+use Rattle.std.proofs.Common.{◌≡◌, ◌≢◌, ℕ, ℤ, zero, suc, ◌<◌, ◌≤◌, inl, inr, true, List, [], ◌∷◌, ◌++◌, refl, sym, ◌∙◌, ap, subst, arith}
+use Rattle.page_messages.specs.declared.closure.FrameId.{FrameId}
+use Rattle.backer_order.specs.Log.{Act, Read, Write, Add, Print, Spawn, Sync, Note, Fetch, Grant, Done, Park, AddTo, Event, Acts, TakeUp, OwnFetch, Post, Took, Tick, Events, SharedMemory}
+use Rattle.backer_order.specs.Moments.{takes_add, serves, Serves, AddDone}
+use Rattle.backer_order.specs.Rules.{IsItem, Caching}
+use Rattle.backer_order.specs.Edges.{Stacks, Returns, IsOn, Others, Moves, StackRule, Taken, Frames}
+use Rattle.backer_order.proofs.Search.{Less3, Same3, More3, compare}
+use Rattle.backer_order.proofs.Decide.{same_or_not}
+use Rattle.backer_order.proofs.Pages as pages
+use Rattle.backer_order.proofs.Owed as owed
+use Rattle.backer_order.proofs.Places as places
+use Rattle.backer_order.proofs.Lists.{mem_middle}
+
+tops : (front below : List FrameId) (d frame g : FrameId) → front ++ d ∷ (g ∷ []) ≡ frame ∷ below →
+    (b : List FrameId) × (front ++ d ∷ [] ≡ frame ∷ b)
+tops [] below d frame g same = ([], ap (λ i. i ∷ []) head)
+  where
+    head : d ≡ frame
+    head = cc
+tops (x ∷ front) below d frame g same = (front ++ d ∷ [], ap (λ i. i ∷ (front ++ d ∷ [])) head)
+  where
+    head : x ≡ frame
+    head = cc
+
+module _ (events : Events) (memory : SharedMemory) (caching : Caching events memory) (has_returned : Returns) (stack : Stacks) (frames : Frames events memory has_returned stack) where
+  module _ (node other : ℕ) (frame : FrameId) (word : ℕ) (d : ℤ) (k : ℕ) (po : events k ≡ Post node other (AddTo frame word d)) where
+    abbrev Top : ℕ → Type 0
+    Top now = (below : List FrameId) × (stack now node ≡ frame ∷ below)
+
+    abbrev Open : ℕ → Type 0
+    Open now = AddDone events memory node k now → ⊥
+
+    by_item : (now : ℕ) → k < now → IsItem memory node (events now) → AddDone events memory node k now
+    by_item now l item = caching.access.item node now k other (AddTo frame word d) item l po
+
+    apart_from : (now node' : ℕ) → Others stack now node' → Top now → (node ≡ node' → AddDone events memory node k now) → Open now →
+        Top (suc now)
+    apart_from now node' others ih own op = elim (same_or_not node node') [
+      | inl same ↦ absurd (op (own same))
+      | inr ne ↦ (ih.0, others node ne ∙ ih.1)
+    ]
+
+    item_of : (now node' : ℕ) (y : Event) → events now ≡ y → k < now → (node' ≡ node → IsItem memory node y) → node ≡ node' →
+        AddDone events memory node k now
+    item_of now node' y is l it same = by_item now l (subst (λ i. IsItem memory node i) (sym is) (it (sym same)))
+
+    posted_by : (now node' r : ℕ) (note : Note) → events now ≡ Post node' r note → node ≡ node' → events now ≡ Post node r note
+    posted_by now node' r note is same = subst (λ i. events now ≡ Post i r note) (sym same) is
+
+    step : (now : ℕ) (y : Event) → events now ≡ y → StackRule memory has_returned stack now y → k < now → Top now → Open now → Top (suc now)
+    step now (Acts node' g (Spawn b)) is r l ih op =
+        apart_from now node' r.others ih (item_of now node' (Acts node' g (Spawn b)) is l (λ h. h)) op
+    step now (Acts node' g (Read u v)) is r l ih op =
+        apart_from now node' r.others ih (item_of now node' (Acts node' g (Read u v)) is l (λ h. h)) op
+    step now (Acts node' g (Write u v)) is r l ih op =
+        apart_from now node' r.others ih (item_of now node' (Acts node' g (Write u v)) is l (λ h. h)) op
+    step now (Acts node' g (Print v)) is r l ih op =
+        apart_from now node' r.others ih (item_of now node' (Acts node' g (Print v)) is l (λ h. h)) op
+    step now (Acts node' g Sync) is r l ih op = apart_from now node' r.others ih (item_of now node' (Acts node' g Sync) is l (λ h. h)) op
+    step now (Acts node' g (Add u v x)) is r l ih op = elim (same_or_not (memory.home (memory.page u)) node') [
+      | inl h ↦ apart_from now node' (r.own h).others ih (item_of now node' (Acts node' g (Add u v x)) is l (λ same. (same, h ∙ same))) op
+      | inr ne ↦ (ih.0, r.other ne node ∙ ih.1)
+    ]
+    step now (Tick node' g) is r l ih op = apart_from now node' r.others ih (item_of now node' (Tick node' g) is l (λ h. h)) op
+    step now (TakeUp node' g) is r l ih op = apart_from now node' r.2 ih (item_of now node' (TakeUp node' g) is l (λ h. h)) op
+    step now (OwnFetch node' g ws) is r l ih op =
+        apart_from now node' r.others ih (item_of now node' (OwnFetch node' g ws) is l (λ h. h)) op
+    step now (Post node' x (Fetch g)) is r l ih op =
+        apart_from now node' r.others ih
+        (λ same. caching.access.alone node now k other x (AddTo frame word d) (Fetch g) (posted_by now node' x (Fetch g) is same) tt l po) op
+    step now (Post node' x (AddTo g u v)) is r l ih op =
+        apart_from now node' r.others ih
+        (λ same. caching.access.alone node now k other x (AddTo frame word d) (AddTo g u v) (posted_by now node' x (AddTo g u v) is same) tt l po) op
+    step now (Post node' x (Done g b)) is r l ih op =
+        apart_from now node' r.0.others ih
+        (λ same. frames.leave node now k other x frame word d (Done g b) po l (posted_by now node' x (Done g b) is same) tt) op
+    step now (Post node' x (Park g)) is r l ih op =
+        apart_from now node' r.others ih
+        (λ same. frames.leave node now k other x frame word d (Park g) po l (posted_by now node' x (Park g) is same) tt) op
+    step now (Post node' x (Grant g)) is r l ih op = elim (same_or_not node node') [
+      | inr ne ↦ (ih.0, r.others node ne ∙ ih.1)
+      | inl same ↦
+          let t = tops r.front ih.0 r.child frame g (sym r.old ∙ subst (λ i. stack now i ≡ frame ∷ ih.0) same ih.1) in
+          (t.0, subst (λ i. stack (suc now) i ≡ frame ∷ t.0) (sym same) (r.new ∙ t.1))
+    ]
+    step now y is r l ih op = (ih.0, r node ∙ ih.1)
+
+    -- from the post up to the answer the frame is on top
+    pub since : (now : ℕ) → k < now → ((i : ℕ) → k < i → i < now → Open i) → Top now
+    since zero l op = absurd (omega arith)
+    since (suc now) l op = elim (compare k now) [
+      | More3 h ↦ absurd (omega arith)
+      | Same3 same ↦
+          let r : Moves has_returned stack k node frame [] = subst (λ y. StackRule memory has_returned stack k y) po (frames.stacks k) in
+          (r.below, subst (λ i. stack (suc i) node ≡ frame ∷ r.below) same r.new)
+      | Less3 h ↦ step now (events now) refl (frames.stacks now) h (since now h (λ i a b. op i a (omega arith))) (op now h (omega arith))
+    ]
+
+  -- where the home serves another node's Add, the frame is on top of that node's stack
+  pub add_top : (now node : ℕ) (frame : FrameId) (word : ℕ) (old d : ℤ) → (is : events now ≡ Acts node frame (Add word old d)) →
+      memory.home (memory.page word) ≢ node → (below : List FrameId) × (stack now node ≡ frame ∷ below)
+  add_top now node frame word old d is ne =
+      let sv = pages.sv events memory caching node word now old d frame is ne in
+      since node (memory.home (memory.page word)) frame word d sv.post sv.posted now (pages.post_first events memory caching node word now old d frame is ne)
+      (λ i a b an. let l = pages.done_later events memory caching node word now old d frame is ne i an in omega arith)
+
+  pub add_on : (now node : ℕ) (frame : FrameId) (word : ℕ) (old d : ℤ) → events now ≡ Acts node frame (Add word old d) →
+      memory.home (memory.page word) ≢ node → IsOn frame (stack now node)
+  add_on now node frame word old d is ne = let t = add_top now node frame word old d is ne in subst (λ l. IsOn frame l) (sym t.1) (inl refl)
+
+  -- who acts stands on the stack
+  on_moves : (now node : ℕ) (g : FrameId) (top : List FrameId) → Moves has_returned stack now node g top → IsOn g (stack now node)
+  on_moves now node g top r = subst (λ l. IsOn g l) (sym r.old) (mem_middle g r.above r.below)
+
+  actor_at : (now node : ℕ) (g : FrameId) (a : Act) → events now ≡ Acts node g a → StackRule memory has_returned stack now (Acts node g a) →
+      IsOn g (stack now node)
+  actor_at now node g (Spawn d) is r = on_moves now node g (d ∷ []) r
+  actor_at now node g (Read word v) is r = on_moves now node g [] r
+  actor_at now node g (Write word v) is r = on_moves now node g [] r
+  actor_at now node g (Print v) is r = on_moves now node g [] r
+  actor_at now node g Sync is r = on_moves now node g [] r
+  actor_at now node g (Add word v dd) is r =
+      elim (same_or_not (memory.home (memory.page word)) node) [ inl e' ↦ on_moves now node g [] (r.own e') | inr ne ↦ add_on now node g word v dd is ne ]
+
+  pub actor_on : (now node : ℕ) (g : FrameId) (a : Act) → events now ≡ Acts node g a → IsOn g (stack now node)
+  actor_on now node g a is = actor_at now node g a is (subst (λ y. StackRule memory has_returned stack now y) is (frames.stacks now))
+
+  pub ticker_on : (now node : ℕ) (g : FrameId) → events now ≡ Tick node g → IsOn g (stack now node)
+  ticker_on now node g is =
+      let r : Moves has_returned stack now node g [] = subst (λ y. StackRule memory has_returned stack now y) is (frames.stacks now) in
+      on_moves now node g [] r
+
+  -- two items of adds that serve one post are one
+  pub served_one : (x y node : ℕ) (frame : FrameId) (word : ℕ) (old d : ℤ) (node' : ℕ) (frame' : FrameId) (word' : ℕ) (old' d' : ℤ) →
+      (is : events x ≡ Acts node frame (Add word old d)) → (ne : memory.home (memory.page word) ≢ node) →
+      (is' : events y ≡ Acts node' frame' (Add word' old' d')) → (ne' : memory.home (memory.page word') ≢ node')
+      → (pages.sv events memory caching node word x old d frame is ne).post ≡ (pages.sv events memory caching node' word' y old' d' frame' is' ne').post → x ≡ y
+  served_one x y node frame word old d node' frame' word' old' d' is ne is' ne' posts =
+      let sx = pages.sv events memory caching node word x old d frame is ne in
+      let sy = pages.sv events memory caching node' word' y old' d' frame' is' ne' in
+      let po : events (sx.post) ≡ Post node' (memory.home (memory.page word')) (AddTo frame' word' d') =
+      subst (λ i. events i ≡ Post node' (memory.home (memory.page word')) (AddTo frame' word' d')) (sym posts) sy.posted in
+      let hh : memory.home (memory.page word) ≡ memory.home (memory.page word') =
+      receiver sx.post node (memory.home (memory.page word)) frame word d node' (memory.home (memory.page word')) frame' word' d'
+      sx.posted po in
+      let same_taking : sx.taking ≡ sy.taking =
+      caching.delivery.once sx.taking sy.taking (memory.home (memory.page word)) (memory.home (memory.page word')) sy.post
+      (subst (λ i. events sx.taking ≡ Took (memory.home (memory.page word)) i) posts sx.took) sy.took in
+      let h = memory.home (memory.page word') in
+      let ax : serves memory h (events x) ≡ true =
+      pages.served_by events memory caching h node word x old d frame is hh (λ same. ne (hh ∙ same)) in
+      let ay : serves memory h (events y) ≡ true = pages.served_by events memory caching h node' word' y old' d' frame' is' refl ne' in
+      let vx : Serves events memory h x (sy.taking) =
+      subst (λ i. Serves events memory i x (sy.taking)) hh
+      (subst (λ i. Serves events memory (memory.home (memory.page word)) x i) same_taking sx.serves) in
+      owed.once (λ i. takes_add events h (events i)) (λ i. serves memory h (events i)) x y sy.taking ax ay vx sy.serves
+    where
+      receiver : (k node other : ℕ) (frame : FrameId) (word : ℕ) (d : ℤ) (node' other' : ℕ) (frame' : FrameId) (word' : ℕ) (d' : ℤ) →
+          events k ≡ Post node other (AddTo frame word d) → events k ≡ Post node' other' (AddTo frame' word' d') → other ≡ other'
+      receiver k node other frame word d node' other' frame' word' d' a b = cc
+
+  -- between the post and its item the frame makes no item
+  module _ (taken : Taken events stack) (x node : ℕ) (frame : FrameId) (word : ℕ) (old d : ℤ) (is : events x ≡ Acts node frame (Add word old d)) (ne : memory.home (memory.page word) ≢ node) where
+    not_done : (i : ℕ) → i ≤ x → AddDone events memory node (pages.sv events memory caching node word x old d frame is ne).post i → ⊥
+    not_done i l an = let h = pages.done_later events memory caching node word x old d frame is ne i an in omega arith
+
+    on_top : (i : ℕ) → (pages.sv events memory caching node word x old d frame is ne).post < i → i ≤ x → IsOn frame (stack i node)
+    on_top i l h =
+        let sv = pages.sv events memory caching node word x old d frame is ne in
+        let t = since node (memory.home (memory.page word)) frame word d sv.post sv.posted i l (λ j a b an. not_done j (omega arith) an) in
+        subst (λ z. IsOn frame z) (sym t.1) (inl refl)
+
+    -- an item of p does not stand there
+    pub no_item : (i : ℕ) → (pages.sv events memory caching node word x old d frame is ne).post < i → i ≤ x →
+        IsItem memory node (events i) → ⊥
+    no_item i l h item =
+        let sv = pages.sv events memory caching node word x old d frame is ne in
+        not_done i h (caching.access.item node i sv.post (memory.home (memory.page word)) (AddTo frame word d) item l sv.posted)
+
+    one_node : (i other : ℕ) → (pages.sv events memory caching node word x old d frame is ne).post < i → i ≤ x →
+        IsOn frame (stack i other) → other ≡ node
+    one_node i other l h on =
+        ((places.all_invs events memory has_returned stack frames taken i) i (omega arith)).apart other node frame on (on_top i l h)
+
+    pub no_tick : (i other : ℕ) → (pages.sv events memory caching node word x old d frame is ne).post < i → i < x →
+        events i ≡ Tick other frame → ⊥
+    no_tick i other l h t =
+        let same = one_node i other l (omega arith) (ticker_on i other frame t) in
+        no_item i l (omega arith) (subst (λ y. IsItem memory node y) (sym t) same)
+
+    no_act_at : (i other : ℕ) (a : Act) → events i ≡ Acts other frame a → other ≡ node →
+        (pages.sv events memory caching node word x old d frame is ne).post < i → i < x → ⊥
+    no_act_at i other (Spawn b) t same l h = no_item i l (omega arith) (subst (λ y. IsItem memory node y) (sym t) same)
+    no_act_at i other (Read u v) t same l h = no_item i l (omega arith) (subst (λ y. IsItem memory node y) (sym t) same)
+    no_act_at i other (Write u v) t same l h = no_item i l (omega arith) (subst (λ y. IsItem memory node y) (sym t) same)
+    no_act_at i other (Print v) t same l h = no_item i l (omega arith) (subst (λ y. IsItem memory node y) (sym t) same)
+    no_act_at i other Sync t same l h = no_item i l (omega arith) (subst (λ y. IsItem memory node y) (sym t) same)
+    no_act_at i other (Add u v b) t same l h = elim (same_or_not (memory.home (memory.page u)) other) [
+      | inl home ↦ no_item i l (omega arith) (subst (λ y. IsItem memory node y) (sym t) (same, home ∙ same))
+      | inr away ↦
+          let sv = pages.sv events memory caching node word x old d frame is ne in
+          let sv2 = pages.sv events memory caching other u i v b frame t away in
+          let po2 : events (sv2.post) ≡ Post node (memory.home (memory.page u)) (AddTo frame u b) =
+          subst (λ z. events sv2.post ≡ Post z (memory.home (memory.page u)) (AddTo frame u b)) same sv2.posted in
+          elim (compare sv2.post sv.post) [
+            | Same3 e' ↦ let z = served_one i x other frame u v b node frame word old d t away is ne e' in absurd (omega arith)
+            | Less3 k ↦
+                let an = caching.access.alone node sv.post sv2.post (memory.home (memory.page u)) (memory.home (memory.page word)) (AddTo frame u b) (AddTo frame word d) sv.posted tt k po2 in
+                let z = pages.done_later events memory caching other u i v b frame t away sv.post (subst (λ y. AddDone events memory y sv2.post sv.post) (sym same) an) in
+                absurd (omega arith)
+            | More3 k ↦
+                let an = caching.access.alone node sv2.post sv.post (memory.home (memory.page word)) (memory.home (memory.page u)) (AddTo frame word d) (AddTo frame u b) po2 tt k sv.posted in
+                let z = pages.post_first events memory caching other u i v b frame t away in
+                not_done sv2.post (omega arith) an
+          ]
+    ]
+
+    pub no_act_between : (i other : ℕ) (a : Act) → (pages.sv events memory caching node word x old d frame is ne).post < i → i < x →
+        events i ≡ Acts other frame a → ⊥
+    no_act_between i other a l h t = no_act_at i other a t (one_node i other l (omega arith) (actor_on i other frame a t)) l h

@@ -1,0 +1,16 @@
+pub mod Growing
+pub mod Delivered
+pub mod Events
+pub mod Between
+pub mod Messages
+pub mod Accesses
+pub mod Residing
+pub mod Fronts
+pub mod Queues
+pub mod Lawful
+pub mod Owing
+pub mod Adding
+pub mod Homing
+pub mod Answering
+pub mod Cleaning
+pub mod Caching

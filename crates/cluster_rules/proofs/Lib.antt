@@ -1,0 +1,15 @@
+pub mod Backward
+pub mod AsWritten
+pub mod Lawful
+pub mod Settling
+pub mod Refusing
+pub mod Coursing
+pub mod Quieting
+pub mod Fitted
+pub mod Deciding
+pub mod DecidingPages
+pub mod DecidingTurns
+pub mod DecidingRuns
+pub mod DecidingClosures
+pub mod Worked
+pub mod Marks

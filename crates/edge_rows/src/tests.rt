@@ -1,0 +1,4 @@
+mod closures;
+mod code;
+mod joining;
+mod stealing;

@@ -1,0 +1,5 @@
+pub mod Changing
+pub mod Closing
+pub mod Coming
+pub mod Depositing
+pub mod Taking
