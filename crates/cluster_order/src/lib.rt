@@ -1,2 +1,22 @@
-//! Laws.
+//! Every run of the written cluster keeps BACKER's rules, as `backer_order` states them over the positions of a run. So what is proved there
+//! of such lines of events holds of clusters.
 #![tactic(auto)]
+
+ghost use Rattle.std.specs.Prelude.{ℕ, List};
+ghost use Rattle.backer_order.specs.HomeOrder.{ReadsLast};
+ghost use Rattle.backer_order.specs.Rules.{Caching};
+ghost use Rattle.cluster_order.specs.Reading.{events_of, memory_of};
+ghost use Rattle.cluster_rules.specs.Positions.{course_of};
+ghost use Rattle.cluster_rules.specs.Runs.{Cluster, IsLawful};
+ghost use Rattle.cluster_rules.specs.Turns.{WholeTurn};
+
+/// A law, nothing is done: the events of lawful turns, of which the latest comes first, keep the rules for pages and adds.
+pub fn keeps_page_rules()
+    ensures { (cluster : Cluster) (turns : List WholeTurn) → IsLawful cluster turns → Caching (events_of cluster (course_of turns)) (memory_of cluster) }
+{}
+
+/// A law, nothing is done: at each position of lawful turns, each read gives, and each add finds, what the last access before it in the home
+/// order of its word left. Programs with races are meant too.
+pub fn reads_last_in_home_order()
+    ensures { (cluster : Cluster) (turns : List WholeTurn) (now : ℕ) → IsLawful cluster turns → ReadsLast (events_of cluster (course_of turns)) (memory_of cluster) now }
+{}
