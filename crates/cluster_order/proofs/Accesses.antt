@@ -155,11 +155,11 @@ module _ (cluster : Cluster) (turns : List WholeTurn) (lawful : IsLawful cluster
       on : ((message : Msg) × (event ≡ Took message) × (message.body ≡ body.Page g list)) ⊎ (event ≡ Did (item.OwnFetch g list)) → Arrives ev p g i (words_of cluster list)
       on (inl it) =
           let found : Found cluster (course_of turns) i p (happens.moved.message) (Took (it.0)) =
-            record { moved = happens.moved; is = happens.is; by = happens.by; place_is = refl; event_is = happens.event_is ∙ it.1 } in
+          record { moved = happens.moved; is = happens.is; by = happens.by; place_is = refl; event_is = happens.event_is ∙ it.1 } in
           let taking = taking_found cluster turns lawful p i (happens.moved.message) (it.0) found in
           ByPage (taking.sender) (taken_from (before (course_of turns) i) (happens.moved.message)) (taken_event cluster turns lawful p i (happens.moved.message) (it.0) found)
           (posted_event cluster turns lawful p (taken_from (before (course_of turns) i) (happens.moved.message)) i (it.0) taking
-            ∙ ap (λ said. log.Post (taking.sender) p (note_of cluster (taking.sender) (before (course_of turns) (taken_from (before (course_of turns) i) (happens.moved.message))) said)) (it.2))
+          ∙ ap (λ said. log.Post (taking.sender) p (note_of cluster (taking.sender) (before (course_of turns) (taken_from (before (course_of turns) i) (happens.moved.message))) said)) (it.2))
       on (inr same) = ByOwn (event_there p i (Did (item.OwnFetch g list)) (subst (λ one. Happens (course_of turns) p i one) same happens))
 
   pub arrival_at : (p g i : ℕ) (event : Event) → Happens (course_of turns) p i event → arrives g event ≡ true → IsArrival ev p g i

@@ -117,11 +117,11 @@ module _ (cluster : Cluster) (turns : List WholeTurn) (lawful : IsLawful cluster
     where
       by_item : (done : Item) → moved.event ≡ Did done
           → ((frame : FrameId) × (index word : ℕ) × (old addend : ℤ) × (done ≡ item.Served frame index word old addend))
-            ⊎ ((frame : FrameId) (index word : ℕ) (old addend : ℤ) → done ≡ item.Served frame index word old addend → ⊥)
+          ⊎ ((frame : FrameId) (index word : ℕ) (old addend : ℤ) → done ≡ item.Served frame index word old addend → ⊥)
           → serves (memory_of cluster) home (item_of cluster moved.node (own moved.node (before course position)) done) ≡ false
       by_item done is (inl served) =
           let happens : Happens course moved.node position (Did (item.Served (served.0) (served.1) (served.2) (served.3) (served.4))) =
-            record { moved = moved; is = found; by = refl; event_is = is ∙ ap Did (served.5) } in
+          record { moved = moved; is = found; by = refl; event_is = is ∙ ap Did (served.5) } in
           let at_home = home_served cluster turns lawful moved.node position (served.0) (served.1) (served.2) (served.3) (served.4) happens in
           let not : eqb (home_of (node_at cluster 0) (page_of (node_at cluster 0) (served.2))) home ≡ false = ap (λ it. eqb it home) at_home ∙ other in
           ap (λ it. serves (memory_of cluster) home (item_of cluster moved.node (own moved.node (before course position)) it)) (served.5) ∙ rw not refl
@@ -215,7 +215,7 @@ module _ (cluster : Cluster) (turns : List WholeTurn) (lawful : IsLawful cluster
           (next ∙ ap (λ it. after_served it (adds position)) served)
 
       on : ((frame : FrameId) × (index word : ℕ) × (old addend : ℤ) × (done ≡ item.Served frame index word old addend))
-            ⊎ ((frame : FrameId) (index word : ℕ) (old addend : ℤ) → done ≡ item.Served frame index word old addend → ⊥) → AddStep position
+          ⊎ ((frame : FrameId) (index word : ℕ) (old addend : ℤ) → done ≡ item.Served frame index word old addend → ⊥) → AddStep position
       on (inl served) = by_adds (served.0) (served.1) (served.2) (served.3) (served.4) (served.5) (adds position) refl
       on (inr none) =
           Kept (ap (serves (memory_of cluster) home) event_is ∙ served_here cluster home home (own home (before course position)) done none) no_push (next ∙ adds_left done (adds position) none)
@@ -332,7 +332,7 @@ module _ (cluster : Cluster) (turns : List WholeTurn) (lawful : IsLawful cluster
           })
 
       on : ((frame : FrameId) × (index word : ℕ) × (old addend : ℤ) × (done ≡ item.Served frame index word old addend))
-            ⊎ ((frame : FrameId) (index word : ℕ) (old addend : ℤ) → done ≡ item.Served frame index word old addend → ⊥) → OldStep position
+          ⊎ ((frame : FrameId) (index word : ℕ) (old addend : ℤ) → done ≡ item.Served frame index word old addend → ⊥) → OldStep position
       on (inl served) = by_adds (served.0) (served.1) (served.2) (served.3) (served.4) (served.5) (adds position) refl
       on (inr none) =
           Kept no_pop (ap (serves (memory_of cluster) home) event_is ∙ served_here cluster home home (own home (before course position)) done none)

@@ -217,7 +217,7 @@ module _ (cluster : Cluster) (turns : List WholeTurn) (lawful : IsLawful cluster
       on false none =
           let parts = past_parts number front (it.0) (Sent (asked.message)) (own number (before front request)) request (it.1) in
           let waits : awaits wait (own number front) ≡ true =
-            ap (awaits wait) parts ∙ any_waits wait (it.0) (Sent (asked.message)) (own number (before front request)) none (no_end wait (asked.message)) (asked.asks) in
+          ap (awaits wait) parts ∙ any_waits wait (it.0) (Sent (asked.message)) (own number (before front request)) none (no_end wait (asked.message)) (asked.asks) in
           absurd (cc)
       on true some =
           let rest = it.1.moved ∷ before front request in
@@ -306,18 +306,22 @@ module _ (cluster : Cluster) (turns : List WholeTurn) (lawful : IsLawful cluster
       let asked_by : asked.sender ≡ number = sym (sent_by cluster turns lawful (asked.sender) post message (poster home post taking message asked)) ∙ sender_is in
       let earlier = owed.head-before (λ at. takes_request events home (events at)) (λ at. gives_reply home (events at)) (came.post) taking answering in
       let first = asked.before in
-      let second = came.it.before in
-      (sender_is, asked_by, omega (arith, earlier, first, second), record {
-        reply = came.post;
-        home = home;
-        taking = taking;
-        note = note_of cluster home (before course (came.post)) answer.body;
-        takes = came.it.event;
-        posted = posted_event cluster turns lawful number (came.post) position answer (came.it);
-        replies = reply_note (answer.body) home (came.post) replies;
-        answers = answering;
-        took = asked.event;
-      })
+      let second = came.it.before in (
+        sender_is,
+        asked_by,
+        omega (arith, earlier, first, second),
+        record {
+          reply = came.post;
+          home = home;
+          taking = taking;
+          note = note_of cluster home (before course (came.post)) answer.body;
+          takes = came.it.event;
+          posted = posted_event cluster turns lawful number (came.post) position answer (came.it);
+          replies = reply_note (answer.body) home (came.post) replies;
+          answers = answering;
+          took = asked.event;
+        },
+      )
     where
       reply_note : (said : Body) (home at_post : ℕ) → replies_in said ≡ true → is_reply (note_of cluster home (before course at_post) said) ≡ true
       reply_note (body.Fetch page) home at_post is = absurd (cc)
@@ -345,12 +349,16 @@ module _ (cluster : Cluster) (turns : List WholeTurn) (lawful : IsLawful cluster
       on (PageFor post page message asked fetches is) =
           let body_is : body.Page page _ ≡ body.Page its_page words = sym (ap (λ it. it.body) is) ∙ says in
           let page_is : page ≡ its_page = cc in
-          let replied = reply_due number position answer came post (due.0) message asked (ap replies_in says) (due.1) (ap (λ it. it.receiver) is) in
-          (post, record {
-            message = message;
-            is = subst (λ one. Happens course one post (Sent message)) (replied.1) (poster home post (due.0) message asked);
-            asks = ap (fetches_in its_page) fetches ∙ ap (λ it. eqb it its_page) page_is ∙ itself its_page;
-          }, replied.2, replied.3)
+          let replied = reply_due number position answer came post (due.0) message asked (ap replies_in says) (due.1) (ap (λ it. it.receiver) is) in (
+            post,
+            record {
+              message = message;
+              is = subst (λ one. Happens course one post (Sent message)) (replied.1) (poster home post (due.0) message asked);
+              asks = ap (fetches_in its_page) fetches ∙ ap (λ it. eqb it its_page) page_is ∙ itself its_page;
+            },
+            replied.2,
+            replied.3,
+          )
       on (AckFor post parts message asked reconciles is) =
           let body_is : body.Ack ≡ body.Page its_page words = sym (ap (λ it. it.body) is) ∙ says in absurd (cc)
 
@@ -372,12 +380,16 @@ module _ (cluster : Cluster) (turns : List WholeTurn) (lawful : IsLawful cluster
       on (AckFor post parts message asked reconciles is) =
           let replied = reply_due number position answer came post (due.0) message asked (ap replies_in says) (due.1) (ap (λ it. it.receiver) is) in
           let first : reconciles_in (message.body) ≡ true = ap reconciles_in reconciles in
-          let second : eqb (message.receiver) its_home ≡ true = ap (λ it. eqb it its_home) (asked.to ∙ home_is) ∙ itself its_home in
-          (post, record {
-            message = message;
-            is = subst (λ one. Happens course one post (Sent message)) (replied.1) (poster home post (due.0) message asked);
-            asks = rw (first, second) refl;
-          }, replied.2, replied.3)
+          let second : eqb (message.receiver) its_home ≡ true = ap (λ it. eqb it its_home) (asked.to ∙ home_is) ∙ itself its_home in (
+            post,
+            record {
+              message = message;
+              is = subst (λ one. Happens course one post (Sent message)) (replied.1) (poster home post (due.0) message asked);
+              asks = rw (first, second) refl;
+            },
+            replied.2,
+            replied.3,
+          )
 
   told_added : (number position : ℕ) (old : ℤ) (answer : Msg) (came : Came number position answer) → answer.body ≡ body.Added old → Due number ForAdded position
   told_added number position old answer came says =
@@ -388,27 +400,31 @@ module _ (cluster : Cluster) (turns : List WholeTurn) (lawful : IsLawful cluster
       let adds = add_for cluster turns lawful home (told.0) (it.done.moved) (it.done.is) (it.add) (it.later) (it.oldest) in
       let asked = adds.2.taken in
       let sender_is : asked.sender ≡ number =
-        sym (sent_by cluster turns lawful (asked.sender) (adds.2.post) (it.add) (poster home (adds.2.post) (adds.0) (it.add) asked)) ∙ sym receiver_is ∙ came.it.to in
+      sym (sent_by cluster turns lawful (asked.sender) (adds.2.post) (it.add) (poster home (adds.2.post) (adds.0) (it.add) asked)) ∙ sym receiver_is ∙ came.it.to in
       let earlier = owed.head-before (λ at. serves (memory_of cluster) home (events at)) (λ at. gives_added home (events at)) (came.post) (told.0) (told.1) in
       let before_that = owed.head-before (λ at. takes_add events home (events at)) (λ at. serves (memory_of cluster) home (events at)) (told.0) (adds.0) (adds.1) in
       let first = asked.before in
-      let second = came.it.before in
-      (adds.2.post, record {
-        message = it.add;
-        is = subst (λ one. Happens course one (adds.2.post) (Sent (it.add))) sender_is (poster home (adds.2.post) (adds.0) (it.add) asked);
-        asks = ap adds_in (adds.2.asked);
-      }, omega (arith, earlier, before_that, first, second), record {
-        reply = came.post;
-        home = home;
-        served = told.0;
-        taking = adds.0;
-        old = old;
-        takes = came.it.event;
-        posted = posted_event cluster turns lawful number (came.post) position answer (came.it) ∙ ap (λ said. log.Post home number (note_of cluster home (before course (came.post)) said)) says;
-        tells = told.1;
-        serves = adds.1;
-        took = asked.event;
-      })
+      let second = came.it.before in (
+        adds.2.post,
+        record {
+          message = it.add;
+          is = subst (λ one. Happens course one (adds.2.post) (Sent (it.add))) sender_is (poster home (adds.2.post) (adds.0) (it.add) asked);
+          asks = ap adds_in (adds.2.asked);
+        },
+        omega (arith, earlier, before_that, first, second),
+        record {
+          reply = came.post;
+          home = home;
+          served = told.0;
+          taking = adds.0;
+          old = old;
+          takes = came.it.event;
+          posted = posted_event cluster turns lawful number (came.post) position answer (came.it) ∙ ap (λ said. log.Post home number (note_of cluster home (before course (came.post)) said)) says;
+          tells = told.1;
+          serves = adds.1;
+          took = asked.event;
+        },
+      )
 
   -- each answer that is taken is for a request of its kind
   pub told_by : (number : ℕ) (wait : Wait) (position : ℕ) → Answer number wait position → Due number wait position
@@ -437,9 +453,9 @@ module _ (cluster : Cluster) (turns : List WholeTurn) (lawful : IsLawful cluster
       let push = λ (at : ℕ). takes_request events (first.home) (events at) in
       let pop = λ (at : ℕ). gives_reply (first.home) (events at) in
       let answers_second : Answers events (first.home) (second.reply) (first.taking) =
-        subst (λ it. Answers events (first.home) (second.reply) it) (sym (same.0)) (subst (λ it. Answers events it (second.reply) (second.taking)) (sym (same.1)) (second.answers)) in
+      subst (λ it. Answers events (first.home) (second.reply) it) (sym (same.0)) (subst (λ it. Answers events it (second.reply) (second.taking)) (sym (same.1)) (second.answers)) in
       let popped_second : gives_reply (first.home) (events (second.reply)) ≡ true =
-        subst (λ it. gives_reply it (events (second.reply)) ≡ true) (sym (same.1)) (gave_reply (second.home) number (second.reply) (second.note) (second.posted) (second.replies)) in
+      subst (λ it. gives_reply it (events (second.reply)) ≡ true) (sym (same.1)) (gave_reply (second.home) number (second.reply) (second.note) (second.posted) (second.replies)) in
       let reply_same = owed.once push pop (first.reply) (second.reply) (first.taking) (gave_reply (first.home) number (first.reply) (first.note) (first.posted) (first.replies)) popped_second (first.answers) answers_second in
       (delivery cluster turns lawful).once one other number number (first.reply) (first.takes) (second.takes ∙ ap (log.Took number) (sym reply_same))
 
@@ -450,7 +466,7 @@ module _ (cluster : Cluster) (turns : List WholeTurn) (lawful : IsLawful cluster
       let does = λ (at : ℕ). serves (memory_of cluster) (first.home) (events at) in
       let tells = λ (at : ℕ). gives_added (first.home) (events at) in
       let serves_second : Serves events (memory_of cluster) (first.home) (second.served) (first.taking) =
-        subst (λ it. Serves events (memory_of cluster) (first.home) (second.served) it) (sym (same.0)) (subst (λ it. Serves events (memory_of cluster) it (second.served) (second.taking)) (sym (same.1)) (second.serves)) in
+      subst (λ it. Serves events (memory_of cluster) (first.home) (second.served) it) (sym (same.0)) (subst (λ it. Serves events (memory_of cluster) it (second.served) (second.taking)) (sym (same.1)) (second.serves)) in
       let tells_second : Tells events (memory_of cluster) (first.home) (second.reply) (second.served) = subst (λ it. Tells events (memory_of cluster) it (second.reply) (second.served)) (sym (same.1)) (second.tells) in
       let served_first = owed.head-pushed does tells (first.reply) (first.served) (first.tells) in
       let served_second = owed.head-pushed does tells (second.reply) (second.served) tells_second in
@@ -458,7 +474,7 @@ module _ (cluster : Cluster) (turns : List WholeTurn) (lawful : IsLawful cluster
       let told_second : gives_added (first.home) (events (second.reply)) ≡ true = ap (gives_added (first.home)) (second.posted) ∙ ap (λ it. eqb it (first.home)) (sym (same.1)) ∙ itself (first.home) in
       let told_first : gives_added (first.home) (events (first.reply)) ≡ true = ap (gives_added (first.home)) (first.posted) ∙ itself (first.home) in
       let reply_same = owed.once does tells (first.reply) (second.reply) (first.served) told_first told_second (first.tells)
-        (subst (λ it. Tells events (memory_of cluster) (first.home) (second.reply) it) (sym served_same) tells_second) in
+      (subst (λ it. Tells events (memory_of cluster) (first.home) (second.reply) it) (sym served_same) tells_second) in
       (delivery cluster turns lawful).once one other number number (first.reply) (first.takes) (second.takes ∙ ap (log.Took number) (sym reply_same))
 
   told_once : (number : ℕ) (wait : Wait) (post one other : ℕ) → Told number wait post one → Told number wait post other → one ≡ other
@@ -508,12 +524,33 @@ module _ (cluster : Cluster) (turns : List WholeTurn) (lawful : IsLawful cluster
 
   pub replied_by : (number post told now : ℕ) → RepliedAt number post told → told < now → Replied events number post now
   replied_by number post told now it less = record {
-    at = told; reply = it.reply; home = it.home; taking = it.taking; note = it.note; before = less; takes = it.takes; posted = it.posted; replies = it.replies; answers = it.answers; took = it.took;
+    at = told;
+    reply = it.reply;
+    home = it.home;
+    taking = it.taking;
+    note = it.note;
+    before = less;
+    takes = it.takes;
+    posted = it.posted;
+    replies = it.replies;
+    answers = it.answers;
+    took = it.took;
   }
 
   pub done_by : (number post told now : ℕ) → DoneAt number post told → told < now → AddDone events (memory_of cluster) number post now
   done_by number post told now it less = record {
-    at = told; reply = it.reply; home = it.home; served = it.served; taking = it.taking; old = it.old; before = less; takes = it.takes; posted = it.posted; tells = it.tells; serves = it.serves; took = it.took;
+    at = told;
+    reply = it.reply;
+    home = it.home;
+    served = it.served;
+    taking = it.taking;
+    old = it.old;
+    before = less;
+    takes = it.takes;
+    posted = it.posted;
+    tells = it.tells;
+    serves = it.serves;
+    took = it.took;
   }
 
   -- what a node posted has its answer where the node waits for nothing

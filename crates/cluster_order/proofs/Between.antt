@@ -32,7 +32,7 @@ NoneFrom course number such start =
 pub none_later : (number : ℕ) (such : Event → Bool) (later course : Course) → list_any such (own number later) ≡ false → NoneFrom (later ++ course) number such (length course)
 none_later number such [] course none = λ position moved start found by. let less = within course position moved found in absurd (omega (arith, start, less))
 none_later number such (first ∷ later) course none = λ position moved start found by.
-      on position moved start found by (eqb position (length (later ++ course))) refl found (none_later number such later course)
+    on position moved start found by (eqb position (length (later ++ course))) refl found (none_later number such later course)
   where
     on : (position : ℕ) (moved : Moved) → length course ≤ position → at (first ∷ (later ++ course)) position ≡ Some moved → moved.node ≡ number
         → (b : Bool) → eqb position (length (later ++ course)) ≡ b → cond b (Some first) (at (later ++ course) position) ≡ Some moved
@@ -86,34 +86,38 @@ stands number (moved ∷ course) newer event older is = on (eqb moved.node numbe
     more : (newer first_newer : Past) → own number (moved ∷ []) ++ newer ≡ first_newer → (position : ℕ) × Stands number course newer event older position → (position : ℕ) × Stands number (moved ∷ course) first_newer event older position
     more newer first_newer joined found =
         let less : found.0 < length course = let all = ap length (found.1.parts) in let sum = length-append (found.1.later) (found.1.moved ∷ before course (found.0)) in let count = found.1.count in omega (arith, all, sum, count) in
-        let same : before (moved ∷ course) (found.0) ≡ before course (found.0) = before_behind (moved ∷ []) course (found.0) less in
-        (found.0, record {
-          moved = found.1.moved;
-          later = moved ∷ found.1.later;
-          parts = subst (λ it. moved ∷ course ≡ (moved ∷ found.1.later) ++ found.1.moved ∷ it) (sym same) (ap (λ it. moved ∷ it) (found.1.parts));
-          count = ap length same ∙ found.1.count;
-          by = found.1.by;
-          event_is = found.1.event_is;
-          newer_is = own_more number (moved ∷ []) (found.1.later) ∙ ap (λ it. own number (moved ∷ []) ++ it) (found.1.newer_is) ∙ joined;
-          older_is = ap (own number) same ∙ found.1.older_is;
-        })
+        let same : before (moved ∷ course) (found.0) ≡ before course (found.0) = before_behind (moved ∷ []) course (found.0) less in (
+          found.0,
+          record {
+            moved = found.1.moved;
+            later = moved ∷ found.1.later;
+            parts = subst (λ it. moved ∷ course ≡ (moved ∷ found.1.later) ++ found.1.moved ∷ it) (sym same) (ap (λ it. moved ∷ it) (found.1.parts));
+            count = ap length same ∙ found.1.count;
+            by = found.1.by;
+            event_is = found.1.event_is;
+            newer_is = own_more number (moved ∷ []) (found.1.later) ∙ ap (λ it. own number (moved ∷ []) ++ it) (found.1.newer_is) ∙ joined;
+            older_is = ap (own number) same ∙ found.1.older_is;
+          },
+        )
 
     on : (b : Bool) → eqb moved.node number ≡ b → (newer : Past) → cond b (moved.event ∷ own number course) (own number course) ≡ newer ++ event ∷ older
         → ((newer : Past) (event : Event) (older : Past) → own number course ≡ newer ++ event ∷ older → (position : ℕ) × Stands number course newer event older position)
         → (position : ℕ) × Stands number (moved ∷ course) newer event older position
     on true is [] parts rest =
         let event_same : moved.event ≡ event = cc in
-        let older_same : own number course ≡ older = cc in
-        (length course, record {
-          moved = moved;
-          later = [];
-          parts = ap (λ it. moved ∷ it) (sym (before_last moved course));
-          count = ap length (before_last moved course);
-          by = grind (arith, nat_tests);
-          event_is = event_same;
-          newer_is = refl;
-          older_is = ap (own number) (before_last moved course) ∙ older_same;
-        })
+        let older_same : own number course ≡ older = cc in (
+          length course,
+          record {
+            moved = moved;
+            later = [];
+            parts = ap (λ it. moved ∷ it) (sym (before_last moved course));
+            count = ap length (before_last moved course);
+            by = grind (arith, nat_tests);
+            event_is = event_same;
+            newer_is = refl;
+            older_is = ap (own number) (before_last moved course) ∙ older_same;
+          },
+        )
     on true is (first ∷ newer) parts rest =
         let first_same : moved.event ≡ first = cc in
         let rest_same : own number course ≡ newer ++ event ∷ older = cc in
@@ -124,17 +128,19 @@ stands number (moved ∷ course) newer event older is = on (eqb moved.node numbe
 pub stands_at : (number : ℕ) (course : Course) (position : ℕ) (event : Event) → Happens course number position event
     → (newer : Past) × Stands number course newer event (own number (before course position)) position
 stands_at number course position event happens =
-    let split = at_splits course position (happens.moved) (happens.is) in
-    (own number (split.later), record {
-      moved = happens.moved;
-      later = split.later;
-      parts = split.parts;
-      count = split.count;
-      by = happens.by;
-      event_is = happens.event_is;
-      newer_is = refl;
-      older_is = refl;
-    })
+    let split = at_splits course position (happens.moved) (happens.is) in (
+      own number (split.later),
+      record {
+        moved = happens.moved;
+        later = split.later;
+        parts = split.parts;
+        count = split.count;
+        by = happens.by;
+        event_is = happens.event_is;
+        newer_is = refl;
+        older_is = refl;
+      },
+    )
 
 module _ (number : ℕ) (course : Course) (newer : Past) (event : Event) (older : Past) (position : ℕ) (it : Stands number course newer event older position) where
   -- the parts of the past

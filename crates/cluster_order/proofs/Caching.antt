@@ -177,11 +177,14 @@ module _ (cluster : Cluster) (turns : List WholeTurn) (lawful : IsLawful cluster
           let same = it.act_is in
           let word_is : it.word ≡ word = cc in
           let old_is : it.old ≡ old = cc in
-          let addend_is : it.addend ≡ addend = cc in
-          (it.home, it.index,
+          let addend_is : it.addend ≡ addend = cc in (
+            it.home,
+            it.index,
             subst (λ one. Happens course (it.home) position (Did (item.Served frame (it.index) word old one))) addend_is
-            (subst (λ one. Happens course (it.home) position (Did (item.Served frame (it.index) word one (it.addend)))) old_is
-              (subst (λ one. Happens course (it.home) position (Did (item.Served frame (it.index) one (it.old) (it.addend)))) word_is (it.is))), it.for)
+                (subst (λ one. Happens course (it.home) position (Did (item.Served frame (it.index) word one (it.addend)))) old_is
+                (subst (λ one. Happens course (it.home) position (Did (item.Served frame (it.index) one (it.old) (it.addend)))) word_is (it.is))),
+            it.for,
+          )
 
   access : Access events (memory_of cluster)
   access = record {
@@ -189,20 +192,20 @@ module _ (cluster : Cluster) (turns : List WholeTurn) (lawful : IsLawful cluster
     item = λ number position post receiver note is less posted. let it = own_item number position is in answered_there number position post receiver note (it.moved) (it.found) (it.free.quiet) less posted;
     alone = alone_there;
     absent = λ number page post home arrival words is resident.
-      let it = posted_is cluster course post number home (log.Fetch page) is in
-      let sent = happens cluster course post number (it.0) (Sent (it.1)) (it.2) in
-      let may = fetch_allowed cluster turns lawful number post (it.1) page sent (fetch_is cluster number (before course post) page (it.1.body) (it.4)) in
-      not_in_cache number post page (Sent (it.1)) sent (may.bring.wanted.absent) arrival words resident;
+        let it = posted_is cluster course post number home (log.Fetch page) is in
+        let sent = happens cluster course post number (it.0) (Sent (it.1)) (it.2) in
+        let may = fetch_allowed cluster turns lawful number post (it.1) page sent (fetch_is cluster number (before course post) page (it.1.body) (it.4)) in
+        not_in_cache number post page (Sent (it.1)) sent (may.bring.wanted.absent) arrival words resident;
     own_absent = λ number page position arrival found words is resident.
-      let it = loaded_is cluster course position number page found is in
-      let may = load_allowed cluster turns lawful number position page (it.0) (it.1) in
-      not_in_cache number position page (Did (item.OwnFetch page (it.0))) (it.1) (may.1.bring.wanted.absent) arrival words resident;
+        let it = loaded_is cluster course position number page found is in
+        let may = load_allowed cluster turns lawful number position page (it.0) (it.1) in
+        not_in_cache number position page (Did (item.OwnFetch page (it.0))) (it.1) (may.1.bring.wanted.absent) arrival words resident;
     add_absent = λ number frame word addend post home arrival words is resident.
-      let it = posted_is cluster course post number home (log.AddTo frame word addend) is in
-      let sent = happens cluster course post number (it.0) (Sent (it.1)) (it.2) in
-      let says = add_is cluster number (before course post) frame word addend (it.1.body) (it.4) in
-      let may = add_allowed cluster turns lawful number post (it.1) frame (says.0) word addend sent (says.1) in
-      not_in_cache number post (page_of (node 0) word) (Sent (it.1)) sent (may.add.absent) arrival words resident;
+        let it = posted_is cluster course post number home (log.AddTo frame word addend) is in
+        let sent = happens cluster course post number (it.0) (Sent (it.1)) (it.2) in
+        let says = add_is cluster number (before course post) frame word addend (it.1.body) (it.4) in
+        let may = add_allowed cluster turns lawful number post (it.1) frame (says.0) word addend sent (says.1) in
+        not_in_cache number post (page_of (node 0) word) (Sent (it.1)) sent (may.add.absent) arrival words resident;
     own_add_absent = λ number frame word old addend position arrival words is at_home resident. own_add_absent number frame word old addend position arrival words is at_home resident;
   }
     where
@@ -236,13 +239,13 @@ module _ (cluster : Cluster) (turns : List WholeTurn) (lawful : IsLawful cluster
   reads : Reads events (memory_of cluster)
   reads = record {
     own = λ number word position value arrival write written words read resident last.
-      let it = read_value number word position value read in
-      let stay = resided cluster turns lawful position (it.0) (it.1) number (page_of (node 0) word) arrival words resident in
-      it.2 ∙ cached_last cluster turns lawful position (it.0) (it.1) number word arrival write written (stay.0) (stay.1) last;
+        let it = read_value number word position value read in
+        let stay = resided cluster turns lawful position (it.0) (it.1) number (page_of (node 0) word) arrival words resident in
+        it.2 ∙ cached_last cluster turns lawful position (it.0) (it.1) number word arrival write written (stay.0) (stay.1) last;
     page = λ number word position value arrival words read resident none.
-      let it = read_value number word position value read in
-      let stay = resided cluster turns lawful position (it.0) (it.1) number (page_of (node 0) word) arrival words resident in
-      it.2 ∙ cached_first cluster turns lawful position (it.0) (it.1) number word arrival (stay.0) (stay.1) none ∙ sym (ap (λ all. all word) (stay.2));
+        let it = read_value number word position value read in
+        let stay = resided cluster turns lawful position (it.0) (it.1) number (page_of (node 0) word) arrival words resident in
+        it.2 ∙ cached_first cluster turns lawful position (it.0) (it.1) number word arrival (stay.0) (stay.1) none ∙ sym (ap (λ all. all word) (stay.2));
   }
 
   drops : Drops events (memory_of cluster)
@@ -257,8 +260,8 @@ module _ (cluster : Cluster) (turns : List WholeTurn) (lawful : IsLawful cluster
         found = words_of cluster (it.0);
         resident = residing cluster turns lawful position (happened.moved) (happened.is) number page (it.1) (it.0) since;
         clean = λ word write same wrote after less.
-          subst (λ its. Cleaned events number its word write position) same
-          (cleaned cluster turns lawful number word write position (happened.moved) (happened.is) (since.there.later) (since.there.moved ∷ before (before course position) (it.1)) (since.there.parts)
+            subst (λ its. Cleaned events number its word write position) same
+            (cleaned cluster turns lawful number word write position (happened.moved) (happened.is) (since.there.later) (since.there.moved ∷ before (before course position) (it.1)) (since.there.parts)
             (subst (AllSettled (node number) word) (staying cluster turns lawful position (happened.moved) (happened.is) number page (it.1) (it.0) since) (drop.clean word same))
             wrote (start (before (before course position) (it.1)) (since.there.moved) (it.1) write (since.there.count) after) less);
       }
@@ -269,25 +272,27 @@ module _ (cluster : Cluster) (turns : List WholeTurn) (lawful : IsLawful cluster
   homes : Homes events (memory_of cluster)
   homes = record {
     fetch_to = λ number receiver page post is.
-      let it = posted_is cluster course post number receiver (log.Fetch page) is in
-      let sent = happens cluster course post number (it.0) (Sent (it.1)) (it.2) in
-      let may = fetch_allowed cluster turns lawful number post (it.1) page sent (fetch_is cluster number (before course post) page (it.1.body) (it.4)) in
-      (sym (it.3) ∙ may.bring.at_home, λ same. may.other (it.3 ∙ same));
+        let it = posted_is cluster course post number receiver (log.Fetch page) is in
+        let sent = happens cluster course post number (it.0) (Sent (it.1)) (it.2) in
+        let may = fetch_allowed cluster turns lawful number post (it.1) page sent (fetch_is cluster number (before course post) page (it.1.body) (it.4)) in
+        (sym (it.3) ∙ may.bring.at_home, λ same. may.other (it.3 ∙ same));
     part_to = λ number receiver post part parts is has.
-      let it = reconciled cluster turns lawful number receiver post parts part is has in
-      (it.sending.at_home ∙ ap (home_of (node 0)) (ap (λ one. one.page) (it.among.is)), it.other);
+        let it = reconciled cluster turns lawful number receiver post parts part is has in
+        (it.sending.at_home ∙ ap (home_of (node 0)) (ap (λ one. one.page) (it.among.is)), it.other);
     own_part = λ number position part is.
-      let it = own_part_is cluster course position number part is in
-      let may = own_part_allowed cluster turns lawful number position (it.0) (it.1) in
-      sym (may.1.at_home ∙ ap (home_of (node 0)) (ap (λ one. one.page) (it.2)));
+        let it = own_part_is cluster course position number part is in
+        let may = own_part_allowed cluster turns lawful number position (it.0) (it.1) in
+        sym (may.1.at_home ∙ ap (home_of (node 0)) (ap (λ one. one.page) (it.2)));
     own_fetch = λ number page position words is.
-      let it = loaded_is cluster course position number page words is in
-      let may = load_allowed cluster turns lawful number position page (it.0) (it.1) in
-      (sym (may.1.bring.at_home), λ word same.
-        let value : words word ≡ stored (node number) word (past number position) =
-          ap (λ all. all word) (it.2) ∙ ap (λ list. words_of cluster list word) (may.1.words_are) ∙ stored_words cluster number page word (past number position) same in
-        subst (HomeWord events (memory_of cluster) word position) (sym value)
-        (home_word cluster turns lawful position (it.1.moved) (it.1.is) number word (ap (home_of (node 0)) same ∙ sym (may.1.bring.at_home))));
+        let it = loaded_is cluster course position number page words is in
+        let may = load_allowed cluster turns lawful number position page (it.0) (it.1) in (
+          sym (may.1.bring.at_home),
+          λ word same.
+              let value : words word ≡ stored (node number) word (past number position) =
+              ap (λ all. all word) (it.2) ∙ ap (λ list. words_of cluster list word) (may.1.words_are) ∙ stored_words cluster number page word (past number position) same in
+              subst (HomeWord events (memory_of cluster) word position) (sym value)
+              (home_word cluster turns lawful position (it.1.moved) (it.1.is) number word (ap (home_of (node 0)) same ∙ sym (may.1.bring.at_home))),
+        );
     page = page_reply;
     ack = ack_reply;
   }
@@ -313,16 +318,21 @@ module _ (cluster : Cluster) (turns : List WholeTurn) (lawful : IsLawful cluster
               let page_same : its_page ≡ page = cc in
               let list_same : stored_page (node home) its_page (past home (due.0)) ≡ says.0 = cc in
               let sender : asked.sender ≡ number =
-                sym (sent_by cluster turns lawful (asked.sender) post message (happens cluster course post (asked.sender) (Some (asked.place)) (Sent message) (asked.posted))) ∙ sym (ap (λ one. one.receiver) same) ∙ it.3 in
+              sym (sent_by cluster turns lawful (asked.sender) post message (happens cluster course post (asked.sender) (Some (asked.place)) (Sent message) (asked.posted))) ∙ sym (ap (λ one. one.receiver) same) ∙ it.3 in
               let posted = posted_event cluster turns lawful home post (due.0) message asked
-                ∙ ap (λ said. log.Post (asked.sender) home (note_of cluster (asked.sender) (before course post) said)) fetches ∙ ap (λ one. log.Post one home (log.Fetch its_page)) sender ∙ ap (λ one. log.Post number home (log.Fetch one)) page_same in
+              ∙ ap (λ said. log.Post (asked.sender) home (note_of cluster (asked.sender) (before course post) said)) fetches ∙ ap (λ one. log.Post one home (log.Fetch its_page)) sender ∙ ap (λ one. log.Post number home (log.Fetch one)) page_same in
               let may = fetch_allowed cluster turns lawful (asked.sender) post message its_page (happens cluster course post (asked.sender) (Some (asked.place)) (Sent message) (asked.posted)) fetches in
-              let home_is : home ≡ home_of (node 0) its_page = sym (asked.to) ∙ may.bring.at_home in
-              (due.0, post, record { answers = due.1; took = asked.event }, posted, λ word same_page.
-                let value : words word ≡ stored (node home) word (past home (due.0)) =
-                  ap (λ all. all word) (says.2) ∙ ap (λ list. words_of cluster list word) (sym list_same) ∙ stored_words cluster home its_page word (past home (due.0)) (same_page ∙ sym page_same) in
-                subst (HomeWord events (memory_of cluster) word (due.0)) (sym value)
-                (home_word cluster turns lawful (due.0) (asked.taken.moved) (asked.taken.is) home word (ap (home_of (node 0)) (same_page ∙ sym page_same) ∙ sym home_is)))
+              let home_is : home ≡ home_of (node 0) its_page = sym (asked.to) ∙ may.bring.at_home in (
+                due.0,
+                post,
+                record { answers = due.1; took = asked.event },
+                posted,
+                λ word same_page.
+                    let value : words word ≡ stored (node home) word (past home (due.0)) =
+                    ap (λ all. all word) (says.2) ∙ ap (λ list. words_of cluster list word) (sym list_same) ∙ stored_words cluster home its_page word (past home (due.0)) (same_page ∙ sym page_same) in
+                    subst (HomeWord events (memory_of cluster) word (due.0)) (sym value)
+                    (home_word cluster turns lawful (due.0) (asked.taken.moved) (asked.taken.is) home word (ap (home_of (node 0)) (same_page ∙ sym page_same) ∙ sym home_is)),
+              )
 
       ack_reply : (home number reply : ℕ) → events reply ≡ log.Post home number log.Ack
           → (taking post : ℕ) × (parts : List log.Part) × Replying events home reply post taking × (events post ≡ log.Post number home (log.Reconcile parts))
@@ -342,31 +352,36 @@ module _ (cluster : Cluster) (turns : List WholeTurn) (lawful : IsLawful cluster
               let body_is : body.Page its_page (stored_page (node home) its_page (past home (due.0))) ≡ body.Ack = sym (ap (λ one. one.body) same) ∙ says in absurd (cc)
           on (AckFor post parts message asked reconciles same) =
               let sender : asked.sender ≡ number =
-                sym (sent_by cluster turns lawful (asked.sender) post message (happens cluster course post (asked.sender) (Some (asked.place)) (Sent message) (asked.posted))) ∙ sym (ap (λ one. one.receiver) same) ∙ it.3 in
+              sym (sent_by cluster turns lawful (asked.sender) post message (happens cluster course post (asked.sender) (Some (asked.place)) (Sent message) (asked.posted))) ∙ sym (ap (λ one. one.receiver) same) ∙ it.3 in
               let posted = posted_event cluster turns lawful home post (due.0) message asked
-                ∙ ap (λ said. log.Post (asked.sender) home (note_of cluster (asked.sender) (before course post) said)) reconciles ∙ ap (λ one. log.Post one home (log.Reconcile (parts_of cluster parts))) sender in
+              ∙ ap (λ said. log.Post (asked.sender) home (note_of cluster (asked.sender) (before course post) said)) reconciles ∙ ap (λ one. log.Post one home (log.Reconcile (parts_of cluster parts))) sender in
               (due.0, post, parts_of cluster parts, record { answers = due.1; took = asked.event }, posted)
 
   adds : Adds events (memory_of cluster)
   adds = record {
     add_to = λ number receiver frame word addend post is.
-      let it = posted_is cluster course post number receiver (log.AddTo frame word addend) is in
-      let sent = happens cluster course post number (it.0) (Sent (it.1)) (it.2) in
-      let says = add_is cluster number (before course post) frame word addend (it.1.body) (it.4) in
-      let may = add_allowed cluster turns lawful number post (it.1) frame (says.0) word addend sent (says.1) in
-      (sym (it.3) ∙ may.add.at_home, λ same. may.other (it.3 ∙ same));
+        let it = posted_is cluster course post number receiver (log.AddTo frame word addend) is in
+        let sent = happens cluster course post number (it.0) (Sent (it.1)) (it.2) in
+        let says = add_is cluster number (before course post) frame word addend (it.1.body) (it.4) in
+        let may = add_allowed cluster turns lawful number post (it.1) frame (says.0) word addend sent (says.1) in
+        (sym (it.3) ∙ may.add.at_home, λ same. may.other (it.3 ∙ same));
     served = λ number frame word old addend position is other. add_served number frame word old addend position is other;
     old = λ number frame word old addend position is. add_old number frame word old addend position is;
     added = λ home number value reply is.
-      let it = posted_is cluster course reply home number (log.Added value) is in
-      let sent = happens cluster course reply home (it.0) (Sent (it.1)) (it.2) in
-      let told = old_for cluster turns lawful home reply (it.1) value sent (added_is cluster home (before course reply) value (it.1.body) (it.4)) in
-      let due = told.2 in
-      let receiver_is : it.1.receiver ≡ due.add.sender = ap (λ one. one.receiver) (due.due_is) in
-      let body_is : body.Added value ≡ body.Added (due.old) = ap (λ one. one.body) (due.due_is) in
-      let value_is : value ≡ due.old = cc in
-      (told.0, due.frame, due.word, due.addend, told.1,
-        due.served ∙ ap (λ one. log.Acts one (due.frame) (log.Add (due.word) (due.old) (due.addend))) (sym receiver_is ∙ it.3) ∙ ap (λ one. log.Acts number (due.frame) (log.Add (due.word) one (due.addend))) (sym value_is));
+        let it = posted_is cluster course reply home number (log.Added value) is in
+        let sent = happens cluster course reply home (it.0) (Sent (it.1)) (it.2) in
+        let told = old_for cluster turns lawful home reply (it.1) value sent (added_is cluster home (before course reply) value (it.1.body) (it.4)) in
+        let due = told.2 in
+        let receiver_is : it.1.receiver ≡ due.add.sender = ap (λ one. one.receiver) (due.due_is) in
+        let body_is : body.Added value ≡ body.Added (due.old) = ap (λ one. one.body) (due.due_is) in
+        let value_is : value ≡ due.old = cc in (
+          told.0,
+          due.frame,
+          due.word,
+          due.addend,
+          told.1,
+          due.served ∙ ap (λ one. log.Acts one (due.frame) (log.Add (due.word) (due.old) (due.addend))) (sym receiver_is ∙ it.3) ∙ ap (λ one. log.Acts number (due.frame) (log.Add (due.word) one (due.addend))) (sym value_is),
+        );
   }
     where
       add_served : (number : ℕ) (frame : FrameId) (word : ℕ) (old addend : ℤ) (position : ℕ) → events position ≡ log.Acts number frame (log.Add word old addend) → home_of (node 0) (page_of (node 0) word) ≢ number
@@ -387,9 +402,9 @@ module _ (cluster : Cluster) (turns : List WholeTurn) (lawful : IsLawful cluster
               let asked = taken.2.taken in
               let sender_add : served_for (it.0) (owed_adds (past (it.0) position)) ≡ serves.add.sender = ap (served_for (it.0)) (serves.oldest) in
               let sender : asked.sender ≡ number =
-                sym (sent_by cluster turns lawful (asked.sender) (taken.2.post) (serves.add) (happens cluster course (taken.2.post) (asked.sender) (Some (asked.place)) (Sent (serves.add)) (asked.posted))) ∙ sym sender_add ∙ it.3 in
+              sym (sent_by cluster turns lawful (asked.sender) (taken.2.post) (serves.add) (happens cluster course (taken.2.post) (asked.sender) (Some (asked.place)) (Sent (serves.add)) (asked.posted))) ∙ sym sender_add ∙ it.3 in
               let posted = posted_event cluster turns lawful (it.0) (taken.2.post) (taken.0) (serves.add) asked
-                ∙ ap (λ said. log.Post (asked.sender) (it.0) (note_of cluster (asked.sender) (before course (taken.2.post)) said)) (serves.asked) ∙ ap (λ one. log.Post one (it.0) (log.AddTo frame word addend)) sender in
+              ∙ ap (λ said. log.Post (asked.sender) (it.0) (note_of cluster (asked.sender) (before course (taken.2.post)) said)) (serves.asked) ∙ ap (λ one. log.Post one (it.0) (log.AddTo frame word addend)) sender in
               subst (λ home. Serving events (memory_of cluster) home number frame word addend position) (sym home_is)
               (record { taking = taken.0; post = taken.2.post; serves = taken.1; took = asked.event; posted = posted })
 

@@ -147,9 +147,12 @@ module _ (cluster : Cluster) (turns : List WholeTurn) (lawful : IsLawful cluster
       on (inl it) =
           let happened = subst (λ one. Happens course number position one) (it.2) happens in
           let posted = event_there cluster turns lawful number position (Sent (it.0)) happened ∙ ap (λ said. log.Post number (it.0.receiver) (note_of cluster number (before course position) said)) (it.3) in
-          let one = it.4 in
-          (one.one, one.such_is, ByPart (it.0.receiver) (parts_of cluster (it.1)) posted
-            (subst (λ list. HasPart (part_of cluster (one.one)) (parts_of cluster list)) (sym (one.split)) (has_part cluster (one.newer) (one.one) (one.older))))
+          let one = it.4 in (
+            one.one,
+            one.such_is,
+            ByPart (it.0.receiver) (parts_of cluster (it.1)) posted
+                (subst (λ list. HasPart (part_of cluster (one.one)) (parts_of cluster list)) (sym (one.split)) (has_part cluster (one.newer) (one.one) (one.older))),
+          )
       on (inr it) =
           let happened = subst (λ one. Happens course number position one) (it.1) happens in
           (it.0, it.2, ByItem (event_there cluster turns lawful number position (Did (item.OwnReconcile (it.0))) happened))
@@ -179,7 +182,7 @@ module _ (cluster : Cluster) (turns : List WholeTurn) (lawful : IsLawful cluster
         home = receiver;
         sending = it.sending;
         any = λ such one. subst (λ said. list_any such (parts_in said) ≡ true) (sym (it.says))
-          (subst (λ list. list_any such list ≡ true) (sym (it.among.split)) (any_one such (it.among.newer) (it.among.part) (it.among.older) one));
+            (subst (λ list. list_any such list ≡ true) (sym (it.among.split)) (any_one such (it.among.newer) (it.among.part) (it.among.older) one));
       }
   sent_there number position sent (ByItem is) =
       let it = own_part_is cluster course position number sent is in
@@ -242,18 +245,21 @@ module _ (cluster : Cluster) (turns : List WholeTurn) (lawful : IsLawful cluster
       let cut = since_front (fresh page) (own number front) in
       let it = latest.1 in
       let parts : own number front ≡ it.newer ++ latest.0 ∷ (it.older ++ cut.0) =
-        cut.1 ∙ ap (λ list. list ++ cut.0) (it.parts) ∙ append_assoc (it.newer) (latest.0 ∷ it.older) (cut.0) in
+      cut.1 ∙ ap (λ list. list ++ cut.0) (it.parts) ∙ append_assoc (it.newer) (latest.0 ∷ it.older) (cut.0) in
       let none_fresh = none_front (fresh page) (it.newer) (latest.0 ∷ it.older) (subst (λ list. list_any (fresh page) list ≡ false) (it.parts) (since_none (fresh page) (own number front))) in
       let there = stands number front (it.newer) (latest.0) (it.older ++ cut.0) parts in
       let here = happens_there number front (it.newer) (latest.0) (it.older ++ cut.0) (there.0) (there.1) in
       let happened = happened_before course position moved found number (there.0) (latest.0) here in
       let less : there.0 < position =
-        let inside = is_before number front (it.newer) (latest.0) (it.older ++ cut.0) (there.0) (there.1) in let count = length_before course position moved found in omega (arith, inside, count) in
-      (there.0, write_at cluster turns lawful number word (there.0) (latest.0) happened (it.such), less,
+      let inside = is_before number front (it.newer) (latest.0) (it.older ++ cut.0) (there.0) (there.1) in let count = length_before course position moved found in omega (arith, inside, count) in (
+        there.0,
+        write_at cluster turns lawful number word (there.0) (latest.0) happened (it.such),
+        less,
         none_between course position moved found number (writes word) (IsWrite events number word) (there.0) (λ i. write_there cluster turns lawful number word i)
-          (none_behind number front (it.newer) (latest.0) (it.older ++ cut.0) (there.0) (there.1) (writes word) (it.none)),
+            (none_behind number front (it.newer) (latest.0) (it.older ++ cut.0) (there.0) (there.1) (writes word) (it.none)),
         none_between course position moved found number (fresh page) (Fresh number page) (there.0) (λ i. fresh_there number page i)
-          (none_behind number front (it.newer) (latest.0) (it.older ++ cut.0) (there.0) (there.1) (fresh page) none_fresh))
+            (none_behind number front (it.newer) (latest.0) (it.older ++ cut.0) (there.0) (there.1) (fresh page) none_fresh),
+      )
 
   -- and where there is such a write, the word is dirty
   write_dirty : (number word position write : ℕ) (moved : Moved) → at course position ≡ Some moved → IsWrite events number word write → write < position
@@ -266,10 +272,9 @@ module _ (cluster : Cluster) (turns : List WholeTurn) (lawful : IsLawful cluster
       let there = stands_at number front write (it.0) here in
       let parts = past_parts number front (there.0) (it.0) (own number (before front write)) write (there.1) in
       let no_newer = none_newer number front (there.0) (it.0) (own number (before front write)) write (there.1) (fresh page)
-        (none_from course position moved found number (fresh page) (Fresh number page) write (λ i other happened is. fresh_at number page i other happened is) none) in
+      (none_from course position moved found number (fresh page) (Fresh number page) write (λ i other happened is. fresh_at number page i other happened is) none) in
       ap (λ past. list_any (writes word) (since (fresh page) past)) parts
       ∙ any_since (writes word) (fresh page) (there.0) (it.0) (own number (before front write)) no_newer (write_is_old word page (it.0) (it.2)) (it.2)
-
 
   sent_dirty : (number position : ℕ) (sent : log.Part) (it : SentThere number position sent) (word : ℕ) → page_of (node_at cluster 0) word ≡ sent.page
       → sent.mask word ≡ is_dirty (node_at cluster number) word (own number (before course position))
@@ -282,12 +287,12 @@ module _ (cluster : Cluster) (turns : List WholeTurn) (lawful : IsLawful cluster
   -- Marked reconcile.
   pub cleaning : (number position : ℕ) (sent : log.Part) → Sending events number position sent → Cleaning events (memory_of cluster) number position sent
   cleaning number position sent sending = record {
-      arrival = arrival;
-      found = words_of cluster list;
-      resident = resident;
-      marked = marked;
-      all = all;
-    }
+    arrival = arrival;
+    found = words_of cluster list;
+    resident = resident;
+    marked = marked;
+    all = all;
+  }
     where
       it : SentThere number position sent
       it = sent_there number position sent sending
@@ -345,12 +350,12 @@ module _ (cluster : Cluster) (turns : List WholeTurn) (lawful : IsLawful cluster
           let later = after word (write.0) same (write.1) (write.2) none_fresh in
           let last : LastWrite events number word arrival position (write.0) (write.1.0) = record { after = later; before = write.2; writes = write.1.1; none = write.3 } in
           let cached_is = cached_last cluster turns lawful position moved found number word arrival (write.0) (write.1.0) list
-            (subst (λ page. Since cluster turns lawful position moved found number page arrival list) (sym same) since_there) last in
+          (subst (λ page. Since cluster turns lawful position moved found number page arrival list) (sym same) since_there) last in
           let page_is : page_of (node_at cluster 0) word ≡ it.part.page = same ∙ sym page_same in
           let marks_is : marks (it.part.mask) (place_of (node_at cluster 0) word) ≡ true = ap (λ one. one.mask word) (it.part_is) ∙ mask in
           let value : sent.words word ≡ write.1.0 =
-            ap (λ one. one.words word) (sym (it.part_is)) ∙ it.sending.words (place_of (node_at cluster 0) word) (place_within cluster word) marks_is
-            ∙ ap (λ one. cached (node_at cluster number) one (own number (before course position))) (word_at_place cluster word (it.part.page) page_is) ∙ cached_is in
+          ap (λ one. one.words word) (sym (it.part_is)) ∙ it.sending.words (place_of (node_at cluster 0) word) (place_within cluster word) marks_is
+          ∙ ap (λ one. cached (node_at cluster number) one (own number (before course position))) (word_at_place cluster word (it.part.page) page_is) ∙ cached_is in
           (write.0, subst (λ it. LastWrite events number word arrival position (write.0) it) (sym value) last, λ i behind ahead sends. none_fresh i behind ahead (inr sends))
 
       all : (word write : ℕ) → page_of (node_at cluster 0) word ≡ sent.page → IsWrite events number word write → arrival < write → write < position
@@ -446,13 +451,13 @@ module _ (cluster : Cluster) (turns : List WholeTurn) (lawful : IsLawful cluster
           let sent_one = sending_event (marks_word (node_at cluster number) word) (Sent message) (ap (λ it. list_any (marks_word (node_at cluster number) word) (sendings it)) (sym same) ∙ is.sends) in
           let reconciles : reconciles_in message.body ≡ true = is_reconcile sent_one in
           let request : Request cluster turns lawful number (ForAck message.receiver) post =
-            record { message = message; is = subst (λ it. Happens course number post it) same posted; asks = rw (reconciles, itself message.receiver) refl } in
+          record { message = message; is = subst (λ it. Happens course number post it) same posted; asks = rw (reconciles, itself message.receiver) refl } in
           let any : list_any (ends (ForAck message.receiver)) (own number (sent.1.later)) ≡ true =
-            ap (list_any (ends (ForAck message.receiver))) (sent.1.newer_is) ∙ ap (λ it. settles it (is.newer)) (sym same) ∙ is.settled in
+          ap (list_any (ends (ForAck message.receiver))) (sent.1.newer_is) ∙ ap (λ it. settles it (is.newer)) (sym same) ∙ is.settled in
           let somewhere = some_later number (ends (ForAck message.receiver)) (sent.1.later) (sent.1.moved ∷ older) any in
           let there_at : at (before course position) (somewhere.position) ≡ Some (somewhere.moved) = ap (λ all. at all (somewhere.position)) whole ∙ somewhere.is in
           let happened = happened_before course position moved found number (somewhere.position) (somewhere.moved.event)
-            (record { moved = somewhere.moved; is = there_at; by = somewhere.by; event_is = refl }) in
+          (record { moved = somewhere.moved; is = there_at; by = somewhere.by; event_is = refl }) in
           let start_there = somewhere.behind in
           let inside = within (before course position) (somewhere.position) (somewhere.moved) there_at in
           let count = length_before course position moved found in

@@ -77,19 +77,19 @@ found_in node turn start zero (first ∷ messages) course message found =
     let where_is : post_position (with_posts node (at_place turn (start + 1)) messages (moved ∷ course)) (at_place turn start) ≡ length course =
     posts_pass node (at_place turn (start + 1)) messages (moved ∷ course) (at_place turn start) (inr (omega (arith))) ∙ rw (same_here (at_place turn start)) refl in
     let is : Posted (with_posts node (at_place turn (start + 1)) messages (moved ∷ course)) (at_place turn start) message
-        (post_position (with_posts node (at_place turn (start + 1)) messages (moved ∷ course)) (at_place turn start)) =
+    (post_position (with_posts node (at_place turn (start + 1)) messages (moved ∷ course)) (at_place turn start)) =
     subst (Posted (with_posts node (at_place turn (start + 1)) messages (moved ∷ course)) (at_place turn start) message) (sym where_is)
     (posted_more (moved ∷ course) (with_posts node (at_place turn (start + 1)) messages (moved ∷ course)) (at_grown (moved ∷ course) _ (grown_posts node (at_place turn (start + 1)) messages (moved ∷ course)))
-      (at_place turn start) message (length course) (record { sender = node; is = at_last moved course })) in
+    (at_place turn start) message (length course) (record { sender = node; is = at_last moved course })) in
     subst (λ it. Posted (with_posts node (at_place turn (start + 1)) messages (record { node = node; event = Sent it; message = Some (at_place turn start) } ∷ course)) (at_place turn (start + 0)) message
-        (post_position (with_posts node (at_place turn (start + 1)) messages (record { node = node; event = Sent it; message = Some (at_place turn start) } ∷ course)) (at_place turn (start + 0)))) (sym same)
+    (post_position (with_posts node (at_place turn (start + 1)) messages (record { node = node; event = Sent it; message = Some (at_place turn start) } ∷ course)) (at_place turn (start + 0)))) (sym same)
     (subst (λ it. Posted (with_posts node (at_place turn (start + 1)) messages (moved ∷ course)) (at_place turn it) message
-        (post_position (with_posts node (at_place turn (start + 1)) messages (moved ∷ course)) (at_place turn it))) (sym here) is)
+    (post_position (with_posts node (at_place turn (start + 1)) messages (moved ∷ course)) (at_place turn it))) (sym here) is)
 found_in node turn start (suc index) (first ∷ messages) course message found =
     let moved : Moved = record { node = node; event = Sent first; message = Some (at_place turn start) } in
     let next : (start + 1) + index ≡ start + suc index = omega (arith) in
     subst (λ it. Posted (with_posts node (at_place turn (start + 1)) messages (moved ∷ course)) (at_place turn it) message
-        (post_position (with_posts node (at_place turn (start + 1)) messages (moved ∷ course)) (at_place turn it))) next
+    (post_position (with_posts node (at_place turn (start + 1)) messages (moved ∷ course)) (at_place turn it))) next
     (found_in node turn (start + 1) index messages (moved ∷ course) message found)
 
 turn_pass : (number : ℕ) (turn : WholeTurn) (message : Option Msg) (course : Course) (place : PostAt) → place.turn ≢ number
@@ -216,7 +216,7 @@ taking_in turn (Some other) posts position moved message found took = on (eqb po
 turn_in : (number : ℕ) (turn : WholeTurn) (taken : Option Msg) (course : Course) (position : ℕ) (moved : Moved) (message : Msg) → at (with_turn number turn taken course) position ≡ Some moved
     → moved.event ≡ Took message
     → (at course position ≡ Some moved)
-      ⊎ Top turn taken (with_posts turn.node (at_place number 0) turn.posts (with_items turn.node turn.items course)) (with_turn number turn taken course) position moved message
+    ⊎ Top turn taken (with_posts turn.node (at_place number 0) turn.posts (with_items turn.node turn.items course)) (with_turn number turn taken course) position moved message
 turn_in number turn taken course position moved message found took =
     on (taking_in turn taken posts position moved message in_taking took)
   where
@@ -255,7 +255,7 @@ pub record Delivered (course : Course) (position : ℕ) (moved : Moved) (message
 delivered_top : (cluster : Cluster) (turn : WholeTurn) (older : List WholeTurn) (position : ℕ) (moved : Moved) (message : Msg) (took : Option PostAt) → turn.took ≡ took
     → IsDelivered older turn.node took (posted_at older took)
     → Top turn (posted_at older took) (with_posts turn.node (at_place (length older) 0) turn.posts (with_items turn.node turn.items (course_of older)))
-        (with_turn (length older) turn (posted_at older took) (course_of older)) position moved message
+    (with_turn (length older) turn (posted_at older took) (course_of older)) position moved message
     → Delivered (with_turn (length older) turn (posted_at older took) (course_of older)) position moved message
 delivered_top cluster turn older position moved message None is delivered top = let none = top.taken_is in absurd (cc)
 delivered_top cluster turn older position moved message (Some place) is delivered top =
@@ -268,7 +268,7 @@ delivered_top cluster turn older position moved message (Some place) is delivere
     let old = posted_stands older place message found in
     let other : place.turn ≢ length older = λ same. omega (arith, less, same) in
     let passed : post_position posts place ≡ post_position (course_of older) place =
-      posts_pass turn.node (at_place (length older) 0) turn.posts items place (inl (λ same. other (sym same))) ∙ items_pass turn.node turn.items (course_of older) place in
+    posts_pass turn.node (at_place (length older) 0) turn.posts items place (inl (λ same. other (sym same))) ∙ items_pass turn.node turn.items (course_of older) place in
     let in_items = posted_more (course_of older) items (at_grown (course_of older) items (grown_items turn.node turn.items (course_of older))) place message (post_position (course_of older) place) old in
     let in_posts = posted_more items posts (at_grown items posts (grown_posts turn.node (at_place (length older) 0) turn.posts items)) place message (post_position (course_of older) place) in_items in
     record {
@@ -294,7 +294,7 @@ delivered cluster (turn ∷ older) position moved message lawful found took =
     whole = with_turn (length older) turn (posted_at older turn.took) (course_of older)
 
     on : (at (course_of older) position ≡ Some moved)
-          ⊎ Top turn (posted_at older turn.took) (with_posts turn.node (at_place (length older) 0) turn.posts (with_items turn.node turn.items (course_of older))) whole position moved message
+        ⊎ Top turn (posted_at older turn.took) (with_posts turn.node (at_place (length older) 0) turn.posts (with_items turn.node turn.items (course_of older))) whole position moved message
         → (at (course_of older) position ≡ Some moved → Delivered (course_of older) position moved message) → Delivered whole position moved message
     on (inl old) rest =
         delivered_more (course_of older) whole position moved message
@@ -323,8 +323,8 @@ taken_before (turn ∷ older) position moved message place found took is =
     (λ old. taken_before older position moved message place old took is)
   where
     on : (at (course_of older) position ≡ Some moved)
-          ⊎ Top turn (posted_at older turn.took) (with_posts turn.node (at_place (length older) 0) turn.posts (with_items turn.node turn.items (course_of older)))
-            (with_turn (length older) turn (posted_at older turn.took) (course_of older)) position moved message
+        ⊎ Top turn (posted_at older turn.took) (with_posts turn.node (at_place (length older) 0) turn.posts (with_items turn.node turn.items (course_of older)))
+        (with_turn (length older) turn (posted_at older turn.took) (course_of older)) position moved message
         → (at (course_of older) position ≡ Some moved → list_any (λ turn. takes_at place turn.took) older ≡ true)
         → list_any (λ turn. takes_at place turn.took) (turn ∷ older) ≡ true
     on (inl old) rest = any_later place turn older (rest old)

@@ -252,18 +252,18 @@ reconcile_is cluster number course sent (body.Park join closure) is = absurd (cc
 reconcile_is cluster number course sent (body.Add frame index word addend) is = absurd (cc)
 reconcile_is cluster number course sent (body.Added old) is = absurd (cc)
 
-pub ack_is : (cluster : Cluster) (number : ℕ) (course : Course)  (said : Body) → note_of cluster number course said ≡ log.Ack → said ≡ body.Ack
-ack_is cluster number course  (body.Fetch page) is = absurd (cc)
-ack_is cluster number course  (body.Page page words) is = absurd (cc)
-ack_is cluster number course  (body.Reconcile parts) is = absurd (cc)
-ack_is cluster number course  body.Ack is = refl
-ack_is cluster number course  body.Ask is = absurd (cc)
-ack_is cluster number course  (body.Grant closure) is = absurd (cc)
-ack_is cluster number course  body.Refuse is = absurd (cc)
-ack_is cluster number course  (body.Done join index value) is = absurd (cc)
-ack_is cluster number course  (body.Park join closure) is = absurd (cc)
-ack_is cluster number course  (body.Add frame index word addend) is = absurd (cc)
-ack_is cluster number course  (body.Added old) is = absurd (cc)
+pub ack_is : (cluster : Cluster) (number : ℕ) (course : Course) (said : Body) → note_of cluster number course said ≡ log.Ack → said ≡ body.Ack
+ack_is cluster number course (body.Fetch page) is = absurd (cc)
+ack_is cluster number course (body.Page page words) is = absurd (cc)
+ack_is cluster number course (body.Reconcile parts) is = absurd (cc)
+ack_is cluster number course body.Ack is = refl
+ack_is cluster number course body.Ask is = absurd (cc)
+ack_is cluster number course (body.Grant closure) is = absurd (cc)
+ack_is cluster number course body.Refuse is = absurd (cc)
+ack_is cluster number course (body.Done join index value) is = absurd (cc)
+ack_is cluster number course (body.Park join closure) is = absurd (cc)
+ack_is cluster number course (body.Add frame index word addend) is = absurd (cc)
+ack_is cluster number course (body.Added old) is = absurd (cc)
 
 pub grant_is : (cluster : Cluster) (number : ℕ) (course : Course) (f : FrameId) (said : Body) → note_of cluster number course said ≡ log.Grant f → (closure : Closure) × (said ≡ body.Grant closure) × (closure.id ≡ f)
 grant_is cluster number course f (body.Fetch page) is = absurd (cc)

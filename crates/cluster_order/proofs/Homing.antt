@@ -181,7 +181,7 @@ module _ (cluster : Cluster) (turns : List WholeTurn) (lawful : IsLawful cluster
       let taking = taking_found cluster turns lawful home position (happens.moved.message) message place_found in
       let posted = posted_event cluster turns lawful home post position message taking ∙ ap (λ it. log.Post (taking.sender) home (note_of cluster (taking.sender) (before course post) it)) (said.1) in
       let has : HasPart (part_of cluster (found.event)) (parts_of cluster (said.0)) =
-        subst (λ it. HasPart (part_of cluster (found.event)) (parts_of cluster it)) (sym (found.parts)) (has_part cluster (found.newer) (found.event) (found.older)) in
+      subst (λ it. HasPart (part_of cluster (found.event)) (parts_of cluster it)) (sym (found.parts)) (has_part cluster (found.newer) (found.event) (found.older)) in
       MergedAt (taking.sender) post (part_of cluster (found.event)) (ByPart home (parts_of cluster (said.0)) posted has)
       (ByTaking (record { taker = home; is = taken_event cluster turns lawful home position (happens.moved.message) message place_found })) (marked.page_is) (marked.marked) (marked.value_is)
 
@@ -239,21 +239,25 @@ module _ (cluster : Cluster) (turns : List WholeTurn) (lawful : IsLawful cluster
           let there = home_served cluster turns lawful (served.home) position frame (served.index) (served.word) (served.old) (served.addend) (served.is) in
           let same : served.home ≡ home = sym there ∙ ap (λ it. home_of (node_at cluster 0) (page_of (node_at cluster 0) it)) word_is ∙ at_home in
           let sums : sum_in (served.old) (served.addend) ≡ Some value = ap (λ it. sum_in it (served.addend)) old_is ∙ ap (sum_in old) addend_is ∙ sum in
-          let is_word : eqb (served.word) word ≡ true = ap (λ it. eqb it word) word_is ∙ itself word in
-          (Did (item.Served frame (served.index) (served.word) (served.old) (served.addend)), subst (λ it. Happens course it position (Did (item.Served frame (served.index) (served.word) (served.old) (served.addend)))) same (served.is),
-            rw (is_word, sums) refl)
+          let is_word : eqb (served.word) word ≡ true = ap (λ it. eqb it word) word_is ∙ itself word in (
+            Did (item.Served frame (served.index) (served.word) (served.old) (served.addend)),
+            subst (λ it. Happens course it position (Did (item.Served frame (served.index) (served.word) (served.old) (served.addend)))) same (served.is),
+            rw (is_word, sums) refl,
+          )
   change_there home word position at_home (value, MergedAt sender post sent (ByItem is) (ByTaking taken) page_is mask words) =
       let it = taking_at cluster turns lawful (taken.taker) post position (taken.is) in
       let two : log.OwnReconcile sender sent ≡ log.Post (it.1.sender) (taken.taker) (note_of cluster (it.1.sender) (before course post) (it.0.body)) =
-        sym is ∙ posted_event cluster turns lawful (taken.taker) post position (it.0) (it.1) in
+      sym is ∙ posted_event cluster turns lawful (taken.taker) post position (it.0) (it.1) in
       absurd (cc)
   change_there home word position at_home (value, MergedAt sender post sent (ByItem is) (AtItem other part is' same) page_is mask words) =
       let it = own_part_is cluster course post sender sent is in
       let may = own_part_allowed cluster turns lawful sender post (it.0) (it.1) in
       let mine : sender ≡ home = may.1.at_home ∙ ap (home_of (node_at cluster 0)) (ap (λ one. one.page) (it.2) ∙ page_is) ∙ at_home in
-      let marked : marks (it.0.mask) (place_of (node_at cluster 0) word) ≡ true = ap (λ one. one.mask word) (it.2) ∙ mask in
-      (Did (item.OwnReconcile (it.0)), subst (λ to. Happens course home to (Did (item.OwnReconcile (it.0)))) (sym same) (subst (λ one. Happens course one post (Did (item.OwnReconcile (it.0)))) mine (it.1)),
-        word_there (node_at cluster home) word (it.0) (ap (λ one. one.page) (it.2) ∙ page_is) marked)
+      let marked : marks (it.0.mask) (place_of (node_at cluster 0) word) ≡ true = ap (λ one. one.mask word) (it.2) ∙ mask in (
+        Did (item.OwnReconcile (it.0)),
+        subst (λ to. Happens course home to (Did (item.OwnReconcile (it.0)))) (sym same) (subst (λ one. Happens course one post (Did (item.OwnReconcile (it.0)))) mine (it.1)),
+        word_there (node_at cluster home) word (it.0) (ap (λ one. one.page) (it.2) ∙ page_is) marked,
+      )
   change_there home word position at_home (value, MergedAt sender post sent (ByPart receiver parts is has) (AtItem other part is' same) page_is mask words) =
       let two : log.Post sender receiver (log.Reconcile parts) ≡ log.OwnReconcile other part = sym is ∙ is' in absurd (cc)
   change_there home word position at_home (value, MergedAt sender post sent (ByPart receiver parts is has) (ByTaking taken) page_is mask words) =
@@ -263,13 +267,15 @@ module _ (cluster : Cluster) (turns : List WholeTurn) (lawful : IsLawful cluster
       let body_is : it.0.body ≡ body.Reconcile (sent_is.list) = ap (λ one. one.body) (same.0) ∙ sent_is.says in
       let part = sent_is.among.part in
       let home_is : taken.taker ≡ home =
-        sym (it.1.to) ∙ ap (λ one. one.receiver) (same.0) ∙ sent_is.to ∙ sent_is.sending.at_home ∙ ap (home_of (node_at cluster 0)) (ap (λ one. one.page) (sent_is.among.is) ∙ page_is) ∙ at_home in
+      sym (it.1.to) ∙ ap (λ one. one.receiver) (same.0) ∙ sent_is.to ∙ sent_is.sending.at_home ∙ ap (home_of (node_at cluster 0)) (ap (λ one. one.page) (sent_is.among.is) ∙ page_is) ∙ at_home in
       let marked : marks (part.mask) (place_of (node_at cluster 0) word) ≡ true = ap (λ one. one.mask word) (sent_is.among.is) ∙ mask in
       let there = word_there (node_at cluster home) word part (ap (λ one. one.page) (sent_is.among.is) ∙ page_is) marked in
       let any : is_some (given (word_in (node_at cluster home) word) (sent_is.list)) ≡ true =
-        subst (λ list. is_some (given (word_in (node_at cluster home) word) list) ≡ true) (sym (sent_is.among.split)) (given_in (word_in (node_at cluster home) word) (sent_is.among.newer) part (sent_is.among.older) there) in
-      (Took (it.0), subst (λ one. Happens course one position (Took (it.0))) home_is (happens cluster course position (taken.taker) (Some (it.1.place)) (Took (it.0)) (it.1.taken)),
-        subst (λ said. is_some (given (word_in (node_at cluster home) word) (parts_in said)) ≡ true) (sym body_is) any)
+      subst (λ list. is_some (given (word_in (node_at cluster home) word) list) ≡ true) (sym (sent_is.among.split)) (given_in (word_in (node_at cluster home) word) (sent_is.among.newer) part (sent_is.among.older) there) in (
+        Took (it.0),
+        subst (λ one. Happens course one position (Took (it.0))) home_is (happens cluster course position (taken.taker) (Some (it.1.place)) (Took (it.0)) (it.1.taken)),
+        subst (λ said. is_some (given (word_in (node_at cluster home) word) (parts_in said)) ≡ true) (sym body_is) any,
+      )
 
   -- ---- stored words
 
@@ -283,27 +289,33 @@ module _ (cluster : Cluster) (turns : List WholeTurn) (lawful : IsLawful cluster
 
       on : (option : Option ℤ) → given (changes (node_at cluster home) word) (own home (before course position)) ≡ option
           → HomeWord events (memory_of cluster) word position (unwrap_or option (start_word (node_at cluster home) word))
-      on None none = inr (λ earlier less change.
-          let there = change_there home word earlier at_home change in
-          let here = happens_before course position moved found home earlier (there.0) less (there.1) in
-          let absent = given_absent (changes (node_at cluster home) word) (own home (before course position)) none in
-          let nowhere = none_later home (λ one. is_some (changes (node_at cluster home) word one)) (before course position) [] absent in
-          let none_here = nowhere earlier (here.moved) (omega (arith)) (ap (λ it. at it earlier) (append-nil (before course position)) ∙ here.is) (here.by) in
-          let is : is_some (changes (node_at cluster home) word (here.moved.event)) ≡ true = ap (λ one. is_some (changes (node_at cluster home) word one)) (here.event_is) ∙ there.2 in
-          absurd (cc), refl)
+      on None none = inr (
+        λ earlier less change.
+            let there = change_there home word earlier at_home change in
+            let here = happens_before course position moved found home earlier (there.0) less (there.1) in
+            let absent = given_absent (changes (node_at cluster home) word) (own home (before course position)) none in
+            let nowhere = none_later home (λ one. is_some (changes (node_at cluster home) word one)) (before course position) [] absent in
+            let none_here = nowhere earlier (here.moved) (omega (arith)) (ap (λ it. at it earlier) (append-nil (before course position)) ∙ here.is) (here.by) in
+            let is : is_some (changes (node_at cluster home) word (here.moved.event)) ≡ true = ap (λ one. is_some (changes (node_at cluster home) word one)) (here.event_is) ∙ there.2 in
+            absurd (cc),
+        refl,
+      )
       on (Some value) some =
           let latest = given_latest (changes (node_at cluster home) word) (own home (before course position)) value some in
           let it = stands home (before course position) (latest.newer) (latest.event) (latest.older) (latest.parts) in
           let here = happens_there home (before course position) (latest.newer) (latest.event) (latest.older) (it.0) (it.1) in
           let there = happened_before course position moved found home (it.0) (latest.event) here in
           let less : it.0 < position =
-            let inside = is_before home (before course position) (latest.newer) (latest.event) (latest.older) (it.0) (it.1) in let count = length_before course position moved found in omega (arith, inside, count) in
-          inl (it.0, record {
-            before = less;
-            changes = changed_at home word (it.0) value (latest.event) there (latest.gives);
-            none = none_between course position moved found home (λ one. is_some (changes (node_at cluster home) word one)) (IsChange events (memory_of cluster) word) (it.0) (λ i change. change_there home word i at_home change)
-              (none_behind home (before course position) (latest.newer) (latest.event) (latest.older) (it.0) (it.1) (λ one. is_some (changes (node_at cluster home) word one)) (latest.none));
-          })
+          let inside = is_before home (before course position) (latest.newer) (latest.event) (latest.older) (it.0) (it.1) in let count = length_before course position moved found in omega (arith, inside, count) in
+          inl (
+            it.0,
+            record {
+              before = less;
+              changes = changed_at home word (it.0) value (latest.event) there (latest.gives);
+              none = none_between course position moved found home (λ one. is_some (changes (node_at cluster home) word one)) (IsChange events (memory_of cluster) word) (it.0) (λ i change. change_there home word i at_home change)
+                  (none_behind home (before course position) (latest.newer) (latest.event) (latest.older) (it.0) (it.1) (λ one. is_some (changes (node_at cluster home) word one)) (latest.none));
+            },
+          )
 
 some_words : (n : ℕ) → list_any (λ size. eqb size n) page_sizes ≡ true → 0 < n
 some_words zero is = absurd (cc)

@@ -272,9 +272,11 @@ module _ (cluster : Cluster) (turns : List WholeTurn) (lawful : IsLawful cluster
   owed_taken number position moved found message among =
       let came = owed_add_came (past_at number position) message among in
       let it = stands number (before (course_of turns) position) (came.0) (Took message) (came.1) (came.2) in
-      let there = happened_before (course_of turns) position moved found number (it.0) (Took message) (happens_there number (before (course_of turns) position) (came.0) (Took message) (came.1) (it.0) (it.1)) in
-      (taken_from (before (course_of turns) (it.0)) (there.moved.message), it.0,
-        taking_found cluster turns lawful number (it.0) (there.moved.message) message (record { moved = there.moved; is = there.is; by = there.by; place_is = refl; event_is = there.event_is }))
+      let there = happened_before (course_of turns) position moved found number (it.0) (Took message) (happens_there number (before (course_of turns) position) (came.0) (Took message) (came.1) (it.0) (it.1)) in (
+        taken_from (before (course_of turns) (it.0)) (there.moved.message),
+        it.0,
+        taking_found cluster turns lawful number (it.0) (there.moved.message) message (record { moved = there.moved; is = there.is; by = there.by; place_is = refl; event_is = there.event_is }),
+      )
 
   -- the home of the word of an add does it
   pub home_served : (number position : ℕ) (frame : FrameId) (index word : ℕ) (old addend : ℤ) → Happens (course_of turns) number position (Did (item.Served frame index word old addend))

@@ -71,7 +71,7 @@ module _ (cluster : Cluster) (turns : List WholeTurn) (lawful : IsLawful cluster
   allowed number position event happens =
       subst (λ it. IsAllowed (node_at cluster number) (own number (before (course_of turns) position)) it) (happens.event_is)
       (subst (λ it. IsAllowed (node_at cluster it) (own it (before (course_of turns) position)) (happens.moved.event)) (happens.by)
-        (lawful_at cluster turns position (happens.moved) lawful (happens.is)))
+      (lawful_at cluster turns position (happens.moved) lawful (happens.is)))
 
   pub taken_event : (receiver position : ℕ) (place : Option PostAt) (message : Msg) → Found cluster (course_of turns) position receiver place (Took message)
       → events_of cluster (course_of turns) position ≡ log.Took receiver (taken_from (before (course_of turns) position) place)
@@ -99,7 +99,7 @@ module _ (cluster : Cluster) (turns : List WholeTurn) (lawful : IsLawful cluster
       let same : place ≡ Some (it.place) = sym (found.place_is) ∙ it.place_is in
       let post = post_position earlier (it.place) in
       let less : post < position =
-        let inside = within earlier post _ (it.posted.is) in let count = length_before (course_of turns) position (found.moved) (found.is) in omega (arith, inside, count) in
+      let inside = within earlier post _ (it.posted.is) in let count = length_before (course_of turns) position (found.moved) (found.is) in omega (arith, inside, count) in
       subst (λ at_place. Taking receiver (taken_from earlier at_place) position message) (sym same) (record {
         sender = it.posted.sender;
         place = it.place;
@@ -144,12 +144,12 @@ module _ (cluster : Cluster) (turns : List WholeTurn) (lawful : IsLawful cluster
   pub delivery : Delivery (events_of cluster (course_of turns))
   delivery = record {
     posted = λ position receiver post is.
-      let it = taking_at receiver post position is in
-      (it.1.sender, note_of cluster (it.1.sender) (before (course_of turns) post) (it.0.body), posted_event receiver post position (it.0) (it.1), it.1.before);
+        let it = taking_at receiver post position is in
+        (it.1.sender, note_of cluster (it.1.sender) (before (course_of turns) post) (it.0.body), posted_event receiver post position (it.0) (it.1), it.1.before);
     once = λ position other receiver another post is is'.
-      let one = taking_at receiver post position is in
-      let two = taking_at another post other is' in
-      let same = same_message (one.0) (two.0) (one.1.sender) (two.1.sender) post (Some (one.1.place)) (Some (two.1.place)) (one.1.posted) (two.1.posted) in
-      taken_once cluster turns position other (one.1.taken.moved) (two.1.taken.moved) (one.0) (two.0) (one.1.place) lawful
-      (one.1.taken.is) (one.1.taken.event_is) (one.1.taken.place_is) (two.1.taken.is) (two.1.taken.event_is) (two.1.taken.place_is ∙ sym same.2);
+        let one = taking_at receiver post position is in
+        let two = taking_at another post other is' in
+        let same = same_message (one.0) (two.0) (one.1.sender) (two.1.sender) post (Some (one.1.place)) (Some (two.1.place)) (one.1.posted) (two.1.posted) in
+        taken_once cluster turns position other (one.1.taken.moved) (two.1.taken.moved) (one.0) (two.0) (one.1.place) lawful
+        (one.1.taken.is) (one.1.taken.event_is) (one.1.taken.place_is) (two.1.taken.is) (two.1.taken.event_is) (two.1.taken.place_is ∙ sym same.2);
   }

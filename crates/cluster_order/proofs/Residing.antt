@@ -93,7 +93,7 @@ arrival_is_no_drop g words event brought = on (drops g event) refl
 pub arrival_resident : (g : ℕ) (past : Past) (words : List ℤ) → Arrival g past words → is_resident g past ≡ true
 arrival_resident g past words arrival =
     let split : since (drops g) past ≡ arrival.newer ++ arrival.event ∷ since (drops g) (arrival.older) =
-      ap (since (drops g)) (arrival.parts) ∙ since_front_none (drops g) (arrival.newer) (arrival.event) (arrival.older) (arrival.kept) (arrival_is_no_drop g words (arrival.event) (arrival.brought)) in
+    ap (since (drops g)) (arrival.parts) ∙ since_front_none (drops g) (arrival.newer) (arrival.event) (arrival.older) (arrival.kept) (arrival_is_no_drop g words (arrival.event) (arrival.brought)) in
     ap (list_any (arrives g)) split ∙ any_in (arrives g) (arrival.newer) (arrival.event) (since (drops g) (arrival.older)) (ap is_some (arrival.brought))
 
 module _ (cluster : Cluster) (turns : List WholeTurn) (lawful : IsLawful cluster turns) (position : ℕ) (moved : Moved) (found : at (course_of turns) position ≡ Some moved) where
@@ -114,9 +114,9 @@ module _ (cluster : Cluster) (turns : List WholeTurn) (lawful : IsLawful cluster
         before = it.less;
         arrives = arrived_at cluster turns lawful p g arrival list (it.past.event) there (it.past.brought);
         kept = none_between (course_of turns) position moved found p (drops g) (λ j. ev cluster turns lawful j ≡ log.Drop p g) arrival (λ i. drop_there cluster turns lawful p g i)
-          (none_behind p front (it.past.newer) (it.past.event) (it.past.older) arrival (it.there) (drops g) (it.past.kept));
+            (none_behind p front (it.past.newer) (it.past.event) (it.past.older) arrival (it.there) (drops g) (it.past.kept));
         last = none_between (course_of turns) position moved found p (arrives g) (IsArrival (ev cluster turns lawful) p g) arrival (λ i. arrival_there cluster turns lawful p g i)
-          (none_behind p front (it.past.newer) (it.past.event) (it.past.older) arrival (it.there) (arrives g) (it.past.last));
+            (none_behind p front (it.past.newer) (it.past.event) (it.past.older) arrival (it.there) (arrives g) (it.past.last));
       }
 
   pub resident_at : (p g : ℕ) → is_resident g (own p front) ≡ true → (list : List ℤ) × (arrival : ℕ) × Since p g arrival list
@@ -125,7 +125,7 @@ module _ (cluster : Cluster) (turns : List WholeTurn) (lawful : IsLawful cluster
       let arrival = since.1 in
       let there = stands p front (arrival.newer) (arrival.event) (arrival.older) (arrival.parts) in
       let less : there.0 < position =
-        let inside = is_before p front (arrival.newer) (arrival.event) (arrival.older) (there.0) (there.1) in let count = length_before (course_of turns) position moved found in omega (arith, inside, count) in
+      let inside = is_before p front (arrival.newer) (arrival.event) (arrival.older) (there.0) (there.1) in let count = length_before (course_of turns) position moved found in omega (arith, inside, count) in
       (since.0, there.0, record { past = arrival; there = there.1; less = less })
 
   pub resided : (p g arrival : ℕ) (words : ℕ → ℤ) → Resident (ev cluster turns lawful) p g position arrival words → (list : List ℤ) × Since p g arrival list × (words ≡ words_of cluster list)
@@ -134,22 +134,25 @@ module _ (cluster : Cluster) (turns : List WholeTurn) (lawful : IsLawful cluster
       let list = came.0 in
       let event = came.1 in
       let here = happens_before (course_of turns) position moved found p arrival event (resident.before) (came.2) in
-      let there = stands_at p front arrival event here in
-      (list, record {
-        past = record {
-          newer = there.0;
-          older = own p (before front arrival);
-          event = event;
-          parts = past_parts p front (there.0) event (own p (before front arrival)) arrival (there.1);
-          brought = came.3;
-          kept = none_newer p front (there.0) event (own p (before front arrival)) arrival (there.1) (drops g)
-            (none_from (course_of turns) position moved found p (drops g) (λ j. ev cluster turns lawful j ≡ log.Drop p g) arrival (λ i other happens is. drop_at cluster turns lawful p g i other happens is) (resident.kept));
-          last = none_newer p front (there.0) event (own p (before front arrival)) arrival (there.1) (arrives g)
-            (none_from (course_of turns) position moved found p (arrives g) (IsArrival (ev cluster turns lawful) p g) arrival (λ i other happens is. arrival_at cluster turns lawful p g i other happens is) (resident.last));
-        };
-        there = there.1;
-        less = resident.before;
-      }, came.4)
+      let there = stands_at p front arrival event here in (
+        list,
+        record {
+          past = record {
+            newer = there.0;
+            older = own p (before front arrival);
+            event = event;
+            parts = past_parts p front (there.0) event (own p (before front arrival)) arrival (there.1);
+            brought = came.3;
+            kept = none_newer p front (there.0) event (own p (before front arrival)) arrival (there.1) (drops g)
+                (none_from (course_of turns) position moved found p (drops g) (λ j. ev cluster turns lawful j ≡ log.Drop p g) arrival (λ i other happens is. drop_at cluster turns lawful p g i other happens is) (resident.kept));
+            last = none_newer p front (there.0) event (own p (before front arrival)) arrival (there.1) (arrives g)
+                (none_from (course_of turns) position moved found p (arrives g) (IsArrival (ev cluster turns lawful) p g) arrival (λ i other happens is. arrival_at cluster turns lawful p g i other happens is) (resident.last));
+          };
+          there = there.1;
+          less = resident.before;
+        },
+        came.4,
+      )
 
   -- ---- cached words
 
@@ -165,12 +168,12 @@ module _ (cluster : Cluster) (turns : List WholeTurn) (lawful : IsLawful cluster
       let count : length rest ≡ suc arrival = ap suc (it.there.count) in
       let none = none_from (course_of turns) position moved found p (writes w) (IsWrite (ev cluster turns lawful) p w) write (λ i other happens is. write_at cluster turns lawful p w i other happens is) (last.none) in
       let is : given (written w) (own p (it.there.later)) ≡ Some value =
-        given_from p (written w) (it.there.later) rest write (here.moved) value
-        (subst (λ whole. at whole write ≡ Some (here.moved)) (it.there.parts) (here.is))
-        (let after = last.after in omega (arith, count, after))
-        (here.by)
-        (ap (written w) (here.event_is) ∙ written_own cluster turns lawful w value (wrote.0) (wrote.1))
-        (subst (λ whole. NoneFrom whole p (writes w) (suc write)) (it.there.parts) none) in
+      given_from p (written w) (it.there.later) rest write (here.moved) value
+      (subst (λ whole. at whole write ≡ Some (here.moved)) (it.there.parts) (here.is))
+      (let after = last.after in omega (arith, count, after))
+      (here.by)
+      (ap (written w) (here.event_is) ∙ written_own cluster turns lawful w value (wrote.0) (wrote.1))
+      (subst (λ whole. NoneFrom whole p (writes w) (suc write)) (it.there.parts) none) in
       rw (staying p (page_of (node_at cluster p) w) arrival list it, is) refl
 
   pub cached_first : (p w arrival : ℕ) (list : List ℤ) → Since p (page_of (node_at cluster p) w) arrival list → NoWrite (ev cluster turns lawful) p w arrival position
@@ -180,6 +183,6 @@ module _ (cluster : Cluster) (turns : List WholeTurn) (lawful : IsLawful cluster
       let count : length rest ≡ suc arrival = ap suc (it.there.count) in
       let none = none_from (course_of turns) position moved found p (writes w) (IsWrite (ev cluster turns lawful) p w) arrival (λ i other happens is. write_at cluster turns lawful p w i other happens is) none_written in
       let is : given (written w) (own p (it.there.later)) ≡ None =
-        given_nowhere p (written w) (it.there.later) rest
-        (subst (NoneFrom (it.there.later ++ rest) p (writes w)) (sym count) (subst (λ whole. NoneFrom whole p (writes w) (suc arrival)) (it.there.parts) none)) in
+      given_nowhere p (written w) (it.there.later) rest
+      (subst (NoneFrom (it.there.later ++ rest) p (writes w)) (sym count) (subst (λ whole. NoneFrom whole p (writes w) (suc arrival)) (it.there.parts) none)) in
       rw (staying p (page_of (node_at cluster p) w) arrival list it, is, brought_is (page_of (node_at cluster p) w) (own p front) list (it.past)) refl

@@ -63,14 +63,13 @@ used_parts used (mark ∷ front) back all = let parts = used_parts used front ba
 -- other numbers, for frames that are not among them
 pub used_change : (used other : FrameId → ℕ) (marks : List Mark) → ((frame : FrameId) → (other frame ≡ used frame) ⊎ (count frame marks ≡ 0)) → Used used marks → Used other marks
 used_change used other [] changed all = tt
-used_change used other (mark ∷ marks) changed all =
-    (
-      elim (changed mark.id) [
-        | inl same ↦ subst (λ it. it ≤ mark.acts) (sym same) all.0
-        | inr none ↦ (let some : one (same_frame mark.id mark.id) ≡ 1 = ap one (same_self mark.id) in absurd (omega (arith, some, none)))
-      ],
-      used_change used other marks (λ frame. elim (changed frame) [ | inl same ↦ inl same | inr none ↦ inr (omega (arith, none)) ]) all.1,
-    )
+used_change used other (mark ∷ marks) changed all = (
+  elim (changed mark.id) [
+    | inl same ↦ subst (λ it. it ≤ mark.acts) (sym same) all.0
+    | inr none ↦ (let some : one (same_frame mark.id mark.id) ≡ 1 = ap one (same_self mark.id) in absurd (omega (arith, some, none)))
+  ],
+  used_change used other marks (λ frame. elim (changed frame) [ inl same ↦ inl same | inr none ↦ inr (omega (arith, none)) ]) all.1,
+)
 
 -- ---- marks within others
 
@@ -155,7 +154,7 @@ parked_append [] back = refl
 parked_append (first ∷ front) back = ap (λ it. record { id = first.closure.id; acts = first.closure.acts } ∷ it) (parked_append front back)
 
 live_on : (deposits : List Deposit) (life : Life) (below : List Life) (value : Option ℤ) → ((given : List Deposit) → Within (marks (live_from given below)) (marks below))
-    → Within (marks (elim value [ | None ↦ with_kept deposits life ∷ below | Some it ↦ live_from ((life.spawned.target, it) ∷ []) below ])) (marks (life ∷ below))
+    → Within (marks (elim value [ None ↦ with_kept deposits life ∷ below | Some it ↦ live_from ((life.spawned.target, it) ∷ []) below ])) (marks (life ∷ below))
 live_on deposits life below None before = within_same (marks (life ∷ below))
 live_on deposits life below (Some it) before =
     within_both (marks (live_from ((life.spawned.target, it) ∷ []) below)) (marks below) (marks (life ∷ below)) (before ((life.spawned.target, it) ∷ [])) (within_skip (mark_of life) (marks below))
@@ -228,8 +227,8 @@ AddsFirst [] = ⊥
 AddsFirst (life ∷ below) = WantsAdd life
 
 live_first_on : (life : Life) (below : List Life) (value : Option ℤ) → value ≡ None
-    → elim value [ | None ↦ with_kept [] life ∷ below | Some it ↦ live_from ((life.spawned.target, it) ∷ []) below ] ≡ with_kept [] life ∷ below
-live_first_on life below value is = ap (λ value. elim value [ | None ↦ with_kept [] life ∷ below | Some it ↦ live_from ((life.spawned.target, it) ∷ []) below ]) is
+    → elim value [ None ↦ with_kept [] life ∷ below | Some it ↦ live_from ((life.spawned.target, it) ∷ []) below ] ≡ with_kept [] life ∷ below
+live_first_on life below value is = ap (λ value. elim value [ None ↦ with_kept [] life ∷ below | Some it ↦ live_from ((life.spawned.target, it) ∷ []) below ]) is
 
 -- it has not returned
 pub live_first : (stack : List Life) → AddsFirst stack → (life : Life) × (below : List Life) × (live stack ≡ life ∷ below) × WantsAdd life

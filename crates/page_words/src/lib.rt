@@ -8,4 +8,4 @@ mod page;
 mod tests;
 
 pub use config::{Config, MOST_BUDGET, MOST_CACHE_PAGES, MOST_NODES};
-pub use page::Page;
+pub use page::{Page, merge_words};

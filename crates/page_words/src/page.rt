@@ -112,8 +112,8 @@ fn put_first(words: &mut [i64], given: &[i64])
     words[..given.len()].copy_from_slice(given);
 }
 
-/// Sets the words whose bits are in the mask to those given.
-fn merge_words(words: &mut [i64], mask: u64, given: &[i64])
+/// Sets the words whose bits are in the mask to those given, and no others. Bit k stands for word k; there are at most 64.
+pub fn merge_words(words: &mut [i64], mask: u64, given: &[i64])
     requires count { length given.now ≤ length words.old }
     requires few { length given.now ≤ 64 }
     requires bits { mask < 2 ^ length given.now }

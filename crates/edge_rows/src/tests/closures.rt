@@ -56,7 +56,10 @@ fn frame(alloc: Global, code: &Code) -> Result<Frame, Fail>
     ensures stands { IfOk result (λ frame. StandsIn code.now frame.frame) }
     ensures locals { IfOk result (λ frame. length (own_locals frame.frame) ≡ 2) }
 {
-    if code.procs.len() <= SHOW as usize || code.proc(SHOW).params != 2 || code.proc(SHOW).locals != 2 {
+    if code.procs.len() <= SHOW as usize
+        || code.proc(SHOW).params != 2
+        || code.proc(SHOW).locals != 2
+    {
         return Err("another code")?;
     }
     Ok(Frame::start(alloc, code, SHOW, &[-1, -2], 1)?)

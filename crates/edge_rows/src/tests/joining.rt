@@ -69,11 +69,17 @@ fn come(
 {
     let (join, given) = match comes {
         Comes::Done(number, index, value) => {
-            (join_of(number), done(code, joins, join_of(number), index, value)?)
+            (
+                join_of(number),
+                done(code, joins, join_of(number), index, value)?,
+            )
         }
         Comes::Park(number, away) => {
             let closure = closure(alloc, code, 9, away)?;
-            (join_of(number), park(code, joins, join_of(number), closure)?)
+            (
+                join_of(number),
+                park(code, joins, join_of(number), closure)?,
+            )
         }
     };
     assert_eq!(rt; joins.waits(join), given.is_none());
