@@ -4,7 +4,7 @@ use Rattle.std.proofs.Common.{◌≡◌, ℕ, zero, suc, ◌<◌, ◌≤◌, ◌
 use Rattle.page_messages.specs.declared.closure.FrameId.{FrameId}
 use Rattle.backer_order.specs.Log.{Grant, Park, Post, Sync, Acts, TakeUp, Events, SharedMemory}
 use Rattle.backer_order.specs.Moments.{NoneBetween}
-use Rattle.backer_order.specs.Edges.{Stacks, Returns, IsOn, Others, Moves, StackRule, TakesUp, BlockChild, Away, Here, Taken, Edges, FromGrant, FromJoin, HasDone, Joined}
+use Rattle.backer_order.specs.Edges.{Stacks, Returns, IsOn, Others, Moves, StackRule, TakesUp, Spawned, BlockChild, Away, Here, Taken, Edges, FromGrant, FromJoin, HasDone, Joined}
 use Rattle.backer_order.proofs.Search.{Less3, Same3, More3, compare}
 use Rattle.backer_order.proofs.Lists.{mem_right, Distinct, distinct_right, cut_front}
 use Rattle.backer_order.proofs.Places as places
@@ -35,7 +35,7 @@ module _ (events : Events) (memory : SharedMemory) (has_returned : Returns) (sta
     | Less3 l ↦ edges.stays now frame (returned_later frame k now r (omega arith))
   ]
 
-  -- a frame that came from its completed join
+  -- A frame is not granted between its take-up and a position at which it stands on a stack, so what is away there was away at the take-up.
   away_back : (frame d : FrameId) (t now node : ℕ) → IsOn frame (stack now node) → NoneBetween (TakesUp events frame) t now → (taker : ℕ) →
       events t ≡ TakeUp taker frame → (i : ℕ) → t ≤ i → i ≤ now → Away events stack i frame d → Away events stack t frame d
   away_back frame d t now node on none taker is zero h h' a = subst (λ i. Away events stack i frame d) (omega arith) a
@@ -50,7 +50,11 @@ module _ (events : Events) (memory : SharedMemory) (has_returned : Returns) (sta
         | Less3 l' ↦
             let out = places.grant_out events memory has_returned stack edges.frames i other r frame (inv i) gr in
             let on_i = places.grant_mem events memory has_returned stack edges.frames i other r frame gr in
-            absurd (places.stays_out events memory has_returned stack edges.frames frame i now out (λ j k k' sp. places.not_again events memory has_returned stack edges.frames i other frame j (inv i) on_i (omega arith) sp) (λ j k k' up. none j (omega arith) k' up) now (omega arith) (omega arith) node on)
+            let none_i : NoneBetween (TakesUp events frame) i now = λ j k k' up. none j (omega arith) k' up in
+            let unborn : (j : ℕ) → i < j → j < now → Spawned events frame j → ⊥ =
+            λ j k k' sp. places.not_again events memory has_returned stack edges.frames i other frame j (inv i) on_i (omega arith) sp in
+            let gone = places.stays_out events memory has_returned stack edges.frames frame i now out unborn none_i in
+            absurd (gone now (omega arith) (omega arith) node on)
       ]
     ]
   ]

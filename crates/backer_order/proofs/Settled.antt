@@ -1,11 +1,11 @@
 -- Settled frames: what is early for a frame on a stack was done there, or has its moment before a TakeUp there.
-use Rattle.std.proofs.Common.{◌≡◌, ℕ, zero, suc, ◌<◌, ◌≤◌, ◌⊎◌, inl, inr, true, [], ◌∷◌, refl, sym, subst, arith}
+use Rattle.std.proofs.Common.{◌≡◌, ℕ, zero, suc, ◌<◌, ◌≤◌, ◌⊎◌, inl, inr, true, ◌∷◌, refl, sym, subst, arith}
 use Rattle.page_messages.specs.declared.closure.FrameId.{FrameId}
-use Rattle.backer_order.specs.Log.{Grant, Park, Post, main_id, Act, Read, Write, Add, Spawn, Sync, Done, Acts, TakeUp, Events, SharedMemory}
-use Rattle.backer_order.specs.Moments.{NoneBetween, IsAccess, Moment}
+use Rattle.backer_order.specs.Log.{main_id, Act, Read, Write, Add, Spawn, Sync, Done, Acts, TakeUp, Events, SharedMemory}
+use Rattle.backer_order.specs.Moments.{IsAccess, Moment}
 use Rattle.backer_order.specs.Rules.{Caching}
 use Rattle.backer_order.specs.HomeOrder.{Before}
-use Rattle.backer_order.specs.Edges.{Stacks, Returns, IsOn, ActOf, Others, StackRule, TakesUp, Spawned, Early, Away, Here, AllClean, Taken, Edges, FromGrant, FromJoin, HasDone, Joined}
+use Rattle.backer_order.specs.Edges.{Stacks, Returns, IsOn, ActOf, Spawned, Early, Away, Here, AllClean, Taken, Edges}
 use Rattle.backer_order.proofs.Search.{Less3, Same3, More3, compare}
 use Rattle.backer_order.proofs.Lists.{mem_right, mem_middle}
 use Rattle.backer_order.proofs.TakeUps as ups
