@@ -254,7 +254,8 @@ pub record Frames (events : Events) (memory : SharedMemory) (has_returned : Retu
 
 -- The rules for edges, beside those for stacks. A frame that has returned makes no act, stays so, and has no child of its block left. Empty
 -- cache at take-up: a node that takes up a frame drops its resident pages before all else. Joins: where a frame syncs that was stolen from
--- below a child of the block, its last take-up was from its join. That each child of the block has returned by then is a law.
+-- below a child of the block, its last take-up was from its join. With the rules for the ready list it follows that each child of the block
+-- has returned by then.
 pub record Edges (events : Events) (memory : SharedMemory) (has_returned : Returns) (stack : Stacks) : Type 0 where
   pub frames : Frames events memory has_returned stack
   pub no_act : (now : ℕ) (frame : FrameId) → has_returned now frame ≡ true → ActOf events frame now → ⊥
