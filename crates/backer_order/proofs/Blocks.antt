@@ -113,8 +113,12 @@ module _ (events : Events) (memory : SharedMemory) (has_returned : Returns) (sta
   abbrev pub Stands : ℕ → FrameId → FrameId → Type 0
   Stands now frame child = (has_returned now child ≡ true) ⊎ OnTop now child frame
 
+  -- so after a step, where a child that left its place had returned before that step
+  abbrev pub Kept : ℕ → FrameId → FrameId → Type 0
+  Kept now frame child = (has_returned now child ≡ true) ⊎ OnTop (suc now) child frame
+
   kept_others : (now node : ℕ) (frame child : FrameId) → Others stack now node → (t : OnTop now child frame) →
-      (t.node ≡ node → Stands (suc now) frame child) → Stands (suc now) frame child
+      (t.node ≡ node → Kept now frame child) → Kept now frame child
   kept_others now node frame child others t go = elim (same_or_not t.node node) [
     | inl same ↦ go same
     | inr ne ↦ inr (record { node = t.node; front = t.front; back = t.back; is = others t.node ne ∙ t.is })
@@ -122,19 +126,19 @@ module _ (events : Events) (memory : SharedMemory) (has_returned : Returns) (sta
 
   kept_pop : (now node : ℕ) (frame child : FrameId) (above below top : List FrameId) → Others stack now node →
       stack now node ≡ above ++ below → Each (λ i. has_returned now i ≡ true) above → stack (suc now) node ≡ top ++ below →
-      OnTop now child frame → Stands (suc now) frame child
+      OnTop now child frame → Kept now frame child
   kept_pop now node frame child above below top others old each new t = kept_others now node frame child others t
       (λ same. elim (cut_front t.front above below t.back child frame (sym t.is ∙ ap (stack now) same ∙ old)) [
-        | inl m ↦ inl (edges.stays now child (each child m))
+        | inl m ↦ inl (each child m)
         | inr (rest, same_tail) ↦ inr (record { node = node; front = top ++ rest; back = t.back; is = new ∙ ap (λ l. top ++ l) same_tail ∙ sym (append_assoc top rest (child ∷ (frame ∷ t.back))) })
       ])
 
   kept_leave : (now node : ℕ) (frame child g : FrameId) → Empties has_returned stack now node g → OnTop now child frame →
-      Stands (suc now) frame child
+      Kept now frame child
   kept_leave now node frame child g r t = kept_others now node frame child r.others t
       (λ same. elim (cut_last t.front r.front t.back child frame g (sym t.is ∙ ap (stack now) same ∙ r.old)) [
-        | inl (x, same_tail) ↦ inl (edges.stays now child (r.returned child (subst (λ l. IsOn child l) (sym same_tail) (mem_middle child t.front []))))
-        | inr (rest, same_tail) ↦ inl (edges.stays now child (r.returned child (subst (λ l. IsOn child l) (sym same_tail) (mem_middle child t.front (frame ∷ rest)))))
+        | inl (x, same_tail) ↦ inl (r.returned child (subst (λ l. IsOn child l) (sym same_tail) (mem_middle child t.front [])))
+        | inr (rest, same_tail) ↦ inl (r.returned child (subst (λ l. IsOn child l) (sym same_tail) (mem_middle child t.front (frame ∷ rest))))
       ])
 
   not_empty : (front back : List FrameId) (child : FrameId) → front ++ child ∷ back ≡ [] → ⊥
@@ -142,29 +146,29 @@ module _ (events : Events) (memory : SharedMemory) (has_returned : Returns) (sta
   not_empty (x ∷ front) back child other = cc
 
   moved_on : (now node : ℕ) (g frame child : FrameId) (top : List FrameId) → Moves has_returned stack now node g top →
-      Stands now frame child → Stands (suc now) frame child
-  moved_on now node g frame child top r (inl h) = inl (edges.stays now child h)
+      Stands now frame child → Kept now frame child
+  moved_on now node g frame child top r (inl h) = inl h
   moved_on now node g frame child top r (inr t) = kept_pop now node frame child r.above (g ∷ r.below) top r.others r.old r.returned r.new t
 
   stands_at : (now : ℕ) (y : Event) → events now ≡ y → StackRule memory has_returned stack now y → (frame child : FrameId) →
       (Here events stack now frame child → Stands now frame child) → here_after stack now y (Here events stack now) frame child →
-      Stands (suc now) frame child
+      Kept now frame child
   stands_at now (Acts node g (Spawn d)) is r frame child ih (inl h) = moved_on now node g frame child (d ∷ []) r (ih h)
   stands_at now (Acts node g (Spawn d)) is r frame child ih (inr (h, h')) =
       inr (record { node = node; front = []; back = r.below; is = subst (λ i. stack (suc now) node ≡ child ∷ (i ∷ r.below)) h (subst (λ i. stack (suc now) node ≡ i ∷ (g ∷ r.below)) h' r.new) })
   stands_at now (Acts node g Sync) is r frame child ih h = moved_on now node g frame child [] r (ih h.0)
   stands_at now (Acts node g (Read word value)) is r frame child ih h = moved_on now node g frame child [] r (ih h)
   stands_at now (Acts node g (Add word value addend)) is r frame child ih h =
-      elim (same_or_not (memory.home (memory.page word)) node) [ inl e' ↦ moved_on now node g frame child [] (r.own e') (ih h) | inr ne ↦ elim (ih h) [ inl k ↦ inl (edges.stays now child k) | inr t ↦ inr (record { node = t.node; front = t.front; back = t.back; is = r.other ne t.node ∙ t.is }) ] ]
+      elim (same_or_not (memory.home (memory.page word)) node) [ inl e' ↦ moved_on now node g frame child [] (r.own e') (ih h) | inr ne ↦ elim (ih h) [ inl k ↦ inl k | inr t ↦ inr (record { node = t.node; front = t.front; back = t.back; is = r.other ne t.node ∙ t.is }) ] ]
   stands_at now (Acts node g (Write word value)) is r frame child ih h = moved_on now node g frame child [] r (ih h)
   stands_at now (Acts node g (Print value)) is r frame child ih h = moved_on now node g frame child [] r (ih h)
   stands_at now (Tick node g) is r frame child ih h = moved_on now node g frame child [] r (ih h)
   stands_at now (TakeUp node d) is r frame child ih h = elim (ih h) [
-    | inl k ↦ inl (edges.stays now child k)
+    | inl k ↦ inl k
     | inr t ↦ kept_others now node frame child r.2 t (λ same. absurd (not_empty t.front (frame ∷ t.back) child (sym t.is ∙ ap (stack now) same ∙ r.0)))
   ]
   stands_at now (Post node x (Grant d)) is r frame child ih h = elim (ih h.0) [
-    | inl k ↦ inl (edges.stays now child k)
+    | inl k ↦ inl k
     | inr t ↦ kept_others now node frame child r.others t
         (λ same. elim (cut_last t.front (r.front ++ r.child ∷ []) t.back child frame d (sym t.is ∙ ap (stack now) same ∙ r.old ∙ assoc r.front r.child d)) [
           | inl (same_tail, l) ↦ absurd (h.1 (sym same_tail) (record { front = t.front; is = r.old ∙ assoc r.front r.child d ∙ ap (λ i. i ++ d ∷ []) l ∙ sym (assoc t.front child d) ∙ ap (λ i. t.front ++ child ∷ (i ∷ [])) (sym same_tail) }))
@@ -172,18 +176,26 @@ module _ (events : Events) (memory : SharedMemory) (has_returned : Returns) (sta
         ])
   ]
   stands_at now (Post node x (Done frame' d)) is r frame child ih h =
-      elim (ih h) [ inl k ↦ inl (edges.stays now child k) | inr t ↦ kept_leave now node frame child d r.0 t ]
+      elim (ih h) [ inl k ↦ inl k | inr t ↦ kept_leave now node frame child d r.0 t ]
   stands_at now (Post node x (Park d)) is r frame child ih h =
-      elim (ih h) [ inl k ↦ inl (edges.stays now child k) | inr t ↦ kept_leave now node frame child d r t ]
+      elim (ih h) [ inl k ↦ inl k | inr t ↦ kept_leave now node frame child d r t ]
   stands_at now (Post node x (Fetch g)) is r frame child ih h =
-      elim (ih h) [ inl k ↦ inl (edges.stays now child k) | inr t ↦ kept_pop now node frame child r.above r.below [] r.others r.old r.returned r.new t ]
+      elim (ih h) [ inl k ↦ inl k | inr t ↦ kept_pop now node frame child r.above r.below [] r.others r.old r.returned r.new t ]
   stands_at now (Post node x (AddTo g word addend)) is r frame child ih h = moved_on now node g frame child [] r (ih h)
   stands_at now (OwnFetch node g ws) is r frame child ih h =
-      elim (ih h) [ inl k ↦ inl (edges.stays now child k) | inr t ↦ kept_pop now node frame child r.above r.below [] r.others r.old r.returned r.new t ]
+      elim (ih h) [ inl k ↦ inl k | inr t ↦ kept_pop now node frame child r.above r.below [] r.others r.old r.returned r.new t ]
   stands_at now y is r frame child ih h =
-      elim (ih h) [ inl k ↦ inl (edges.stays now child k) | inr t ↦ inr (record { node = t.node; front = t.front; back = t.back; is = r t.node ∙ t.is }) ]
+      elim (ih h) [ inl k ↦ inl k | inr t ↦ inr (record { node = t.node; front = t.front; back = t.back; is = r t.node ∙ t.is }) ]
 
   pub stands : (now : ℕ) (frame child : FrameId) → Here events stack now frame child → Stands now frame child
   unfolding Here
   stands zero frame child h = absurd h
-  stands (suc now) frame child h = stands_at now (events now) refl (edges.frames.stacks now) frame child (stands now frame child) h
+  stands (suc now) frame child h =
+      elim (stands_at now (events now) refl (edges.frames.stacks now) frame child (stands now frame child) h) [
+        | inl k ↦ inl (edges.stays now child k)
+        | inr t ↦ inr t
+      ]
+
+  pub kept : (now : ℕ) (frame child : FrameId) → Here events stack (suc now) frame child → Kept now frame child
+  unfolding Here
+  kept now frame child h = stands_at now (events now) refl (edges.frames.stacks now) frame child (stands now frame child) h

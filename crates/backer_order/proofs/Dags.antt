@@ -10,6 +10,7 @@ use Rattle.backer_order.specs.Dag.{Under, At, Below, SyncAt, Precedes}
 use Rattle.backer_order.proofs.Search.{Decided, Less3, Same3, More3, compare, find_first}
 use Rattle.backer_order.proofs.Decide.{same_frame_or_not}
 use Rattle.backer_order.proofs.Settled as settled
+use Rattle.backer_order.proofs.Joins as joins
 use Rattle.backer_order.proofs.Places as places
 
 module _ (events : Events) (memory : SharedMemory) (caching : Caching events memory) (has_returned : Returns) (stack : Stacks) (edges : Edges events memory has_returned stack) (taken : Taken events stack) where
@@ -115,7 +116,7 @@ module _ (events : Events) (memory : SharedMemory) (caching : Caching events mem
     | inl t ↦
         let (other', sy') = t.here in
         let kid = kid_later frame d i node t.at is t.after t.none in
-        let r = edges.sync_returned t.at other' frame d sy' kid in
+        let r = joins.sync_returned events memory has_returned stack edges taken t.at other' frame d sy' kid in
         later frame x (suc t.at) (suc k) (omega (arith, t.before)) (merge t.at other' frame d x sy' kid (ih t.at r))
   ]
 

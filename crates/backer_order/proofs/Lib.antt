@@ -10,5 +10,6 @@ pub mod Places
 pub mod Tokens
 pub mod Waits
 pub mod Blocks
+pub mod Joins
 pub mod Settled
 pub mod Dags

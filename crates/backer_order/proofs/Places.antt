@@ -198,14 +198,10 @@ module _ (events : Events) (memory : SharedMemory) (has_returned : Returns) (sta
     pub out : Out frame (suc post)
     pub clean : (word z : ℕ) → IsWrite events node word z → z < post → Cleaned events node (memory.page word) word z post
     pub quiet : (g : FrameId) → ActOf events g post → ⊥
-    pub no_tick : (g : FrameId) (node : ℕ) → events post ≡ Tick node g → ⊥
     pub none : NoneBetween (TakesUp events frame) post now
 
   post_no_act : (k other r : ℕ) (frame : FrameId) (note : Note) → events k ≡ Post other r note → ActOf events frame k → ⊥
   post_no_act k other r frame note is a = let h = a.2 in cc
-
-  post_no_tick : (k other r : ℕ) (frame : FrameId) (node : ℕ) (note : Note) → events k ≡ Post other r note → events k ≡ Tick node frame → ⊥
-  post_no_tick k other r frame node note is a = cc
 
   abbrev pub RuleAt : ℕ → Type 0
   RuleAt now =
@@ -221,7 +217,6 @@ module _ (events : Events) (memory : SharedMemory) (has_returned : Returns) (sta
       out = grant_out g.post g.sender node frame (invs g.post (omega (arith, g.before))) g.is;
       clean = frames.clean g.post g.sender node (Grant frame) g.is tt;
       quiet = λ i. post_no_act g.post g.sender node i (Grant frame) g.is;
-      no_tick = λ i other. post_no_tick g.post g.sender node i other (Grant frame) g.is;
       none = g.none;
     }
     | inr g ↦ record {
@@ -232,7 +227,6 @@ module _ (events : Events) (memory : SharedMemory) (has_returned : Returns) (sta
       out = park_out g.post g.sender node frame (invs g.post (omega (arith, g.before))) g.is;
       clean = frames.clean g.post g.sender node (Park frame) g.is tt;
       quiet = λ i. post_no_act g.post g.sender node i (Park frame) g.is;
-      no_tick = λ i other. post_no_tick g.post g.sender node i other (Park frame) g.is;
       none = g.none;
     }
   ]

@@ -1,17 +1,18 @@
 -- Settled frames: what is early for a frame on a stack was done there, or has its moment before a TakeUp there.
-use Rattle.std.proofs.Common.{◌≡◌, ℕ, zero, suc, ◌<◌, ◌≤◌, ◌⊎◌, inl, inr, true, [], ◌∷◌, refl, sym, subst, arith}
+use Rattle.std.proofs.Common.{◌≡◌, ℕ, zero, suc, ◌<◌, ◌≤◌, ◌⊎◌, inl, inr, true, ◌∷◌, refl, sym, subst, arith}
 use Rattle.page_messages.specs.declared.closure.FrameId.{FrameId}
-use Rattle.backer_order.specs.Log.{Grant, Park, Post, main_id, Act, Read, Write, Add, Spawn, Sync, Done, Acts, TakeUp, Events, SharedMemory}
-use Rattle.backer_order.specs.Moments.{NoneBetween, IsAccess, Moment}
+use Rattle.backer_order.specs.Log.{main_id, Act, Read, Write, Add, Spawn, Sync, Done, Acts, TakeUp, Events, SharedMemory}
+use Rattle.backer_order.specs.Moments.{IsAccess, Moment}
 use Rattle.backer_order.specs.Rules.{Caching}
 use Rattle.backer_order.specs.HomeOrder.{Before}
-use Rattle.backer_order.specs.Edges.{Stacks, Returns, IsOn, ActOf, Others, StackRule, TakesUp, Spawned, Early, Away, Here, AllClean, Taken, Edges, FromGrant, FromJoin, HasDone, Joined}
+use Rattle.backer_order.specs.Edges.{Stacks, Returns, IsOn, ActOf, Spawned, Early, Away, Here, AllClean, Taken, Edges}
 use Rattle.backer_order.proofs.Search.{Less3, Same3, More3, compare}
 use Rattle.backer_order.proofs.Lists.{mem_right, mem_middle}
 use Rattle.backer_order.proofs.TakeUps as ups
 use Rattle.backer_order.proofs.Waits as waits
 use Rattle.backer_order.proofs.Places as places
 use Rattle.backer_order.proofs.Blocks as blocks
+use Rattle.backer_order.proofs.Joins as joins
 
 module _ (events : Events) (memory : SharedMemory) (caching : Caching events memory) (has_returned : Returns) (stack : Stacks) (edges : Edges events memory has_returned stack) (taken : Taken events stack) where
   abbrev Good : ℕ → ℕ → ℕ → Type 0
@@ -103,16 +104,8 @@ module _ (events : Events) (memory : SharedMemory) (caching : Caching events mem
   ]
 
   -- a returned frame is quiet
-  returned_later : (frame : FrameId) (k now : ℕ) → has_returned k frame ≡ true → k ≤ now → has_returned now frame ≡ true
-  returned_later frame k zero r h = subst (λ i. has_returned i frame ≡ true) (omega arith) r
-  returned_later frame k (suc now) r h = elim (compare k (suc now)) [
-    | Same3 same ↦ subst (λ i. has_returned i frame ≡ true) same r
-    | More3 l ↦ absurd (omega arith)
-    | Less3 l ↦ edges.stays now frame (returned_later frame k now r (omega arith))
-  ]
-
   pub returned_quiet : (frame : FrameId) (k now : ℕ) → has_returned k frame ≡ true → Quiet frame k now
-  returned_quiet frame k now r i h l a = edges.no_act i frame (returned_later frame k i r h) a
+  returned_quiet frame k now r i h l a = edges.no_act i frame (joins.returned_later events memory has_returned stack edges taken frame k i r h) a
 
   -- ---- the invariant
 
@@ -152,72 +145,19 @@ module _ (events : Events) (memory : SharedMemory) (caching : Caching events mem
   abbrev Fines : ℕ → Type 0
   Fines now = (i : ℕ) → i ≤ now → Fine i
 
-  -- a frame that came from its completed join
-  away_back : (frame d : FrameId) (t now node : ℕ) → IsOn frame (stack now node) → NoneBetween (TakesUp events frame) t now → (taker : ℕ) →
-      events t ≡ TakeUp taker frame → (i : ℕ) → t ≤ i → i ≤ now → Away events stack i frame d → Away events stack t frame d
-  away_back frame d t now node on none taker is zero h h' a = subst (λ i. Away events stack i frame d) (omega arith) a
-  away_back frame d t now node on none taker is (suc i) h h' a = elim (compare t (suc i)) [
-    | Same3 same ↦ subst (λ i. Away events stack i frame d) (sym same) a
-    | More3 l ↦ absurd (omega arith)
-    | Less3 l ↦ elim (places.away_step events memory has_returned stack edges.frames i frame d a) [
-      | inl old ↦ away_back frame d t now node on none taker is i (omega arith) (omega arith) old
-      | inr (other, r, gr) ↦ elim (compare t i) [
-        | Same3 same ↦ let is' : events i ≡ TakeUp taker frame = subst (λ j. events j ≡ TakeUp taker frame) same is in absurd cc
-        | More3 l' ↦ absurd (omega arith)
-        | Less3 l' ↦
-            let out = places.grant_out events memory has_returned stack edges.frames i other r frame (inv i) gr in
-            let on_i = places.grant_mem events memory has_returned stack edges.frames i other r frame gr in
-            absurd (places.stays_out events memory has_returned stack edges.frames frame i now out (λ j k k' sp. places.not_again events memory has_returned stack edges.frames i other frame j (inv i) on_i (omega arith) sp) (λ j k k' up. none j (omega arith) k' up) now (omega arith) (omega arith) node on)
-      ]
-    ]
-  ]
-
-  only_there : (frame : FrameId) (t taker : ℕ) → events t ≡ TakeUp taker frame → (now : ℕ) → NoneBetween (TakesUp events frame) t now →
-      t < now → (node : ℕ) → IsOn frame (stack now node) → node ≡ taker
-  only_there frame t taker is zero none l node m = absurd (omega arith)
-  only_there frame t taker is (suc now) none l node m =
-      let r : (stack t taker ≡ []) × (stack (suc t) taker ≡ frame ∷ []) × Others stack t taker =
-      subst (λ y. StackRule memory has_returned stack t y) is (edges.frames.stacks t) in
-      let on : IsOn frame (stack (suc t) taker) = subst (λ k. IsOn frame k) (sym r.1) (inl refl) in
-      elim (compare t now) [
-        | Same3 same ↦ (inv (suc t)).apart node taker frame (subst (λ j. IsOn frame (stack (suc j) node)) (sym same) m) on
-        | More3 l' ↦ absurd (omega arith)
-        | Less3 l' ↦ elim (places.comes events memory has_returned stack edges.frames now node frame m) [
-          | inl old ↦ only_there frame t taker is now (λ j k k' up. none j k (omega arith) up) l' node old
-          | inr (inl (g, sp)) ↦ absurd (places.not_again events memory has_returned stack edges.frames (suc t) taker frame now (inv (suc t)) on (omega arith) (node, g, sp))
-          | inr (inr up) ↦ absurd (none now l' (omega arith) (node, up))
-        ]
-      ]
-
-  -- what is taken up from its join was not granted there, so the join is complete
-  all_done : (frame : FrameId) → {now : ℕ} → (j : Joined events now frame) →
-      FromGrant events j.at j.node frame ⊎ FromJoin events stack j.at j.node frame → (d : FrameId) → Away events stack j.at frame d →
-      HasDone events j.at frame d
-  all_done frame j (inr join) d a = join.complete d a
-  all_done frame j (inl grant) d a =
-      let park = j.join in
-      let same : park.post ≡ grant.post =
-      places.same_token events memory has_returned stack edges.frames j.at park.post grant.post j.node j.node frame
-      (places.all_invs events memory has_returned stack edges.frames taken j.at) park.before grant.before (park.sender, inr park.is)
-      (grant.sender, inl grant.is) park.none grant.none in
-      absurd (not_both park.post park.sender grant.sender j.node frame park.is (subst (λ i. events i ≡ Post grant.sender j.node (Grant frame)) (sym same) grant.is))
-    where
-      not_both : (k sender other node : ℕ) (frame : FrameId) → events k ≡ Post sender node (Park frame) →
-          events k ≡ Post other node (Grant frame) → ⊥
-      not_both k sender other node frame a b = cc
-
   from_join : (now node : ℕ) (frame d : FrameId) (x : ℕ) → Fines now → IsOn frame (stack now node) → events now ≡ Acts node frame Sync →
       Away events stack now frame d → Early events now d x → Good (suc now) node x
   from_join now node frame d x fines on is a m =
-      let j = edges.sync_joined now node frame d is a in
-      let a' = away_back frame d j.at now node on j.last j.node j.is now (omega (arith, j.before)) (omega arith) a in
-      let dn = all_done frame j (taken j.at j.node frame j.is) d a' in
+      let jd = joins.joined_done events memory has_returned stack edges taken now node frame d is a in
+      let j = jd.joined in
+      let dn = jd.done in
       let (on_d, r) = places.done_mem events memory has_returned stack edges.frames dn.post dn.sender dn.receiver frame d dn.is in
       let old : Early events dn.post d x =
       frozen d x dn.post now ((inv dn.post).born dn.sender d on_d) (returned_quiet d dn.post now r) (omega (arith, dn.before, j.before))
       m in
       let g = (fines dn.post (omega (arith, dn.before, j.before))).early dn.sender d x on_d old in
-      let same_node : node ≡ j.node = only_there frame j.at j.node j.is now j.last j.before node on in
+      let same_node : node ≡ j.node =
+      joins.only_there events memory has_returned stack edges taken frame j.at j.node j.is now j.last j.before node on in
       let good : Good (suc now) (j.node) x =
       passed_on dn.post dn.sender j.at j.node frame (suc now) x
       (edges.frames.clean dn.post dn.sender dn.receiver (Done frame d) dn.is tt) g (early_before dn.post d x old) dn.before j.is
@@ -238,7 +178,7 @@ module _ (events : Events) (memory : SharedMemory) (caching : Caching events mem
             let same_node : k.node ≡ node = (inv now).apart k.node node g (actor_on now k.node g Sync k.is) on in
             let is' : events now ≡ Acts node g Sync = subst (λ i. events now ≡ Acts i g Sync) same_node k.is in
             elim (blocks.here_or_away events memory has_returned stack edges now g k.child k.kid) [
-              | inl h ↦ good_more now node x (fine.kept node g k.child x on h (edges.sync_returned now node g k.child is' k.kid) k.early)
+              | inl h ↦ good_more now node x (fine.kept node g k.child x on h (joins.here_returned events memory has_returned stack edges taken now node g k.child is' h) k.early)
               | inr h ↦ from_join now node g k.child x fines on is' h k.early
             ]
       ]
@@ -313,12 +253,11 @@ module _ (events : Events) (memory : SharedMemory) (caching : Caching events mem
     up_kept d x h m =
         let h1 = here_frozen frame d (suc from.post) (suc now) (λ i k k'. quiet i (omega arith) k') (omega (arith, from.before)) h in
         let h0 = here_frozen frame d from.post (suc from.post) (λ i k k'. quiet i k (omega (arith, from.before))) (omega arith) h1 in
-        let r1 : has_returned (suc from.post) d ≡ true =
-        elim (blocks.stands events memory has_returned stack edges (suc from.post) frame d h1) [
+        let r0 : has_returned (from.post) d ≡ true =
+        elim (blocks.kept events memory has_returned stack edges from.post frame d h1) [
           | inl r ↦ r
           | inr t ↦ absurd (from.out t.node (subst (λ l. IsOn frame l) (sym t.is) (mem_right frame t.front (d ∷ (frame ∷ t.back)) (inr (inl refl)))))
         ] in
-        let r0 = edges.by_own_item from.post d (from.quiet d) (from.no_tick d) r1 in
         let b = here_born from.post frame d h0 in
         let old = frozen d x from.post (suc now) (inr (b.birth, b.before, b.spawned)) (returned_quiet d from.post (suc now) r0) (omega (arith, from.before)) m in
         let g = (fines from.post (omega (arith, from.before))).kept from.node frame d x from.on h0 r0 old in

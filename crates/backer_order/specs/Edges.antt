@@ -252,20 +252,16 @@ pub record Frames (events : Events) (memory : SharedMemory) (has_returned : Retu
       AddDone events memory node post at
   pub clean : (at node receiver : ℕ) (note : Note) → events at ≡ Post node receiver note → IsEdge note → AllClean events memory node at
 
--- The rules for edges, beside those for stacks. A frame that has returned makes no act, stays so, and has no child of its block left; a
--- frame returns by an act or a tick of its own. Empty cache at take-up: a node that takes up a frame drops its resident pages before all
--- else. Joins: at a sync each child of the block has returned, and where the frame was stolen from below one, its last take-up was from its
--- join.
+-- The rules for edges, beside those for stacks. A frame that has returned makes no act, stays so, and has no child of its block left. Empty
+-- cache at take-up: a node that takes up a frame drops its resident pages before all else. Joins: where a frame syncs that was stolen from
+-- below a child of the block, its last take-up was from its join. With the rules for the ready list it follows that each child of the block
+-- has returned by then.
 pub record Edges (events : Events) (memory : SharedMemory) (has_returned : Returns) (stack : Stacks) : Type 0 where
   pub frames : Frames events memory has_returned stack
   pub no_act : (now : ℕ) (frame : FrameId) → has_returned now frame ≡ true → ActOf events frame now → ⊥
   pub stays : (now : ℕ) (frame : FrameId) → has_returned now frame ≡ true → has_returned (suc now) frame ≡ true
-  pub by_own_item : (now : ℕ) (frame : FrameId) → (ActOf events frame now → ⊥) → ((node : ℕ) → events now ≡ Tick node frame → ⊥) →
-      has_returned (suc now) frame ≡ true → has_returned now frame ≡ true
   pub no_children : (now : ℕ) (frame child : FrameId) → has_returned now frame ≡ true → BlockChild events now frame child → ⊥
   pub drops : (now node : ℕ) (frame : FrameId) (page arrival : ℕ) (words : ℕ → ℤ) → events now ≡ TakeUp node frame →
       Resident events node page now arrival words → DropsAll events now node page
-  pub sync_returned : (now node : ℕ) (frame child : FrameId) → events now ≡ Acts node frame Sync → BlockChild events now frame child →
-      has_returned now child ≡ true
   pub sync_joined : (now node : ℕ) (frame child : FrameId) → events now ≡ Acts node frame Sync → Away events stack now frame child →
       Joined events now frame
