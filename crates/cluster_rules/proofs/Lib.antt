@@ -13,3 +13,5 @@ pub mod DecidingRuns
 pub mod DecidingClosures
 pub mod Worked
 pub mod Marks
+pub mod Senders
+pub mod Stepping
