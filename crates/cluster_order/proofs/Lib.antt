@@ -14,3 +14,4 @@ pub mod Homing
 pub mod Answering
 pub mod Cleaning
 pub mod Caching
+pub mod Shedding
