@@ -15,3 +15,4 @@ pub mod Answering
 pub mod Cleaning
 pub mod Caching
 pub mod Shedding
+pub mod Returning
