@@ -16,3 +16,4 @@ pub mod Cleaning
 pub mod Caching
 pub mod Shedding
 pub mod Returning
+pub mod Stepping
