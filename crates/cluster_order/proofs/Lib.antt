@@ -17,3 +17,4 @@ pub mod Caching
 pub mod Shedding
 pub mod Returning
 pub mod Stepping
+pub mod StackRules
