@@ -18,3 +18,4 @@ pub mod Shedding
 pub mod Returning
 pub mod Stepping
 pub mod StackRules
+pub mod Naming
