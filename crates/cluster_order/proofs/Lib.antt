@@ -19,3 +19,4 @@ pub mod Returning
 pub mod Stepping
 pub mod StackRules
 pub mod Naming
+pub mod Leaving

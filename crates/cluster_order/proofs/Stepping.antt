@@ -22,7 +22,7 @@ use Rattle.cluster_order.proofs.Returning.{node_below, stands_so, returned_so}
 abbrev pub stack_behind : Node → Event → Past → List Life
 stack_behind node event past = (frames_on node event past (frames_of node past)).stack
 
-behind_is : (node : Node) (event : Event) (past : Past) → stack_of node (event ∷ past) ≡ stack_behind node event past
+pub behind_is : (node : Node) (event : Event) (past : Past) → stack_of node (event ∷ past) ≡ stack_behind node event past
 unfolding frames_of
 behind_is node event past = refl
 
