@@ -20,3 +20,5 @@ pub mod Stepping
 pub mod StackRules
 pub mod Naming
 pub mod Leaving
+pub mod Clearing
+pub mod Stacking
