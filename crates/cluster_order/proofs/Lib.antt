@@ -22,3 +22,5 @@ pub mod Naming
 pub mod Leaving
 pub mod Clearing
 pub mod Stacking
+pub mod Following
+pub mod Staying
