@@ -14,3 +14,13 @@ pub mod Homing
 pub mod Answering
 pub mod Cleaning
 pub mod Caching
+pub mod Shedding
+pub mod Returning
+pub mod Stepping
+pub mod StackRules
+pub mod Naming
+pub mod Leaving
+pub mod Clearing
+pub mod Stacking
+pub mod Following
+pub mod Staying
