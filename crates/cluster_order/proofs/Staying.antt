@@ -1,15 +1,15 @@
 -- What has returned stays so, and a take-up leaves the cache empty.
-use Rattle.std.proofs.Common.{◌≡◌, ◌⊎◌, inl, inr, ℕ, ℤ, suc, ◌<◌, ◌≤◌, List, [], ◌∷◌, ◌++◌, map, Option, Some, None, Bool, true, false, cond, ◌||◌, eqb, refl, sym, ◌∙◌, ap, subst, arith}
+use Rattle.std.proofs.Common.{◌≡◌, ◌⊎◌, inl, inr, ℕ, ℤ, suc, ◌<◌, ◌≤◌, List, [], ◌∷◌, ◌++◌, map, Bool, true, false, ◌||◌, eqb, refl, sym, ◌∙◌, subst, arith}
 use Rattle.std.proofs.lemmas.Bool.Decides.{nat_tests}
 use Rattle.page_messages.specs.declared.closure.FrameId.{FrameId}
 use Rattle.page_messages.specs.declared.message.Msg.{Msg}
 use Rattle.page_messages.specs.declared.log.Item.{Item}
 use Rattle.page_messages.specs.declared.log.Item.TheVariants as item
-use Rattle.cluster_rules.specs.Turns.{WholeTurn, Event, Did, Past}
+use Rattle.cluster_rules.specs.Turns.{WholeTurn, Did, Past}
 use Rattle.cluster_rules.specs.Node.{Node}
 use Rattle.cluster_rules.specs.Cache.{is_resident, is_among}
 use Rattle.cluster_rules.specs.Paging.{MayTakeUp}
-use Rattle.cluster_rules.specs.Positions.{Moved, Course, course_of, own, at, before, Happens}
+use Rattle.cluster_rules.specs.Positions.{Course, course_of, own, before, Happens}
 use Rattle.cluster_rules.specs.Runs.{Cluster, IsLawful, node_at, IsOwed, IsFree, MayDo}
 use Rattle.backer_order.specs.Log as log
 use Rattle.backer_order.specs.Moments.{Resident}
@@ -86,7 +86,7 @@ module _ (cluster : Cluster) (turns : List WholeTurn) (lawful : IsLawful cluster
     after = let behind = it.behind in omega (arith, behind);
     is = event_there cluster turns lawful number (it.at) (Did (item.Drop page)) (it.is);
     between = λ any above below.
-      let one = it.between any (omega (arith, above)) below in (one.0, event_there cluster turns lawful number any (Did (item.Drop (one.0))) (one.1));
+        let one = it.between any (omega (arith, above)) below in (one.0, event_there cluster turns lawful number any (Did (item.Drop (one.0))) (one.1));
   }
     where
       happens : Happens course number now (Did (item.TakeUp frame))
