@@ -165,7 +165,8 @@ module _ (cluster : Cluster) (turns : List WholeTurn) (lawful : IsLawful cluster
   past number position = own number (before course position)
 
   -- each add that was asked for is done there
-  added_there : (number position post home : ℕ) (frame : FrameId) (word : ℕ) (addend : ℤ) (moved : Moved) → at course position ≡ Some moved → events post ≡ log.Post number home (log.AddTo frame word addend)
+  added_there : (number position post home : ℕ) (frame : FrameId) (word : ℕ) (addend : ℤ) (moved : Moved) → at course position ≡ Some moved
+      → events post ≡ log.Post number home (log.AddTo frame word addend)
       → post < position → awaits ForAdded (past number position) ≡ false → AddDone events (memory_of cluster) number post position
   added_there number position post home frame word addend moved found posted less quiet =
       let it = posted_is cluster course post number home (log.AddTo frame word addend) posted in

@@ -67,7 +67,8 @@ returned_front [] back all = (tt, all)
 returned_front (life ∷ front) back all = let parts = returned_front front back (all.1) in ((all.0, parts.0), parts.1)
 
 -- one of these names is that of a frame among those, which has returned
-pub each_returned : (Holds : FrameId → Type 0) (lives : List Life) → AllReturned lives → ((front back : List Life) (life : Life) → lives ≡ front ++ life ∷ back → is_some (returned life) ≡ true → Holds life.id)
+pub each_returned : (Holds : FrameId → Type 0) (lives : List Life) → AllReturned lives
+    → ((front back : List Life) (life : Life) → lives ≡ front ++ life ∷ back → is_some (returned life) ≡ true → Holds life.id)
     → Each Holds (names lives)
 each_returned Holds [] all holds frame on = absurd on
 each_returned Holds (life ∷ lives) all holds frame (inl same) = subst Holds same (holds [] lives life refl (all.0))

@@ -79,7 +79,8 @@ module _ (cluster : Cluster) (turns : List WholeTurn) (lawful : IsLawful cluster
       (moves cluster turns lawful number position (Did (item.Act frame index done)) happens life (spawned_in done) (may.1.acts.is)
       (λ below is. ap (λ all. names (after_act (node number) done all)) is ∙ act_names (node number) done life below))
 
-  act_rule : (number position : ℕ) (frame : FrameId) (index : ℕ) (done : LoggedAct) → Happens course number position (Did (item.Act frame index done)) → Rule position (log.Acts number frame (act_of done))
+  act_rule : (number position : ℕ) (frame : FrameId) (index : ℕ) (done : LoggedAct) → Happens course number position (Did (item.Act frame index done))
+      → Rule position (log.Acts number frame (act_of done))
   act_rule number position frame index (act.Read word value) happens = act_moves number position frame index (act.Read word value) happens
   act_rule number position frame index (act.Write word value) happens = act_moves number position frame index (act.Write word value) happens
   act_rule number position frame index (act.Print value) happens = act_moves number position frame index (act.Print value) happens
@@ -148,7 +149,8 @@ module _ (cluster : Cluster) (turns : List WholeTurn) (lawful : IsLawful cluster
   -- ---- posts
 
   -- a Grant
-  pub grant_rule : (number position : ℕ) (message : Msg) (closure : Closure) → Happens course number position (Sent message) → message.body ≡ body.Grant closure → Grants stacks position number closure.id
+  pub grant_rule : (number position : ℕ) (message : Msg) (closure : Closure) → Happens course number position (Sent message) → message.body ≡ body.Grant closure
+      → Grants stacks position number closure.id
   grant_rule number position message closure happens says =
       let may = grant_allowed cluster turns lawful number position message closure happens says in
       let stack = stack_of (node number) (past number position) in
@@ -194,7 +196,8 @@ module _ (cluster : Cluster) (turns : List WholeTurn) (lawful : IsLawful cluster
 
   -- what is posted of other kinds
   sent_still : (number position : ℕ) (message : Msg) → Happens course number position (Sent message)
-      → names (stack_sent message.body (stack_of (node number) (past number position))) ≡ names (stack_of (node number) (past number position)) → (any : ℕ) → stacks (suc position) any ≡ stacks position any
+      → names (stack_sent message.body (stack_of (node number) (past number position))) ≡ names (stack_of (node number) (past number position))
+      → (any : ℕ) → stacks (suc position) any ≡ stacks position any
   sent_still number position message happens same = unchanged cluster turns lawful number position (Sent message) happens same
 
   abbrev sent_names : (number position : ℕ) {one other : Body} → one ≡ other

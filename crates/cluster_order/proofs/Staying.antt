@@ -39,7 +39,12 @@ dropped_in course number position page (first ∷ pages) others follow among =
     on : (b : Bool) → eqb first page ≡ b → b || is_among page pages ≡ true → (is_among page pages ≡ true → DroppedIn course number (suc position) page) → DroppedIn course number position page
     on true is any rest =
         let same : first ≡ page = grind (arith, nat_tests) in
-        record { at = position; behind = omega (arith); is = subst (λ it. Happens course number position (Did (item.Drop it))) same (follow.0); between = λ i above below. absurd (omega (arith, above, below)) }
+        record {
+          at = position;
+          behind = omega (arith);
+          is = subst (λ it. Happens course number position (Did (item.Drop it))) same (follow.0);
+          between = λ i above below. absurd (omega (arith, above, below));
+        }
     on false is any rest = later (rest any)
       where
         later : DroppedIn course number (suc position) page → DroppedIn course number position page
@@ -74,13 +79,15 @@ module _ (cluster : Cluster) (turns : List WholeTurn) (lawful : IsLawful cluster
       doing : Doing cluster number course position (item.TakeUp frame)
       doing = followed cluster turns lawful number position (item.TakeUp frame) happens
 
-      on : (rest : List Item) (posts : List Msg) → IsOwed (node number) (past number position) (item.TakeUp frame) ⊎ (IsFree (past number position) × MayDo (node number) (past number position) (item.TakeUp frame) rest posts)
+      on : (rest : List Item) (posts : List Msg)
+          → IsOwed (node number) (past number position) (item.TakeUp frame) ⊎ (IsFree (past number position) × MayDo (node number) (past number position) (item.TakeUp frame) rest posts)
           → Follow course number (suc position) rest → (rest : List Item) × MayTakeUp (node number) (past number position) frame rest × Follow course number (suc position) rest
       on rest posts (inl owed) follow = absurd owed
       on rest posts (inr both) follow = (rest, both.1, follow)
 
   -- A node that takes up a frame drops its resident pages before all else.
-  pub drops : (now number : ℕ) (frame : FrameId) (page arrival : ℕ) (words : ℕ → ℤ) → events now ≡ log.TakeUp number frame → Resident events number page now arrival words → DropsAll events now number page
+  pub drops : (now number : ℕ) (frame : FrameId) (page arrival : ℕ) (words : ℕ → ℤ) → events now ≡ log.TakeUp number frame
+      → Resident events number page now arrival words → DropsAll events now number page
   drops now number frame page arrival words is resident = record {
     at = it.at;
     after = let behind = it.behind in omega (arith, behind);

@@ -111,7 +111,8 @@ module _ (cluster : Cluster) (turns : List WholeTurn) (lawful : IsLawful cluster
   moves number position event happens life top is goes = record {
     above = names (it.above);
     below = names (rest.0);
-    old = stack_before number position (happens.moved) (happens.is) ∙ ap names (it.parts) ∙ names_append (it.above) (it.below) ∙ ap (λ all. names (it.above) ++ all) (sym (it.same) ∙ ap names (rest.1));
+    old = stack_before number position (happens.moved) (happens.is) ∙ ap names (it.parts) ∙ names_append (it.above) (it.below)
+        ∙ ap (λ all. names (it.above) ++ all) (sym (it.same) ∙ ap names (rest.1));
     returned = above_returned number position event happens (it.above) (it.below) (it.parts) (it.returned);
     new = stack_after number position event happens ∙ goes (rest.0) (rest.1);
     others = stack_other number position event happens;
