@@ -1,8 +1,7 @@
 -- Reconcile before an edge: all that a node wrote is cleaned where it posts a Grant, a Done or a Park.
-use Rattle.std.proofs.Common.{◌≡◌, ◌≤◌, ℕ, ℤ, ◌<◌, List, [], ◌++◌, length, Some, refl, sym, ◌∙◌, ap, arith}
+use Rattle.std.proofs.Common.{◌≡◌, ℕ, List, [], Some, sym, arith}
 use Rattle.std.proofs.lemmas.List.{append-nil}
 use Rattle.cluster_rules.specs.Turns.{WholeTurn, Sent, Past}
-use Rattle.cluster_rules.specs.Node.{Node}
 use Rattle.cluster_rules.specs.Edges.{IsAllClean}
 use Rattle.cluster_rules.specs.Positions.{Moved, Course, course_of, own, at, before}
 use Rattle.cluster_rules.specs.Runs.{Cluster, IsLawful, node_at}

@@ -1,16 +1,15 @@
 -- An item at a position, with the items behind it in its turn, which stand at the next positions.
-use Rattle.std.proofs.Common.{◌≡◌, ◌⊎◌, inl, inr, ℕ, suc, ◌+◌, ◌<◌, List, [], ◌∷◌, Option, Some, None, Bool, true, false, cond, eqb, length, refl, sym, ◌∙◌, ap, subst, arith}
+use Rattle.std.proofs.Common.{◌≡◌, ◌⊎◌, inl, inr, ℕ, suc, ◌+◌, List, [], ◌∷◌, Option, Some, None, Bool, true, false, cond, eqb, length, refl, sym, ◌∙◌, ap, subst, arith}
 use Rattle.std.proofs.lemmas.Bool.Decides.{nat_tests}
 use Rattle.cilk_meaning.specs.declared.ends.NodeEnd.{NodeEnd}
 use Rattle.page_messages.specs.declared.message.Msg.{Msg}
 use Rattle.page_messages.specs.declared.log.Item.{Item}
 use Rattle.page_messages.specs.declared.log.PostAt.{PostAt}
-use Rattle.cluster_rules.specs.Turns.{WholeTurn, Event, Did, Sent, Took, Ended, Past, posted_at, past_of}
-use Rattle.cluster_rules.specs.Node.{Node}
+use Rattle.cluster_rules.specs.Turns.{WholeTurn, Did, Sent, Took, Ended, posted_at, past_of}
 use Rattle.cluster_rules.specs.Positions.{Moved, Course, with_items, with_posts, with_taking, with_end, with_turn, course_of, own, at, before, Happens}
 use Rattle.cluster_rules.specs.Runs.{Cluster, IsLawful, IsNext, node_at, IsOwed, IsFree, MayDo, MayDoAll, deeds_of, no_deeds, Moves}
 use Rattle.cluster_rules.proofs.Coursing.{own_course}
-use Rattle.cluster_order.proofs.Growing.{Grown, grown_items, grown_posts, grown_taking, grown_end, grown_twice, grown_turn, within, at_grown, before_grown, at_last, before_last}
+use Rattle.cluster_order.proofs.Growing.{Grown, grown_items, grown_posts, grown_taking, grown_end, grown_twice, grown_turn, at_grown, before_grown, at_last, before_last}
 use Rattle.cluster_order.proofs.Between.{own_first}
 
 -- the node does these items at this position and the next ones
@@ -27,9 +26,10 @@ here number item course more grown =
 pub follow_items : (number : ℕ) (items : List Item) (course more : Course) → Grown (with_items number items course) more → Follow more number (length course) items
 follow_items number [] course more grown = tt
 follow_items number (item ∷ items) course more grown =
-    let moved : Moved = record { node = number; event = Did item; message = None } in
-    (here number item course more (grown_twice (moved ∷ course) (with_items number items (moved ∷ course)) more (grown_items number items (moved ∷ course)) grown),
-      follow_items number items (moved ∷ course) more grown)
+    let moved : Moved = record { node = number; event = Did item; message = None } in (
+      here number item course more (grown_twice (moved ∷ course) (with_items number items (moved ∷ course)) more (grown_items number items (moved ∷ course)) grown),
+      follow_items number items (moved ∷ course) more grown,
+    )
 
 -- The item is owed, or may be done before the rest of its turn, which follows.
 pub record Doing (cluster : Cluster) (number : ℕ) (course : Course) (position : ℕ) (item : Item) : Type 0 where
@@ -64,7 +64,7 @@ in_items cluster number posts (item ∷ items) course more may grown position mo
         let same : first ≡ moved = cc in
         let place : position ≡ length course = grind (arith, nat_tests) in
         let past_is : own number (before more (length course)) ≡ own number course =
-          ap (own number) (before_grown (first ∷ course) more first_grown (length course) (omega (arith)) ∙ before_last first course) in
+        ap (own number) (before_grown (first ∷ course) more first_grown (length course) (omega (arith)) ∙ before_last first course) in
         let doing : Doing cluster number more (length course) item = record {
           rest = items;
           posts = posts;

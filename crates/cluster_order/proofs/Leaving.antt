@@ -1,11 +1,9 @@
 -- A stack leaves its node only where no add of the node is waited for.
-use Rattle.std.proofs.Common.{◌≡◌, ◌≢◌, ◌⊎◌, inl, inr, ℕ, ℤ, suc, ◌<◌, List, [], ◌∷◌, ◌++◌, append_assoc, Option, Some, None, Bool, true, false, cond, ◌||◌, refl, sym, ◌∙◌, ap, subst}
+use Rattle.std.proofs.Common.{◌≡◌, ◌⊎◌, inl, inr, ℕ, ℤ, ◌<◌, List, [], ◌∷◌, ◌++◌, append_assoc, Some, Bool, true, false, cond, ◌||◌, refl, sym, ◌∙◌, ap, subst}
 use Rattle.std.specs.List.{list_any}
 use Rattle.cilk_meaning.specs.Wants as want
 use Rattle.cilk_meaning.specs.Wants.{Asks}
 use Rattle.page_messages.specs.declared.closure.FrameId.{FrameId}
-use Rattle.page_messages.specs.declared.closure.JoinId.{JoinId}
-use Rattle.page_messages.specs.declared.closure.Closure.{Closure}
 use Rattle.page_messages.specs.declared.message.Msg.{Msg}
 use Rattle.page_messages.specs.declared.message.Body.{Body}
 use Rattle.page_messages.specs.declared.message.Body.TheVariants as body
@@ -15,15 +13,12 @@ use Rattle.cluster_rules.specs.Walking.{since, is_empty, first_of}
 use Rattle.cluster_rules.specs.Turns.{WholeTurn, Event, Did, Sent, Took, Ended, Past}
 use Rattle.cluster_rules.specs.Node.{Node}
 use Rattle.cluster_rules.specs.Sendings.{ForAdded, awaits, begins, ends, adds_in, tells_in}
-use Rattle.cluster_rules.specs.Home.{replies_in, owed_adds}
+use Rattle.cluster_rules.specs.Home.{replies_in}
 use Rattle.cluster_rules.specs.Lives.{Life, want_of, live, added, without_bottom}
 use Rattle.cluster_rules.specs.Frames.{Frames, frames_took, frames_of, stack_of, stack_sent}
-use Rattle.cluster_rules.specs.Acting.{MayPostAdd}
-use Rattle.cluster_rules.specs.Paging.{MayFetch}
-use Rattle.cluster_rules.specs.Edges.{MayGrant, MayDone, MayPark}
-use Rattle.cluster_rules.specs.Positions.{Moved, Course, course_of, own, at, before, Happens}
+use Rattle.cluster_rules.specs.Positions.{Moved, Course, course_of, own, at, before}
 use Rattle.cluster_rules.specs.Runs.{Cluster, IsLawful, node_at, IsOwed, IsFree, MayDo, MayPost, MaySend}
-use Rattle.cluster_rules.specs.Allowed.{IsAllowed, AllAllowed, DoesItem}
+use Rattle.cluster_rules.specs.Allowed.{IsAllowed, AllAllowed}
 use Rattle.cluster_rules.proofs.Lawful.{lawful_past}
 use Rattle.cluster_rules.proofs.Coursing.{at_splits, own_course}
 use Rattle.cluster_rules.proofs.Marks.{AddsFirst, WantsAdd, live_first, first_is, bottom_gone, kept_first}
@@ -50,7 +45,7 @@ all_allowed cluster turns lawful number position moved found =
     let split = at_splits (course_of turns) position moved found in
     let front = before (course_of turns) position in
     let parts : own number (course_of turns) ≡ own number (split.later ++ moved ∷ []) ++ own number front =
-      ap (own number) (split.parts ∙ sym (append_assoc (split.later) (moved ∷ []) front)) ∙ own_more number (split.later ++ moved ∷ []) front in
+    ap (own number) (split.parts ∙ sym (append_assoc (split.later) (moved ∷ []) front)) ∙ own_more number (split.later ++ moved ∷ []) front in
     allowed_back (node_at cluster number) (own number (split.later ++ moved ∷ [])) (own number front)
     (subst (AllAllowed (node_at cluster number)) (sym (own_course number turns) ∙ parts) (lawful_past cluster turns number lawful))
 
@@ -170,13 +165,14 @@ module _ (cluster : Cluster) (turns : List WholeTurn) (lawful : IsLawful cluster
   past number position = own number (before course position)
 
   -- each add that was asked for is done there
-  added_there : (number position post home : ℕ) (frame : FrameId) (word : ℕ) (addend : ℤ) (moved : Moved) → at course position ≡ Some moved → events post ≡ log.Post number home (log.AddTo frame word addend)
+  added_there : (number position post home : ℕ) (frame : FrameId) (word : ℕ) (addend : ℤ) (moved : Moved) → at course position ≡ Some moved
+      → events post ≡ log.Post number home (log.AddTo frame word addend)
       → post < position → awaits ForAdded (past number position) ≡ false → AddDone events (memory_of cluster) number post position
   added_there number position post home frame word addend moved found posted less quiet =
       let it = posted_is cluster course post number home (log.AddTo frame word addend) posted in
       let says = add_is cluster number (before course post) frame word addend (it.1.body) (it.4) in
       let request : Request cluster turns lawful number ForAdded post =
-        record { message = it.1; is = happens cluster course post number (it.0) (Sent (it.1)) (it.2); asks = ap adds_in (says.1) } in
+      record { message = it.1; is = happens cluster course post number (it.0) (Sent (it.1)) (it.2); asks = ap adds_in (says.1) } in
       let told = told_where_quiet cluster turns lawful number ForAdded position moved found quiet post request less in
       done_by cluster turns lawful number post (told.0) position (told.2) (told.1)
 
@@ -189,7 +185,7 @@ module _ (cluster : Cluster) (turns : List WholeTurn) (lawful : IsLawful cluster
       let may = done_allowed cluster turns lawful number position (it.1) (says.0) (says.1) (says.2) sent (says.3) in
       added_there number position post home frame word addend (sent.moved) (sent.is) posted less
       (no_wait (node number) (past number position) (λ first. not_returned (stack_of (node number) (past number position)) first (may.returned.none_left))
-        (all_allowed cluster turns lawful number position (sent.moved) (sent.is)))
+      (all_allowed cluster turns lawful number position (sent.moved) (sent.is)))
   leave number position post home receiver frame word addend (log.Park parked) posted less is leaves =
       let it = posted_is cluster course position number receiver (log.Park parked) is in
       let sent = happens cluster course position number (it.0) (Sent (it.1)) (it.2) in
@@ -197,7 +193,7 @@ module _ (cluster : Cluster) (turns : List WholeTurn) (lawful : IsLawful cluster
       let may = park_allowed cluster turns lawful number position (it.1) (says.0) (says.1) sent (says.2) in
       added_there number position post home frame word addend (sent.moved) (sent.is) posted less
       (no_wait (node number) (past number position) (λ first. not_syncing (stack_of (node number) (past number position)) (may.life) first (may.at_join.alone) (may.at_join.wanted))
-        (all_allowed cluster turns lawful number position (sent.moved) (sent.is)))
+      (all_allowed cluster turns lawful number position (sent.moved) (sent.is)))
   leave number position post home receiver frame word addend (log.Fetch page) posted less is leaves = absurd leaves
   leave number position post home receiver frame word addend (log.Page page words) posted less is leaves = absurd leaves
   leave number position post home receiver frame word addend (log.Reconcile parts) posted less is leaves = absurd leaves

@@ -1,21 +1,19 @@
 -- Names of frames: a child has a new one, and never that of `main`.
-use Rattle.std.proofs.Common.{◌≡◌, ◌≢◌, ◌⊎◌, inl, inr, ℕ, ℤ, suc, ◌+◌, ◌<◌, ◌≤◌, List, [], ◌∷◌, ◌++◌, append_assoc, Option, Some, None, Bool, true, false, cond, eqb, refl, sym, ◌∙◌, ap, subst, arith}
+use Rattle.std.proofs.Common.{◌≡◌, ◌≢◌, ◌⊎◌, inl, inr, ℕ, ℤ, ◌<◌, ◌≤◌, List, [], ◌∷◌, ◌++◌, true, eqb, refl, sym, ◌∙◌, ap, subst, arith}
 use Rattle.std.proofs.lemmas.Bool.Decides.{nat_tests}
 use Rattle.page_messages.specs.declared.closure.FrameId.{FrameId}
-use Rattle.page_messages.specs.declared.log.LoggedAct.{LoggedAct}
 use Rattle.page_messages.specs.declared.log.LoggedAct.TheVariants as act
 use Rattle.page_messages.specs.declared.log.Item.TheVariants as item
-use Rattle.cluster_rules.specs.Turns.{WholeTurn, Event, Did, Past}
+use Rattle.cluster_rules.specs.Turns.{WholeTurn, Did, Past}
 use Rattle.cluster_rules.specs.Node.{Node}
 use Rattle.cluster_rules.specs.Frames.{next_frame}
-use Rattle.cluster_rules.specs.Positions.{Moved, Course, course_of, own, at, before, Happens}
+use Rattle.cluster_rules.specs.Positions.{Course, course_of, own, before, Happens}
 use Rattle.cluster_rules.specs.Runs.{Cluster, IsLawful, node_at}
 use Rattle.backer_order.specs.Log as log
 use Rattle.backer_order.specs.Edges.{Spawned}
 use Rattle.backer_order.proofs.Search.{Order3, Less3, Same3, More3, compare}
-use Rattle.cluster_order.specs.Reading.{act_of}
 use Rattle.cluster_order.proofs.Events.{acted_is, Acted, Served, spawn_is}
-use Rattle.cluster_order.proofs.Between.{Stands, stands_at, past_parts}
+use Rattle.cluster_order.proofs.Between.{stands_at, past_parts}
 use Rattle.cluster_order.proofs.Messages.{before_before, happens_before}
 use Rattle.cluster_order.proofs.Accesses.{ev}
 use Rattle.cluster_order.proofs.Lawful.{act_allowed}
@@ -94,11 +92,11 @@ module _ (cluster : Cluster) (turns : List WholeTurn) (lawful : IsLawful cluster
       let here = happens_before course later (two.is.moved) (two.is.is) number earlier event less (one.is) in
       let it = stands_at number front earlier event here in
       let parts : past number later ≡ it.0 ++ event ∷ past number earlier =
-        past_parts number front (it.0) event (own number (before front earlier)) earlier (it.1)
-        ∙ ap (λ all. it.0 ++ event ∷ own number all) (before_before course later (two.is.moved) (two.is.is) earlier less) in
+      past_parts number front (it.0) event (own number (before front earlier)) earlier (it.1)
+      ∙ ap (λ all. it.0 ++ event ∷ own number all) (before_before course later (two.is.moved) (two.is.is) earlier less) in
       let taken = name_taken (node number) (it.0) (past number earlier) frame (one.index) child (one.procedure) (one.arguments) in
       let same : next_frame (node number) (past number earlier) ≡ next_frame (node number) (it.0 ++ event ∷ past number earlier) =
-        ap (λ it. it.number) (sym (one.name) ∙ two.name) ∙ ap (next_frame (node number)) parts in
+      ap (λ it. it.number) (sym (one.name) ∙ two.name) ∙ ap (next_frame (node number)) parts in
       omega (arith, taken, same)
 
   -- no frame is spawned twice

@@ -1,5 +1,5 @@
 -- A frame has returned where it stands so on the stack of a node, and from then on.
-use Rattle.std.proofs.Common.{◌≡◌, ℕ, zero, suc, ◌+◌, ◌<◌, ◌≤◌, List, [], ◌∷◌, ◌++◌, Option, Some, None, Bool, true, false, cond, ◌||◌, ◌&&◌, eqb, length, is_some, refl, sym, ◌∙◌, ap, subst, arith}
+use Rattle.std.proofs.Common.{◌≡◌, ℕ, zero, suc, ◌+◌, ◌<◌, ◌≤◌, List, [], ◌∷◌, ◌++◌, Option, Some, None, Bool, true, false, cond, ◌||◌, eqb, length, is_some, refl, sym, ◌∙◌, ap, subst, arith}
 use Rattle.std.proofs.lemmas.Bool.Decides.{nat_tests}
 use Rattle.std.specs.List.{list_any, range_with_len}
 use Rattle.cilk_meaning.specs.declared.ends.NodeEnd.{NodeEnd}
@@ -7,14 +7,14 @@ use Rattle.page_messages.specs.declared.closure.FrameId.{FrameId}
 use Rattle.page_messages.specs.declared.message.Msg.{Msg}
 use Rattle.page_messages.specs.declared.log.Item.{Item}
 use Rattle.page_messages.specs.declared.log.PostAt.{PostAt}
-use Rattle.cluster_rules.specs.Turns.{WholeTurn, Did, Sent, Took, Ended, posted_at}
+use Rattle.cluster_rules.specs.Turns.{WholeTurn, Did, Sent, posted_at}
 use Rattle.cluster_rules.specs.Lives.{Life, returned}
 use Rattle.cluster_rules.specs.Frames.{stack_of}
-use Rattle.cluster_rules.specs.Positions.{Moved, Course, with_items, with_posts, with_taking, with_end, with_turn, course_of, own, at, before}
+use Rattle.cluster_rules.specs.Positions.{Moved, Course, with_items, with_posts, with_taking, with_end, course_of, own, at, before}
 use Rattle.cluster_rules.specs.Runs.{Cluster, IsLawful, node_at}
 use Rattle.cluster_rules.proofs.Marks.{same_self}
 use Rattle.cluster_order.specs.Standing.{first, is_returned, stands_returned, has_returned, returns_of}
-use Rattle.cluster_order.proofs.Fronts.{first_none, first_next, first_same, first_at}
+use Rattle.cluster_order.proofs.Fronts.{first_next, first_same, first_at}
 
 -- ---- only nodes of the cluster act
 

@@ -1,5 +1,5 @@
 -- The frames on a stack by their names, and those on top that have returned.
-use Rattle.std.proofs.Common.{◌≡◌, ◌⊎◌, inl, inr, ℕ, ℤ, List, [], ◌∷◌, ◌++◌, map, Option, Some, None, Bool, true, false, is_some, refl, sym, ◌∙◌, ap, subst}
+use Rattle.std.proofs.Common.{◌≡◌, inl, inr, ℤ, List, [], ◌∷◌, ◌++◌, map, Option, Some, None, true, is_some, refl, ◌∙◌, ap, subst}
 use Rattle.cilk_meaning.specs.Wants.{Answer, Deposit}
 use Rattle.page_messages.specs.declared.closure.FrameId.{FrameId}
 use Rattle.page_messages.specs.declared.closure.JoinId.{JoinId}
@@ -7,9 +7,9 @@ use Rattle.page_messages.specs.declared.log.LoggedAct.{LoggedAct}
 use Rattle.page_messages.specs.declared.log.LoggedAct.TheVariants as act
 use Rattle.cluster_rules.specs.Walking.{first_of, last_of, with_first}
 use Rattle.cluster_rules.specs.Node.{Node}
-use Rattle.cluster_rules.specs.Lives.{Life, returned, with_kept, live_from, live, answered, added, acted, children_of, after_act, link_to, without_bottom}
+use Rattle.cluster_rules.specs.Lives.{Life, returned, with_kept, live_from, live, answered, added, acted, after_act, link_to, without_bottom}
 use Rattle.cluster_rules.proofs.Marks.{bottom_gone}
-use Rattle.backer_order.specs.Edges.{IsOn, Each}
+use Rattle.backer_order.specs.Edges.{Each}
 
 -- ---- names
 
@@ -35,7 +35,7 @@ pub record Shed (stack left : List Life) : Type 0 where
   pub same : names left ≡ names below
 
 shed_on : (deposits : List Deposit) (life : Life) (below : List Life) (value : Option ℤ) → returned life ≡ value → ((given : List Deposit) → Shed below (live_from given below))
-    → Shed (life ∷ below) (elim value [ | None ↦ with_kept deposits life ∷ below | Some it ↦ live_from ((life.spawned.target, it) ∷ []) below ])
+    → Shed (life ∷ below) (elim value [ None ↦ with_kept deposits life ∷ below | Some it ↦ live_from ((life.spawned.target, it) ∷ []) below ])
 shed_on deposits life below None is before = record { above = []; below = life ∷ below; parts = refl; returned = tt; same = refl }
 shed_on deposits life below (Some it) is before =
     let shed = before ((life.spawned.target, it) ∷ []) in
@@ -67,7 +67,8 @@ returned_front [] back all = (tt, all)
 returned_front (life ∷ front) back all = let parts = returned_front front back (all.1) in ((all.0, parts.0), parts.1)
 
 -- one of these names is that of a frame among those, which has returned
-pub each_returned : (Holds : FrameId → Type 0) (lives : List Life) → AllReturned lives → ((front back : List Life) (life : Life) → lives ≡ front ++ life ∷ back → is_some (returned life) ≡ true → Holds life.id)
+pub each_returned : (Holds : FrameId → Type 0) (lives : List Life) → AllReturned lives
+    → ((front back : List Life) (life : Life) → lives ≡ front ++ life ∷ back → is_some (returned life) ≡ true → Holds life.id)
     → Each Holds (names lives)
 each_returned Holds [] all holds frame on = absurd on
 each_returned Holds (life ∷ lives) all holds frame (inl same) = subst Holds same (holds [] lives life refl (all.0))

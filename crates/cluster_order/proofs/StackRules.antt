@@ -1,5 +1,5 @@
 -- What each event makes of the stacks.
-use Rattle.std.proofs.Common.{◌≡◌, ◌≢◌, ◌⊎◌, inl, inr, ℕ, ℤ, suc, List, [], ◌∷◌, ◌++◌, Option, Some, None, Bool, true, false, cond, refl, sym, ◌∙◌, ap, subst}
+use Rattle.std.proofs.Common.{◌≡◌, ◌⊎◌, inl, inr, ℕ, ℤ, suc, List, [], ◌∷◌, Option, Some, None, true, cond, refl, sym, ◌∙◌, ap, subst}
 use Rattle.page_messages.specs.declared.closure.FrameId.{FrameId}
 use Rattle.page_messages.specs.declared.closure.JoinId.{JoinId}
 use Rattle.page_messages.specs.declared.closure.Closure.{Closure}
@@ -14,7 +14,7 @@ use Rattle.page_messages.specs.declared.log.Item.TheVariants as item
 use Rattle.cilk_meaning.specs.Wants.{Done as DoneAnswer}
 use Rattle.cluster_rules.specs.Turns.{WholeTurn, Event, Did, Sent, Took, Ended, Past}
 use Rattle.cluster_rules.specs.Node.{Node, page_of, home_of}
-use Rattle.cluster_rules.specs.Walking.{is_empty, last_of, with_first}
+use Rattle.cluster_rules.specs.Walking.{is_empty, with_first}
 use Rattle.cluster_rules.specs.Home.{owed_adds}
 use Rattle.cluster_rules.specs.Lives.{Life, live, answered, added, after_act, without_bottom}
 use Rattle.cluster_rules.specs.Frames.{Frames, frames_took, frames_of, stack_of, stack_sent, taken_up}
@@ -26,10 +26,10 @@ use Rattle.backer_order.specs.Edges.{Stacks, Returns, Others, Moves, Pops, Grant
 use Rattle.cluster_order.specs.Reading.{memory_of, act_of, note_of, id_of, bottom_of, served_for, item_of, happens_to}
 use Rattle.cluster_order.specs.Standing.{stacks_of, returns_of}
 use Rattle.cluster_order.proofs.Accesses.{ev, event_there}
-use Rattle.cluster_order.proofs.Lawful.{act_allowed, tick_allowed, take_up_allowed, served_allowed, fetch_allowed, grant_allowed, done_allowed, park_allowed, add_allowed, home_served}
+use Rattle.cluster_order.proofs.Lawful.{act_allowed, tick_allowed, take_up_allowed, served_allowed, grant_allowed, done_allowed, park_allowed, add_allowed, home_served}
 use Rattle.cluster_order.proofs.Adding.{add_other, add_for}
 use Rattle.cluster_order.proofs.Shedding.{names, names_append, spawned_in, act_names, granted_names, added_names}
-use Rattle.cluster_order.proofs.Stepping.{stack_behind, stack_before, stack_after, stack_other, stack_still, unchanged, moves, pops, empties, empties_returned}
+use Rattle.cluster_order.proofs.Stepping.{stack_before, stack_after, stack_other, stack_still, unchanged, moves, pops, empties, empties_returned}
 
 -- a message that is taken changes no name on the stack
 took_names : (node : Node) (said : Body) (past : Past) (frames : Frames) → names ((frames_took node said past frames).stack) ≡ names frames.stack
@@ -77,9 +77,10 @@ module _ (cluster : Cluster) (turns : List WholeTurn) (lawful : IsLawful cluster
       let life = may.1.life in
       subst (λ it. Moves returns stacks position number it (spawned_in done)) (sym (may.1.acts.named))
       (moves cluster turns lawful number position (Did (item.Act frame index done)) happens life (spawned_in done) (may.1.acts.is)
-        (λ below is. ap (λ all. names (after_act (node number) done all)) is ∙ act_names (node number) done life below))
+      (λ below is. ap (λ all. names (after_act (node number) done all)) is ∙ act_names (node number) done life below))
 
-  act_rule : (number position : ℕ) (frame : FrameId) (index : ℕ) (done : LoggedAct) → Happens course number position (Did (item.Act frame index done)) → Rule position (log.Acts number frame (act_of done))
+  act_rule : (number position : ℕ) (frame : FrameId) (index : ℕ) (done : LoggedAct) → Happens course number position (Did (item.Act frame index done))
+      → Rule position (log.Acts number frame (act_of done))
   act_rule number position frame index (act.Read word value) happens = act_moves number position frame index (act.Read word value) happens
   act_rule number position frame index (act.Write word value) happens = act_moves number position frame index (act.Write word value) happens
   act_rule number position frame index (act.Print value) happens = act_moves number position frame index (act.Print value) happens
@@ -99,11 +100,12 @@ module _ (cluster : Cluster) (turns : List WholeTurn) (lawful : IsLawful cluster
       → (stacks position number ≡ []) × (stacks (suc position) number ≡ frame ∷ []) × Others stacks position number
   take_up_rule number position frame happens =
       let may = (take_up_allowed cluster turns lawful number position frame happens).2 in
-      let frames = frames_of (node number) (past number position) in
-      (stack_before cluster turns lawful number position (happens.moved) (happens.is) ∙ ap names (may.idle),
+      let frames = frames_of (node number) (past number position) in (
+        stack_before cluster turns lawful number position (happens.moved) (happens.is) ∙ ap names (may.idle),
         stack_after cluster turns lawful number position (Did (item.TakeUp frame)) happens
-        ∙ ap (λ ready. names ((taken_up frames.stack ready frames.parked).stack)) (may.oldest) ∙ ap (λ name. name ∷ []) (sym (may.named)),
-        stack_other cluster turns lawful number position (Did (item.TakeUp frame)) happens)
+            ∙ ap (λ ready. names ((taken_up frames.stack ready frames.parked).stack)) (may.oldest) ∙ ap (λ name. name ∷ []) (sym (may.named)),
+        stack_other cluster turns lawful number position (Did (item.TakeUp frame)) happens,
+      )
 
   -- an own fetch
   pub load_rule : (number position page : ℕ) (words : List ℤ) → Happens course number position (Did (item.OwnFetch page words)) → Pops returns stacks position number
@@ -130,9 +132,9 @@ module _ (cluster : Cluster) (turns : List WholeTurn) (lawful : IsLawful cluster
           let life = own_add.1.add.life in
           record {
             own = λ home_is. subst (λ it. Moves returns stacks position it frame []) (sym mine)
-              (subst (λ it. Moves returns stacks position number it []) (sym (own_add.1.add.acts.named))
+                (subst (λ it. Moves returns stacks position number it []) (sym (own_add.1.add.acts.named))
                 (moves cluster turns lawful number position done happens life [] (own_add.1.add.acts.is)
-                  (λ below is. ap (λ owed. names (cond (is_empty owed) (added old (live stack)) stack)) (own_add.0.none_owed) ∙ ap (λ all. names (added old all)) is)));
+                (λ below is. ap (λ owed. names (cond (is_empty owed) (added old (live stack)) stack)) (own_add.0.none_owed) ∙ ap (λ all. names (added old all)) is)));
             other = λ not. absurd (not (at_home ∙ sym mine));
           }
       on (inl serves) =
@@ -147,7 +149,8 @@ module _ (cluster : Cluster) (turns : List WholeTurn) (lawful : IsLawful cluster
   -- ---- posts
 
   -- a Grant
-  pub grant_rule : (number position : ℕ) (message : Msg) (closure : Closure) → Happens course number position (Sent message) → message.body ≡ body.Grant closure → Grants stacks position number closure.id
+  pub grant_rule : (number position : ℕ) (message : Msg) (closure : Closure) → Happens course number position (Sent message) → message.body ≡ body.Grant closure
+      → Grants stacks position number closure.id
   grant_rule number position message closure happens says =
       let may = grant_allowed cluster turns lawful number position message closure happens says in
       let stack = stack_of (node number) (past number position) in
@@ -156,7 +159,7 @@ module _ (cluster : Cluster) (turns : List WholeTurn) (lawful : IsLawful cluster
         child = may.child.id;
         old = stack_before cluster turns lawful number position (happens.moved) (happens.is) ∙ ap names (may.stack) ∙ names_append (may.above) (may.child ∷ (may.parent ∷ []));
         new = stack_after cluster turns lawful number position (Sent message) happens
-          ∙ ap (λ said. names (stack_sent said stack)) says ∙ ap (λ all. names (without_bottom closure.join all)) (may.stack) ∙ granted_names closure.join (may.above) (may.child) (may.parent);
+            ∙ ap (λ said. names (stack_sent said stack)) says ∙ ap (λ all. names (without_bottom closure.join all)) (may.stack) ∙ granted_names closure.join (may.above) (may.child) (may.parent);
         others = stack_other cluster turns lawful number position (Sent message) happens;
       })
 
@@ -193,7 +196,8 @@ module _ (cluster : Cluster) (turns : List WholeTurn) (lawful : IsLawful cluster
 
   -- what is posted of other kinds
   sent_still : (number position : ℕ) (message : Msg) → Happens course number position (Sent message)
-      → names (stack_sent message.body (stack_of (node number) (past number position))) ≡ names (stack_of (node number) (past number position)) → (any : ℕ) → stacks (suc position) any ≡ stacks position any
+      → names (stack_sent message.body (stack_of (node number) (past number position))) ≡ names (stack_of (node number) (past number position))
+      → (any : ℕ) → stacks (suc position) any ≡ stacks position any
   sent_still number position message happens same = unchanged cluster turns lawful number position (Sent message) happens same
 
   abbrev sent_names : (number position : ℕ) {one other : Body} → one ≡ other

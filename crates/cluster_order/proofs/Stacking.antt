@@ -1,10 +1,7 @@
 -- How frames stand on the stacks of every run, and what holds at its edges.
-use Rattle.std.proofs.Common.{◌≡◌, ℕ, zero, suc, List, [], ◌∷◌, Bool, true, false, cond, eqb, refl, sym, ◌∙◌, ap, arith}
+use Rattle.std.proofs.Common.{◌≡◌, ℕ, zero, suc, List, [], false, eqb, refl, ◌∙◌, ap, arith}
 use Rattle.std.proofs.lemmas.Bool.Decides.{nat_tests}
-use Rattle.page_messages.specs.declared.closure.FrameId.{FrameId}
 use Rattle.cluster_rules.specs.Turns.{WholeTurn}
-use Rattle.cluster_rules.specs.Node.{Node}
-use Rattle.cluster_rules.specs.Lives.{main_life}
 use Rattle.cluster_rules.specs.Frames.{stack_of, frames_of}
 use Rattle.cluster_rules.specs.Positions.{Course, course_of}
 use Rattle.cluster_rules.specs.Runs.{Cluster, IsLawful, node_at}

@@ -1,15 +1,15 @@
 -- What has returned stays so, and a take-up leaves the cache empty.
-use Rattle.std.proofs.Common.{◌≡◌, ◌⊎◌, inl, inr, ℕ, ℤ, suc, ◌<◌, ◌≤◌, List, [], ◌∷◌, ◌++◌, map, Option, Some, None, Bool, true, false, cond, ◌||◌, eqb, refl, sym, ◌∙◌, ap, subst, arith}
+use Rattle.std.proofs.Common.{◌≡◌, ◌⊎◌, inl, inr, ℕ, ℤ, suc, ◌<◌, ◌≤◌, List, [], ◌∷◌, ◌++◌, map, Bool, true, false, ◌||◌, eqb, refl, sym, ◌∙◌, subst, arith}
 use Rattle.std.proofs.lemmas.Bool.Decides.{nat_tests}
 use Rattle.page_messages.specs.declared.closure.FrameId.{FrameId}
 use Rattle.page_messages.specs.declared.message.Msg.{Msg}
 use Rattle.page_messages.specs.declared.log.Item.{Item}
 use Rattle.page_messages.specs.declared.log.Item.TheVariants as item
-use Rattle.cluster_rules.specs.Turns.{WholeTurn, Event, Did, Past}
+use Rattle.cluster_rules.specs.Turns.{WholeTurn, Did, Past}
 use Rattle.cluster_rules.specs.Node.{Node}
 use Rattle.cluster_rules.specs.Cache.{is_resident, is_among}
 use Rattle.cluster_rules.specs.Paging.{MayTakeUp}
-use Rattle.cluster_rules.specs.Positions.{Moved, Course, course_of, own, at, before, Happens}
+use Rattle.cluster_rules.specs.Positions.{Course, course_of, own, before, Happens}
 use Rattle.cluster_rules.specs.Runs.{Cluster, IsLawful, node_at, IsOwed, IsFree, MayDo}
 use Rattle.backer_order.specs.Log as log
 use Rattle.backer_order.specs.Moments.{Resident}
@@ -39,7 +39,12 @@ dropped_in course number position page (first ∷ pages) others follow among =
     on : (b : Bool) → eqb first page ≡ b → b || is_among page pages ≡ true → (is_among page pages ≡ true → DroppedIn course number (suc position) page) → DroppedIn course number position page
     on true is any rest =
         let same : first ≡ page = grind (arith, nat_tests) in
-        record { at = position; behind = omega (arith); is = subst (λ it. Happens course number position (Did (item.Drop it))) same (follow.0); between = λ i above below. absurd (omega (arith, above, below)) }
+        record {
+          at = position;
+          behind = omega (arith);
+          is = subst (λ it. Happens course number position (Did (item.Drop it))) same (follow.0);
+          between = λ i above below. absurd (omega (arith, above, below));
+        }
     on false is any rest = later (rest any)
       where
         later : DroppedIn course number (suc position) page → DroppedIn course number position page
@@ -74,19 +79,21 @@ module _ (cluster : Cluster) (turns : List WholeTurn) (lawful : IsLawful cluster
       doing : Doing cluster number course position (item.TakeUp frame)
       doing = followed cluster turns lawful number position (item.TakeUp frame) happens
 
-      on : (rest : List Item) (posts : List Msg) → IsOwed (node number) (past number position) (item.TakeUp frame) ⊎ (IsFree (past number position) × MayDo (node number) (past number position) (item.TakeUp frame) rest posts)
+      on : (rest : List Item) (posts : List Msg)
+          → IsOwed (node number) (past number position) (item.TakeUp frame) ⊎ (IsFree (past number position) × MayDo (node number) (past number position) (item.TakeUp frame) rest posts)
           → Follow course number (suc position) rest → (rest : List Item) × MayTakeUp (node number) (past number position) frame rest × Follow course number (suc position) rest
       on rest posts (inl owed) follow = absurd owed
       on rest posts (inr both) follow = (rest, both.1, follow)
 
   -- A node that takes up a frame drops its resident pages before all else.
-  pub drops : (now number : ℕ) (frame : FrameId) (page arrival : ℕ) (words : ℕ → ℤ) → events now ≡ log.TakeUp number frame → Resident events number page now arrival words → DropsAll events now number page
+  pub drops : (now number : ℕ) (frame : FrameId) (page arrival : ℕ) (words : ℕ → ℤ) → events now ≡ log.TakeUp number frame
+      → Resident events number page now arrival words → DropsAll events now number page
   drops now number frame page arrival words is resident = record {
     at = it.at;
     after = let behind = it.behind in omega (arith, behind);
     is = event_there cluster turns lawful number (it.at) (Did (item.Drop page)) (it.is);
     between = λ any above below.
-      let one = it.between any (omega (arith, above)) below in (one.0, event_there cluster turns lawful number any (Did (item.Drop (one.0))) (one.1));
+        let one = it.between any (omega (arith, above)) below in (one.0, event_there cluster turns lawful number any (Did (item.Drop (one.0))) (one.1));
   }
     where
       happens : Happens course number now (Did (item.TakeUp frame))

@@ -1,13 +1,12 @@
 -- The stacks of the nodes before and behind an event, and the ways in which an event changes the stack of its node.
-use Rattle.std.proofs.Common.{◌≡◌, ◌≢◌, ◌⊎◌, inl, inr, ℕ, suc, ◌<◌, List, [], ◌∷◌, ◌++◌, Option, Some, None, Bool, true, false, eqb, is_some, refl, sym, ◌∙◌, ap, subst, append_assoc, arith}
+use Rattle.std.proofs.Common.{◌≡◌, ◌≢◌, inl, inr, ℕ, suc, ◌<◌, List, [], ◌∷◌, ◌++◌, Some, None, Bool, true, false, eqb, is_some, refl, sym, ◌∙◌, ap, subst, append_assoc, arith}
 use Rattle.std.proofs.lemmas.Bool.Decides.{nat_tests}
 use Rattle.std.proofs.lemmas.List.{append-nil}
 use Rattle.page_messages.specs.declared.closure.FrameId.{FrameId}
 use Rattle.cluster_rules.specs.Turns.{WholeTurn, Event, Past}
 use Rattle.cluster_rules.specs.Node.{Node}
-use Rattle.cluster_rules.specs.Walking.{last_of}
 use Rattle.cluster_rules.specs.Lives.{Life, returned, live}
-use Rattle.cluster_rules.specs.Frames.{Frames, frames_on, frames_of, stack_of, highest}
+use Rattle.cluster_rules.specs.Frames.{frames_on, frames_of, stack_of, highest}
 use Rattle.cluster_rules.specs.Paging.{HasReturned}
 use Rattle.cluster_rules.specs.Positions.{Moved, Course, course_of, own, at, before, Happens}
 use Rattle.cluster_rules.specs.Runs.{Cluster, IsLawful, node_at}
@@ -97,7 +96,7 @@ module _ (cluster : Cluster) (turns : List WholeTurn) (lawful : IsLawful cluster
   above_returned number position event happens above below parts all =
       each_returned (λ one. returns position one ≡ true) above all
       (λ front back life split is. returned_there number position (happens.moved) (happens.is) below_nodes front (back ++ below) life
-        (parts ∙ ap (λ it. it ++ below) split ∙ append_assoc front (life ∷ back) below) is)
+      (parts ∙ ap (λ it. it ++ below) split ∙ append_assoc front (life ∷ back) below) is)
     where
       below_nodes : number < cluster.config.nodes
       below_nodes = subst (λ it. it < cluster.config.nodes) (happens.by) (node_below cluster turns lawful position (happens.moved) (happens.is))
@@ -112,7 +111,8 @@ module _ (cluster : Cluster) (turns : List WholeTurn) (lawful : IsLawful cluster
   moves number position event happens life top is goes = record {
     above = names (it.above);
     below = names (rest.0);
-    old = stack_before number position (happens.moved) (happens.is) ∙ ap names (it.parts) ∙ names_append (it.above) (it.below) ∙ ap (λ all. names (it.above) ++ all) (sym (it.same) ∙ ap names (rest.1));
+    old = stack_before number position (happens.moved) (happens.is) ∙ ap names (it.parts) ∙ names_append (it.above) (it.below)
+        ∙ ap (λ all. names (it.above) ++ all) (sym (it.same) ∙ ap names (rest.1));
     returned = above_returned number position event happens (it.above) (it.below) (it.parts) (it.returned);
     new = stack_after number position event happens ∙ goes (rest.0) (rest.1);
     others = stack_other number position event happens;
@@ -164,13 +164,16 @@ module _ (cluster : Cluster) (turns : List WholeTurn) (lawful : IsLawful cluster
   pub empties_returned : (number position : ℕ) (event : Event) → Happens course number position event → (life : Life)
       → stack_behind (node number) event (past number position) ≡ [] → HasReturned (node number) (past number position) life
       → Empties returns stacks position number life.id × (returns position life.id ≡ true)
-  empties_returned number position event happens life goes back = (record {
-    front = names (split.0);
-    old = stack_before number position (happens.moved) (happens.is) ∙ ap names (split.1) ∙ names_append (split.0) (life ∷ []);
-    returned = above_returned number position event happens (split.0) (life ∷ []) (split.1) (parts.0);
-    new = stack_after number position event happens ∙ ap names goes;
-    others = stack_other number position event happens;
-  }, above_returned number position event happens (stack_of (node number) (past number position)) [] (sym (append-nil (stack_of (node number) (past number position)))) all life.id on_stack)
+  empties_returned number position event happens life goes back = (
+    record {
+      front = names (split.0);
+      old = stack_before number position (happens.moved) (happens.is) ∙ ap names (split.1) ∙ names_append (split.0) (life ∷ []);
+      returned = above_returned number position event happens (split.0) (life ∷ []) (split.1) (parts.0);
+      new = stack_after number position event happens ∙ ap names goes;
+      others = stack_other number position event happens;
+    },
+    above_returned number position event happens (stack_of (node number) (past number position)) [] (sym (append-nil (stack_of (node number) (past number position)))) all life.id on_stack,
+  )
     where
       split : (front : List Life) × (stack_of (node number) (past number position) ≡ front ++ life ∷ [])
       split = last_is (stack_of (node number) (past number position)) life (back.at_bottom)
