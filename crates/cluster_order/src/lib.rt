@@ -3,9 +3,11 @@
 #![tactic(auto)]
 
 ghost use Rattle.std.specs.Prelude.{ℕ, List};
+ghost use Rattle.backer_order.specs.Edges.{Frames};
 ghost use Rattle.backer_order.specs.HomeOrder.{ReadsLast};
 ghost use Rattle.backer_order.specs.Rules.{Caching};
 ghost use Rattle.cluster_order.specs.Reading.{events_of, memory_of};
+ghost use Rattle.cluster_order.specs.Standing.{returns_of, stacks_of};
 ghost use Rattle.cluster_rules.specs.Positions.{course_of};
 ghost use Rattle.cluster_rules.specs.Runs.{Cluster, IsLawful};
 ghost use Rattle.cluster_rules.specs.Turns.{WholeTurn};
@@ -13,6 +15,12 @@ ghost use Rattle.cluster_rules.specs.Turns.{WholeTurn};
 /// A law, nothing is done: the events of lawful turns, of which the latest comes first, keep the rules for pages and adds.
 pub fn keeps_page_rules()
     ensures { (cluster : Cluster) (turns : List WholeTurn) → IsLawful cluster turns → Caching (events_of cluster (course_of turns)) (memory_of cluster) }
+{}
+
+/// A law, nothing is done: and they keep the rules for frames: how these stand on the stacks of the nodes, that names are fresh, and that all is
+/// merged at the homes where a frame or a return goes to another node.
+pub fn keeps_frame_rules()
+    ensures { (cluster : Cluster) (turns : List WholeTurn) → IsLawful cluster turns → Frames (events_of cluster (course_of turns)) (memory_of cluster) (returns_of cluster (course_of turns)) (stacks_of cluster (course_of turns)) }
 {}
 
 /// A law, nothing is done: at each position of lawful turns, each read gives, and each add finds, what the last access before it in the home
