@@ -15,3 +15,5 @@ pub mod Worked
 pub mod Marks
 pub mod Senders
 pub mod Stepping
+pub mod Summing
+pub mod Letters
