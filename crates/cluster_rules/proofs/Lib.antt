@@ -17,3 +17,4 @@ pub mod Senders
 pub mod Stepping
 pub mod Summing
 pub mod Letters
+pub mod Passing
