@@ -18,3 +18,4 @@ pub mod Stepping
 pub mod Summing
 pub mod Letters
 pub mod Passing
+pub mod Holding
