@@ -19,3 +19,4 @@ pub mod Summing
 pub mod Letters
 pub mod Passing
 pub mod Holding
+pub mod Advancing
