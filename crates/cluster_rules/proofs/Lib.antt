@@ -20,3 +20,5 @@ pub mod Letters
 pub mod Passing
 pub mod Holding
 pub mod Advancing
+pub mod Phases
+pub mod UnderWay
