@@ -12,7 +12,7 @@ use Rattle.span_tree.proofs.Ways.{some_same}
 use Rattle.cluster_rules.specs.Histories.{row_number}
 use Rattle.backer_order.specs.Log as log
 use Rattle.backer_order.specs.Log.{Events}
-use Rattle.word_order.proofs.Rows.{shown, acts_before, place_in, place_once, act_there, act_found, number_get, number_first}
+use Rattle.word_order.proofs.Rows.{shown, acts_before, place_in, place_once, place_order, act_there, act_found, number_get, number_first}
 
 -- A history has a row for each of these frames, in which stands what the frame did before a position; and each frame that did something
 -- has one.
@@ -93,3 +93,55 @@ module _ (events : Events) (now : ℕ) (frames : List FrameId) (history : Histor
       let act_same : place_in frames events frame at ≡ place_in frames events second other_at = ap (λ (it : Place). it.act) same in
       place_once frames events frame at other_at node other act next is (subst (λ it. events other_at ≡ log.Acts other it next) frame_same other_is)
       (act_same ∙ ap (λ it. place_in frames events it other_at) frame_same)
+
+  -- ---- which act stands at a place
+
+  pub record Stands (place : Place) (at : ℕ) : Type 0 where
+    pub node : ℕ
+    pub frame : FrameId
+    pub done : log.Act
+    pub inside : at < now
+    pub is : events at ≡ log.Acts node frame done
+    pub number : slice_get frames (place.row) ≡ Some frame
+    pub place_is : place_in frames events frame at ≡ place.act
+    pub act_is : act_at history place ≡ Some (shown frames done)
+
+  pub stands : (place : Place) (act : Act) → act_at history place ≡ Some act → (at : ℕ) × Stands place at
+  stands place act is =
+      let it = comes place act is in
+      (it.at, record { node = it.node; frame = it.frame; done = it.done; inside = it.inside; is = it.is; number = it.number_is; place_is = it.place_is; act_is = is ∙ ap Some (sym (it.act_is)) })
+
+  pub stands_for : (at node : ℕ) (frame : FrameId) (act : log.Act) → at < now → events at ≡ log.Acts node frame act → Stands (place_for frame at) at
+  stands_for at node frame act inside is = record {
+    node = node; frame = frame; done = act; inside = inside; is = is;
+    number = number_get frames frame (rows.named at node frame act inside is);
+    place_is = refl;
+    act_is = act_here at node frame act inside is;
+  }
+
+  -- in one row stands one frame
+  pub one_frame : (place other : Place) (at other_at : ℕ) → place.row ≡ other.row → (it : Stands place at) → (that : Stands other other_at) → it.frame ≡ that.frame
+  one_frame place other at other_at same it that = some_same it.frame that.frame (sym (it.number) ∙ ap (slice_get frames) same ∙ that.number)
+
+  pub one_position_at : (place : Place) (at other_at : ℕ) → Stands place at → Stands place other_at → at ≡ other_at
+  one_position_at place at other_at it that =
+      let same = one_frame place place at other_at refl it that in
+      place_once frames events it.frame at other_at it.node that.node it.done that.done it.is (subst (λ frame. events other_at ≡ log.Acts that.node frame that.done) (sym same) that.is)
+      (it.place_is ∙ sym (that.place_is) ∙ ap (λ frame. place_in frames events frame other_at) (sym same))
+
+  -- in one row what stands earlier was done earlier
+  pub order_in_row : (place other : Place) (at other_at : ℕ) → place.row ≡ other.row → place.act < other.act → Stands place at → Stands other other_at → at < other_at
+  order_in_row place other at other_at same less it that =
+      let frame = one_frame place other at other_at same it that in
+      let one = it.place_is in
+      let two : place_in frames events it.frame other_at ≡ other.act = ap (λ frame. place_in frames events frame other_at) frame ∙ that.place_is in
+      place_order frames events it.frame at other_at (omega (arith, less, one, two))
+
+  -- the child that is spawned there
+  pub spawned_there : (place : Place) (at child : ℕ) → (it : Stands place at) → act_at history place ≡ Some (row.Spawn child)
+      → (frame : FrameId) × (events at ≡ log.Acts it.node it.frame (log.Spawn frame)) × (slice_get frames child ≡ Some frame)
+  spawned_there place at child it spawns =
+      let spawn = spawned_number it.done child (some_same (shown frames it.done) (row.Spawn child) (sym (it.act_is) ∙ spawns)) in
+      let within : child < length history = (rows.numbered.child place child spawns).0 in
+      let less : row_number frames (spawn.0) < length frames = let same = spawn.2 in let count = rows.count in omega (arith, within, same, count) in
+      (spawn.0, subst (λ done. events at ≡ log.Acts it.node it.frame done) (spawn.1) it.is, ap (slice_get frames) (sym (spawn.2)) ∙ number_get frames (spawn.0) less)
