@@ -113,7 +113,11 @@ module _ (events : Events) (now : ℕ) (frames : List FrameId) (history : Histor
 
   pub stands_for : (at node : ℕ) (frame : FrameId) (act : log.Act) → at < now → events at ≡ log.Acts node frame act → Stands (place_for frame at) at
   stands_for at node frame act inside is = record {
-    node = node; frame = frame; done = act; inside = inside; is = is;
+    node = node;
+    frame = frame;
+    done = act;
+    inside = inside;
+    is = is;
     number = number_get frames frame (rows.named at node frame act inside is);
     place_is = refl;
     act_is = act_here at node frame act inside is;
