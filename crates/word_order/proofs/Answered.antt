@@ -89,7 +89,7 @@ module _ (events : Events) (memory : SharedMemory) (caching : Caching events mem
       on (Some value) is = inl (value, is)
 
   -- where none of these leaves anything, the word stays
-  none_left : (value : ℤ) (list : List Access) → ((entry : Access) → Has entry.at list → (left : ℤ) → left_in word (shown_by entry) ≡ Some left → ⊥) → last_write word value (map shown_by list) ≡ value
+  pub none_left : (value : ℤ) (list : List Access) → ((entry : Access) → Has entry.at list → (left : ℤ) → left_in word (shown_by entry) ≡ Some left → ⊥) → last_write word value (map shown_by list) ≡ value
   none_left value [] none = refl
   none_left value (first ∷ list) none = elim (left_or_none first) [
     | inl left ↦ absurd (none first (inl refl) (left.0) (left.1))
@@ -107,7 +107,7 @@ module _ (events : Events) (memory : SharedMemory) (caching : Caching events mem
     pub front_is : map shown_by before ≡ front
     pub act_is : shown_by entry ≡ act
 
-  cut_at : (list : List Access) (front back : List Act) (act : Act) → map shown_by list ≡ front ++ act ∷ back → Cut list front act
+  pub cut_at : (list : List Access) (front back : List Act) (act : Act) → map shown_by list ≡ front ++ act ∷ back → Cut list front act
   cut_at [] [] back act is = absurd cc
   cut_at [] (one ∷ front) back act is = absurd cc
   cut_at (first ∷ list) [] back act is = let same : shown_by first ≡ act = cc in record { before = []; entry = first; behind = list; parts = refl; front_is = refl; act_is = same }
@@ -119,7 +119,7 @@ module _ (events : Events) (memory : SharedMemory) (caching : Caching events mem
         before = first ∷ it.before;
         entry = it.entry;
         behind = it.behind;
-        parts = ap (λ list. first ∷ list) it.parts;
+        parts = ap (λ list. first ∷ list) {y = it.before ++ it.entry ∷ it.behind} it.parts;
         front_is = ap (λ one. one ∷ map shown_by it.before) same ∙ ap (λ front. one ∷ front) it.front_is;
         act_is = it.act_is;
       }
@@ -131,7 +131,7 @@ module _ (events : Events) (memory : SharedMemory) (caching : Caching events mem
       ap (λ act. cons_option act (filter_map (act_at history) (places_of events now frames word history rows list))) (act_is events now frames word history rows first)
       ∙ ap (λ list. shown_by first ∷ list) (acts_are list)
 
-  split_at : (list : List Access) (at : ℕ) → Has at list → (before : List Access) × (entry : Access) × (behind : List Access) × (list ≡ before ++ entry ∷ behind) × (entry.at ≡ at)
+  pub split_at : (list : List Access) (at : ℕ) → Has at list → (before : List Access) × (entry : Access) × (behind : List Access) × (list ≡ before ++ entry ∷ behind) × (entry.at ≡ at)
   split_at [] at has = absurd has
   split_at (first ∷ list) at (inl same) = ([], first, list, refl, same)
   split_at (first ∷ list) at (inr has) = let it = split_at list at has in (first ∷ it.0, it.1, it.2, ap (λ list. first ∷ list) (it.3), it.4)
@@ -139,23 +139,23 @@ module _ (events : Events) (memory : SharedMemory) (caching : Caching events mem
   abbrev IsSorted : List Access → Type 0
   IsSorted list = Sorted events memory now word list
 
-  sorted_front : (front back : List Access) → IsSorted (front ++ back) → IsSorted front
+  pub sorted_front : (front back : List Access) → IsSorted (front ++ back) → IsSorted front
   sorted_front [] back sorted = tt
   sorted_front (first ∷ front) back sorted = ((λ later has. sorted.0 later (has_front events now frames word front back later.at has)), sorted_front front back (sorted.1))
 
-  sorted_back : (front back : List Access) → IsSorted (front ++ back) → IsSorted back
+  pub sorted_back : (front back : List Access) → IsSorted (front ++ back) → IsSorted back
   sorted_back [] back sorted = sorted
   sorted_back (first ∷ front) back sorted = sorted_back front back (sorted.1)
 
   -- what stands in front of an entry is earlier
-  in_front : (front : List Access) (entry : Access) (back : List Access) → IsSorted (front ++ entry ∷ back) → (one : Access) → Has one.at front → Before' one entry
+  pub in_front : (front : List Access) (entry : Access) (back : List Access) → IsSorted (front ++ entry ∷ back) → (one : Access) → Has one.at front → Before' one entry
   in_front [] entry back sorted one has = absurd has
   in_front (first ∷ front) entry back sorted one (inl same) =
       earlier_as events now frames word memory caching first entry one entry same refl (sorted.0 entry (has_back events now frames word front (entry ∷ back) entry.at (inl refl)))
   in_front (first ∷ front) entry back sorted one (inr has) = in_front front entry back (sorted.1) one has
 
   -- what is earlier stands in front
-  stands_in_front : (front : List Access) (entry : Access) (back : List Access) → IsSorted (front ++ entry ∷ back) → (one : Access) → Has one.at (front ++ entry ∷ back) → Before' one entry → Has one.at front
+  pub stands_in_front : (front : List Access) (entry : Access) (back : List Access) → IsSorted (front ++ entry ∷ back) → (one : Access) → Has one.at (front ++ entry ∷ back) → Before' one entry → Has one.at front
   stands_in_front front entry back sorted one has earlier = elim (has_either events now frames word front (entry ∷ back) one.at has) [
     | inl here ↦ here
     | inr (inl same) ↦ absurd (not_earlier events now frames word memory caching entry (earlier_as events now frames word memory caching one entry entry entry (sym same) refl earlier))
