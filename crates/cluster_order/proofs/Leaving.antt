@@ -1,9 +1,10 @@
 -- A stack leaves its node only where no add of the node is waited for.
-use Rattle.std.proofs.Common.{◌≡◌, ◌⊎◌, inl, inr, ℕ, ℤ, ◌<◌, List, [], ◌∷◌, ◌++◌, append_assoc, Some, Bool, true, false, cond, ◌||◌, refl, sym, ◌∙◌, ap, subst}
+use Rattle.std.proofs.Common.{◌≡◌, ◌⊎◌, inl, inr, ℕ, ℤ, ◌<◌, List, [], ◌∷◌, ◌++◌, append_assoc, Option, Some, Bool, true, false, cond, ◌||◌, refl, sym, ◌∙◌, ap, subst}
 use Rattle.std.specs.List.{list_any}
 use Rattle.cilk_meaning.specs.Wants as want
 use Rattle.cilk_meaning.specs.Wants.{Asks}
 use Rattle.page_messages.specs.declared.closure.FrameId.{FrameId}
+use Rattle.page_messages.specs.declared.closure.JoinId.{JoinId}
 use Rattle.page_messages.specs.declared.message.Msg.{Msg}
 use Rattle.page_messages.specs.declared.message.Body.{Body}
 use Rattle.page_messages.specs.declared.message.Body.TheVariants as body
@@ -14,7 +15,7 @@ use Rattle.cluster_rules.specs.Turns.{WholeTurn, Event, Did, Sent, Took, Ended, 
 use Rattle.cluster_rules.specs.Node.{Node}
 use Rattle.cluster_rules.specs.Sendings.{ForAdded, awaits, begins, ends, adds_in, tells_in}
 use Rattle.cluster_rules.specs.Home.{replies_in}
-use Rattle.cluster_rules.specs.Lives.{Life, want_of, live, added, without_bottom}
+use Rattle.cluster_rules.specs.Lives.{Life, want_of, live, added, link_to, without_bottom}
 use Rattle.cluster_rules.specs.Frames.{Frames, frames_took, frames_of, stack_of, stack_sent}
 use Rattle.cluster_rules.specs.Positions.{Moved, Course, course_of, own, at, before}
 use Rattle.cluster_rules.specs.Runs.{Cluster, IsLawful, node_at, IsOwed, IsFree, MayDo, MayPost, MaySend}
@@ -58,11 +59,18 @@ may_post node past message said says no_reply (inr sends) = subst (λ it. MayPos
 
 -- ---- while an add is waited for
 
--- the highest frame on top
-first_of_highest : (stack : List Life) (life : Life) → first_of (live stack) ≡ Some life → WantsAdd life → AddsFirst (live stack)
-first_of_highest stack life is wants = let rest = first_is (live stack) life is in subst AddsFirst (sym (rest.1)) wants
+-- the frame on top wants an add
+abbrev pub WantsFirst : List Life → Type 0
+WantsFirst stack = (frame : FrameId) × (acts : ℕ) × AddsFirst frame acts stack
 
-took_first : (node : Node) (said : Body) (past : Past) (frames : Frames) → tells_in said ≡ false → AddsFirst frames.stack → AddsFirst ((frames_took node said past frames).stack)
+granted_first : (join : Option JoinId) (above : List Life) (child parent : Life) → WantsFirst (above ++ (child ∷ (parent ∷ []))) → WantsFirst (above ++ (record child { link = link_to join } ∷ []))
+granted_first join above child parent first = (first.0, first.1, kept_first (first.0) (first.1) join above child parent (first.2))
+
+-- the highest frame on top
+first_of_highest : (stack : List Life) (life : Life) → first_of (live stack) ≡ Some life → WantsAdd life → WantsFirst (live stack)
+first_of_highest stack life is wants = let rest = first_is (live stack) life is in subst WantsFirst (sym (rest.1)) (life.id, life.acts, (refl, refl, wants))
+
+took_first : (node : Node) (said : Body) (past : Past) (frames : Frames) → tells_in said ≡ false → WantsFirst frames.stack → WantsFirst ((frames_took node said past frames).stack)
 took_first node (body.Fetch page) past frames not first = first
 took_first node (body.Page page words) past frames not first = first
 took_first node (body.Reconcile parts) past frames not first = first
@@ -76,13 +84,13 @@ took_first node (body.Add frame index word addend) past frames not first = first
 took_first node (body.Added old) past frames not first = absurd (cc)
 
 -- no stack has returned whose first frame wants an add
-not_returned : (stack : List Life) → AddsFirst stack → live stack ≡ [] → ⊥
-not_returned stack first none = let it = live_first stack first in let both = it.2 in absurd (cc)
+not_returned : (stack : List Life) → WantsFirst stack → live stack ≡ [] → ⊥
+not_returned stack first none = let it = live_first (first.0) (first.1) stack (first.2) in let both = it.2 in absurd (cc)
 
 -- and that frame is not at its Sync
-not_syncing : (stack : List Life) (life : Life) → AddsFirst stack → live stack ≡ life ∷ [] → want_of life ≡ Some (Asks want.Sync) → ⊥
+not_syncing : (stack : List Life) (life : Life) → WantsFirst stack → live stack ≡ life ∷ [] → want_of life ≡ Some (Asks want.Sync) → ⊥
 not_syncing stack life first alone syncs =
-    let it = live_first stack first in
+    let it = live_first (first.0) (first.1) stack (first.2) in
     let same_list : it.0 ∷ it.1 ≡ life ∷ [] = sym (it.2) ∙ alone in
     let same : it.0 ≡ life = cc in
     let wants : want_of life ≡ Some (Asks (want.Add (it.3.0) (it.3.1))) = ap want_of (sym same) ∙ it.3.2 in
@@ -90,7 +98,7 @@ not_syncing stack life first alone syncs =
     absurd (cc)
 
 sent_first : (node : Node) (past : Past) (message : Msg) (said : Body) → message.body ≡ said → MaySend node past message → adds_in said || awaits ForAdded past ≡ true
-    → (awaits ForAdded past ≡ true → AddsFirst (stack_of node past)) → AddsFirst (stack_sent said (stack_of node past))
+    → (awaits ForAdded past ≡ true → WantsFirst (stack_of node past)) → WantsFirst (stack_sent said (stack_of node past))
 sent_first node past message (body.Fetch page) says may waits before =
     let quiet = (may_post node past message (body.Fetch page) says refl may).quiet ForAdded in absurd (cc)
 sent_first node past message (body.Page page words) says may waits before = before waits
@@ -100,8 +108,8 @@ sent_first node past message body.Ask says may waits before = before waits
 sent_first node past message (body.Grant closure) says may waits before =
     let grant = may_post node past message (body.Grant closure) says refl may in
     let parts = grant.stack in
-    subst AddsFirst (sym (ap (without_bottom closure.join) parts ∙ bottom_gone closure.join (grant.above) (grant.child) (grant.parent)))
-    (kept_first closure.join (grant.above) (grant.child) (grant.parent) (subst AddsFirst parts (before waits)))
+    subst WantsFirst (sym (ap (without_bottom closure.join) parts ∙ bottom_gone closure.join (grant.above) (grant.child) (grant.parent)))
+    (granted_first closure.join (grant.above) (grant.child) (grant.parent) (subst WantsFirst parts (before waits)))
 sent_first node past message body.Refuse says may waits before = before waits
 sent_first node past message (body.Done join index value) says may waits before =
     absurd (not_returned (stack_of node past) (before waits) ((may_post node past message (body.Done join index value) says refl may).returned.none_left))
@@ -114,10 +122,10 @@ sent_first node past message (body.Add frame index word addend) says may waits b
 sent_first node past message (body.Added old) says may waits before = before waits
 
 item_first : (node : Node) (past : Past) (done : Item) (rest : List Item) (posts : List Msg) → IsOwed node past done ⊎ (IsFree past × MayDo node past done rest posts) → awaits ForAdded past ≡ true
-    → AddsFirst (stack_of node past) → AddsFirst (stack_behind node (Did done) past)
+    → WantsFirst (stack_of node past) → WantsFirst (stack_behind node (Did done) past)
 item_first node past done rest posts (inr own_item) waits first = let quiet = (own_item.0).quiet ForAdded in absurd (cc)
 item_first node past (item.Served frame index word old addend) rest posts (inl serves) waits first =
-    subst (λ owed. AddsFirst (cond (is_empty owed) (added old (live (stack_of node past))) (stack_of node past))) (sym (serves.oldest)) first
+    subst (λ owed. WantsFirst (cond (is_empty owed) (added old (live (stack_of node past))) (stack_of node past))) (sym (serves.oldest)) first
 item_first node past (item.Act frame index act) rest posts (inl owed) waits first = absurd owed
 item_first node past (item.Tick frame) rest posts (inl owed) waits first = absurd owed
 item_first node past (item.Drop page) rest posts (inl owed) waits first = absurd owed
@@ -125,26 +133,26 @@ item_first node past (item.TakeUp frame) rest posts (inl owed) waits first = abs
 item_first node past (item.OwnFetch page words) rest posts (inl owed) waits first = absurd owed
 item_first node past (item.OwnReconcile part) rest posts (inl owed) waits first = absurd owed
 
-event_first : (node : Node) (past : Past) (event : Event) → IsAllowed node past event → awaits ForAdded (event ∷ past) ≡ true → (awaits ForAdded past ≡ true → AddsFirst (stack_of node past))
-    → AddsFirst (stack_behind node event past)
+event_first : (node : Node) (past : Past) (event : Event) → IsAllowed node past event → awaits ForAdded (event ∷ past) ≡ true → (awaits ForAdded past ≡ true → WantsFirst (stack_of node past))
+    → WantsFirst (stack_behind node event past)
 event_first node past (Did done) may waits before = item_first node past done (may.rest) (may.posts) (may.may) waits (before waits)
 event_first node past (Sent message) may waits before = sent_first node past message message.body refl may waits before
 event_first node past (Took message) may waits before = on (tells_in message.body) refl waits
   where
-    on : (b : Bool) → tells_in message.body ≡ b → list_any (begins ForAdded) (cond b [] (Took message ∷ since (ends ForAdded) past)) ≡ true → AddsFirst (stack_behind node (Took message) past)
+    on : (b : Bool) → tells_in message.body ≡ b → list_any (begins ForAdded) (cond b [] (Took message ∷ since (ends ForAdded) past)) ≡ true → WantsFirst (stack_behind node (Took message) past)
     on true is none = absurd (cc)
     on false is some = took_first node message.body (Took message ∷ past) (frames_of node past) is (before some)
 event_first node past (Ended end) may waits before = before waits
 
 -- While an add is waited for, the first frame of the stack wants it.
-pub asked_first : (node : Node) (past : Past) → AllAllowed node past → awaits ForAdded past ≡ true → AddsFirst (stack_of node past)
+pub asked_first : (node : Node) (past : Past) → AllAllowed node past → awaits ForAdded past ≡ true → WantsFirst (stack_of node past)
 asked_first node [] all waits = absurd (cc)
 asked_first node (event ∷ past) all waits =
-    subst AddsFirst (sym (behind_is node event past)) (event_first node past event (all.0) waits (asked_first node past (all.1)))
+    subst WantsFirst (sym (behind_is node event past)) (event_first node past event (all.0) waits (asked_first node past (all.1)))
 
 -- ---- where a stack leaves
 
-no_wait : (node : Node) (past : Past) → (AddsFirst (stack_of node past) → ⊥) → AllAllowed node past → awaits ForAdded past ≡ false
+no_wait : (node : Node) (past : Past) → (WantsFirst (stack_of node past) → ⊥) → AllAllowed node past → awaits ForAdded past ≡ false
 no_wait node past none all = on (awaits ForAdded past) refl
   where
     on : (b : Bool) → awaits ForAdded past ≡ b → b ≡ false
