@@ -44,7 +44,9 @@ turns_are_consistent cluster turns lawful order law keeps main frames history is
     let events = events_of cluster (course_of turns) in
     let memory = memory_of cluster in
     let caching = keeps_the_page_rules cluster turns lawful in
-    let made : EachIsMade events = each_is_made events memory caching keeps.has_returned keeps.stack keeps.edges.frames (taken events memory keeps.has_returned keeps.stack keeps.edges.frames keeps.stage keeps.ready) in
+    let made : EachIsMade events =
+    each_is_made events memory caching keeps.has_returned keeps.stack keeps.edges.frames
+    (taken events memory keeps.has_returned keeps.stack keeps.edges.frames keeps.stage keeps.ready) in
     let consistent : Consistent events memory (length (course_of turns)) = law events memory keeps.has_returned keeps.stack keeps.stage (length (course_of turns)) caching keeps.edges keeps.ready in
     let shared : EachIsShared events (length (course_of turns)) (words_in cluster.code.shared) = each_is_shared cluster turns lawful order in
     record {

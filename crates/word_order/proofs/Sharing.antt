@@ -39,7 +39,8 @@ module _ (cluster : Cluster) (turns : List WholeTurn) (lawful : IsLawful cluster
       on (inl serves) =
           let taken = owed_taken cluster turns lawful home position happens.moved happens.is serves.add (subst (λ list. Among serves.add list) (sym serves.oldest) (inl refl)) in
           let posted = taken.2.posted in
-          let may = add_allowed cluster turns lawful (taken.2.sender) (taken.0) serves.add frame index word addend (record { moved = posted.moved; is = posted.is; by = posted.by; event_is = posted.event_is }) serves.asked in
+          let may = add_allowed cluster turns lawful (taken.2.sender) (taken.0) serves.add frame index word addend
+          (record { moved = posted.moved; is = posted.is; by = posted.by; event_is = posted.event_is }) serves.asked in
           add_shared (taken.2.sender) serves.add.receiver (past_at cluster turns lawful (taken.2.sender) (taken.0)) frame index word addend may.add
 
   -- each accessed word is one of the code's
