@@ -32,8 +32,8 @@ module _ (events : Events) (memory : SharedMemory) (caching : Caching events mem
   abbrev Access : Type 0
   Access = Entry events now word
 
-  abbrev Before' : Access → Access → Type 0
-  Before' first second = Earlier events now frames word memory caching first second
+  abbrev IsEarlier : Access → Access → Type 0
+  IsEarlier first second = Earlier events now frames word memory caching first second
 
   abbrev shown_by : Access → Act
   shown_by entry = shown_at events now frames word history rows entry
@@ -48,7 +48,10 @@ module _ (events : Events) (memory : SharedMemory) (caching : Caching events mem
       on : (b : Bool) → eqb word other ≡ b → cond b (Some value') None ≡ Some value → Leaves events memory node word at value
       on true same left =
           let value_is : value' ≡ value = cc in
-          OfWrite (record { frame = frame; is = is ∙ ap (λ one. log.Acts node frame (log.Write one value')) (sym (word_is word other same)) ∙ ap (λ one. log.Acts node frame (log.Write word one)) value_is })
+          OfWrite (record {
+            frame = frame;
+            is = is ∙ ap (λ one. log.Acts node frame (log.Write one value')) (sym (word_is word other same)) ∙ ap (λ one. log.Acts node frame (log.Write word one)) value_is;
+          })
       on false same left = absurd cc
   leaves_on node at frame (log.Add other old addend) value is left = on (eqb word other) refl left
     where
@@ -89,7 +92,8 @@ module _ (events : Events) (memory : SharedMemory) (caching : Caching events mem
       on (Some value) is = inl (value, is)
 
   -- where none of these leaves anything, the word stays
-  pub none_left : (value : ℤ) (list : List Access) → ((entry : Access) → Has entry.at list → (left : ℤ) → left_in word (shown_by entry) ≡ Some left → ⊥) → last_write word value (map shown_by list) ≡ value
+  pub none_left : (value : ℤ) (list : List Access)
+      → ((entry : Access) → Has entry.at list → (left : ℤ) → left_in word (shown_by entry) ≡ Some left → ⊥) → last_write word value (map shown_by list) ≡ value
   none_left value [] none = refl
   none_left value (first ∷ list) none = elim (left_or_none first) [
     | inl left ↦ absurd (none first (inl refl) (left.0) (left.1))
@@ -148,14 +152,15 @@ module _ (events : Events) (memory : SharedMemory) (caching : Caching events mem
   sorted_back (first ∷ front) back sorted = sorted_back front back (sorted.1)
 
   -- what stands in front of an entry is earlier
-  pub in_front : (front : List Access) (entry : Access) (back : List Access) → IsSorted (front ++ entry ∷ back) → (one : Access) → Has one.at front → Before' one entry
+  pub in_front : (front : List Access) (entry : Access) (back : List Access) → IsSorted (front ++ entry ∷ back) → (one : Access) → Has one.at front → IsEarlier one entry
   in_front [] entry back sorted one has = absurd has
   in_front (first ∷ front) entry back sorted one (inl same) =
       earlier_as events now frames word memory caching first entry one entry same refl (sorted.0 entry (has_back events now frames word front (entry ∷ back) entry.at (inl refl)))
   in_front (first ∷ front) entry back sorted one (inr has) = in_front front entry back (sorted.1) one has
 
   -- what is earlier stands in front
-  pub stands_in_front : (front : List Access) (entry : Access) (back : List Access) → IsSorted (front ++ entry ∷ back) → (one : Access) → Has one.at (front ++ entry ∷ back) → Before' one entry → Has one.at front
+  pub stands_in_front : (front : List Access) (entry : Access) (back : List Access) → IsSorted (front ++ entry ∷ back)
+      → (one : Access) → Has one.at (front ++ entry ∷ back) → IsEarlier one entry → Has one.at front
   stands_in_front front entry back sorted one has earlier = elim (has_either events now frames word front (entry ∷ back) one.at has) [
     | inl here ↦ here
     | inr (inl same) ↦ absurd (not_earlier events now frames word memory caching entry (earlier_as events now frames word memory caching one entry entry entry (sym same) refl earlier))

@@ -83,13 +83,15 @@ module _ (events : Events) (now : ℕ) (frames : List FrameId) (word : ℕ) wher
     -- two accesses have two places
     pub one_access : (first second : Entry events now word) → place_at first ≡ place_at second → first.at ≡ second.at
     one_access first second same =
-        one_position events now frames history rows first.at first.node (act_of first).frame (act_of first).done second.at second.node (act_of second).frame (act_of second).done first.inside (act_of first).is
+        one_position events now frames history rows first.at first.node (act_of first).frame (act_of first).done
+        second.at second.node (act_of second).frame (act_of second).done first.inside (act_of first).is
         second.inside (act_of second).is same
 
     pub one_place : (first second : Entry events now word) → first.at ≡ second.at → place_at first ≡ place_at second
     one_place first second same = by (act_of first) (act_of second)
       where
-        by : (one : Accesses first.node first.at) → (two : Accesses second.node second.at) → place_for events now frames history rows one.frame first.at ≡ place_for events now frames history rows two.frame second.at
+        by : (one : Accesses first.node first.at) → (two : Accesses second.node second.at)
+            → place_for events now frames history rows one.frame first.at ≡ place_for events now frames history rows two.frame second.at
         by one two =
             let is = sym (one.is) ∙ ap events same ∙ two.is in
             let frame : one.frame ≡ two.frame = cc in

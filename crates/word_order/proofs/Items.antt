@@ -64,7 +64,8 @@ done_turn number turn message course =
     let items = with_items turn.node turn.items course in
     let posts = with_posts turn.node (record { turn = number; index = 0 }) turn.posts items in
     let taking = with_taking turn.node turn.took message posts in
-    done_end turn.node turn.end taking ∙ done_taking turn.node turn.took message posts ∙ done_posts turn.node (record { turn = number; index = 0 }) turn.posts items ∙ done_items turn.node turn.items course
+    done_end turn.node turn.end taking ∙ done_taking turn.node turn.took message posts
+    ∙ done_posts turn.node (record { turn = number; index = 0 }) turn.posts items ∙ done_items turn.node turn.items course
 
 items_of_both : (front back : List Turn) → items_of (front ++ back) ≡ items_of front ++ items_of back
 items_of_both [] back = refl

@@ -53,7 +53,9 @@ module _ (events : Events) (now : ℕ) (frames : List FrameId) (history : Histor
           node = found.1.node;
           after = order_in_row events now frames history rows (place_of row act) (place_of row sync.at) first (found.0) refl sync.behind it (found.1);
           before = up_to (found.0) (found.1) (compare sync.at later_act);
-          is = found.1.is ∙ ap (λ one. log.Acts found.1.node one (found.1.done)) frame ∙ ap (λ one. log.Acts found.1.node it.frame one) (is_sync (found.1.done) (some_same (shown frames (found.1.done)) acts.Sync (sym (found.1.act_is) ∙ sync.is)));
+          is = found.1.is ∙ ap (λ one. log.Acts found.1.node one (found.1.done)) frame
+              ∙ ap (λ one. log.Acts found.1.node it.frame one) (is_sync (found.1.done)
+              (some_same (shown frames (found.1.done)) acts.Sync (sym (found.1.act_is) ∙ sync.is)));
         }
       where
         is_sync : (done : log.Act) → shown frames done ≡ acts.Sync → done ≡ log.Sync
@@ -66,7 +68,8 @@ module _ (events : Events) (now : ℕ) (frames : List FrameId) (history : Histor
 
         up_to : (at : ℕ) → Is (place_of row sync.at) at → Order3 sync.at later_act → at ≤ second
         up_to at found (Less3 less) = let order = order_in_row events now frames history rows (place_of row sync.at) (place_of row later_act) at second refl less found that in omega (arith, order)
-        up_to at found (Same3 one) = let here = one_position_at events now frames history rows (place_of row later_act) at second (subst (λ place. Is (place_of row place) at) one found) that in omega (arith, here)
+        up_to at found (Same3 one) =
+            let here = one_position_at events now frames history rows (place_of row later_act) at second (subst (λ place. Is (place_of row place) at) one found) that in omega (arith, here)
         up_to at found (More3 more) = let up_to = sync.up_to in absurd (omega (arith, more, up_to))
 
     across : (x y : ℕ) → act < later_act → Under events x it.frame first → Under events y that.frame second → (x ≡ first) ⊎ SyncAt events it.frame first second → Precedes events x y

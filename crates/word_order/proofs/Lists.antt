@@ -43,32 +43,33 @@ module _ (events : Events) (now : ℕ) (frames : List FrameId) (word : ℕ) wher
     abbrev pub places_of : List (Entry events now word) → List Place
     places_of list = map (place_at events now frames word history rows) list
 
-    abbrev Place_at : Entry events now word → Place
-    Place_at entry = place_at events now frames word history rows entry
+    abbrev its_place : Entry events now word → Place
+    its_place entry = place_at events now frames word history rows entry
 
     -- a place of the list is that of an entry
-    pub entry_in : (list : List (Entry events now word)) (place : Place) → Contains (places_of list) place → (entry : Entry events now word) × Has entry.at list × (place ≡ Place_at entry)
+    pub entry_in : (list : List (Entry events now word)) (place : Place) → Contains (places_of list) place → (entry : Entry events now word) × Has entry.at list × (place ≡ its_place entry)
     entry_in [] place is = absurd (nothing_in_none place is)
-    entry_in (first ∷ list) place is = elim (first_or_later (Place_at first) (places_of list) place is) [
+    entry_in (first ∷ list) place is = elim (first_or_later (its_place first) (places_of list) place is) [
       | inl same ↦ (first, inl refl, sym same)
       | inr later ↦ (let it = entry_in list place later in (it.0, inr (it.1), it.2))
     ]
 
-    pub place_in : (list : List (Entry events now word)) (entry : Entry events now word) → Has entry.at list → Contains (places_of list) (Place_at entry)
+    pub place_in : (list : List (Entry events now word)) (entry : Entry events now word) → Has entry.at list → Contains (places_of list) (its_place entry)
     place_in [] entry has = absurd has
-    place_in (first ∷ list) entry (inl same) = subst (λ place. Contains (places_of (first ∷ list)) place) (one_place events now frames word history rows first entry same) (is_first (Place_at first) (places_of list))
-    place_in (first ∷ list) entry (inr has) = is_later (Place_at first) (places_of list) (Place_at entry) (place_in list entry has)
+    place_in (first ∷ list) entry (inl same) =
+        subst (λ place. Contains (places_of (first ∷ list)) place) (one_place events now frames word history rows first entry same) (is_first (its_place first) (places_of list))
+    place_in (first ∷ list) entry (inr has) = is_later (its_place first) (places_of list) (its_place entry) (place_in list entry has)
 
     pub only_accesses : (list : List (Entry events now word)) (place : Place) → Contains (places_of list) place → is_access history word place ≡ true
     only_accesses list place is = let it = entry_in list place is in ap (is_access history word) (it.2) ∙ is_accessed events now frames word history rows (it.0)
 
     module _ (memory : SharedMemory) (caching : Caching events memory) where
-      abbrev Before' : Entry events now word → Entry events now word → Type 0
-      Before' first second = Earlier events now frames word memory caching first second
+      abbrev IsEarlier : Entry events now word → Entry events now word → Type 0
+      IsEarlier first second = Earlier events now frames word memory caching first second
 
       -- what stands before another place in the list is earlier in the home order
       pub stands_earlier : (list : List (Entry events now word)) → Sorted events memory now word list → (x y : Place) → StandsBefore (places_of list) x y
-          → (first second : Entry events now word) × (x ≡ Place_at first) × (y ≡ Place_at second) × Before' first second
+          → (first second : Entry events now word) × (x ≡ its_place first) × (y ≡ its_place second) × IsEarlier first second
       stands_earlier [] sorted x y stands = absurd stands
       stands_earlier (first ∷ list) sorted x y (inl stands) = let it = entry_in list y (stands.1) in (first, it.0, sym (stands.0), it.2, sorted.0 (it.0) (it.1))
       stands_earlier (first ∷ list) sorted x y (inr stands) = stands_earlier list (sorted.1) x y stands
@@ -80,15 +81,16 @@ module _ (events : Events) (now : ℕ) (frames : List FrameId) (word : ℕ) wher
           not_earlier events now frames word memory caching (it.1) (earlier_as events now frames word memory caching (it.0) (it.1) (it.1) (it.1) same refl (it.4))
 
       -- what the home order has first stands first
-      pub stands_as : (list : List (Entry events now word)) → Sorted events memory now word list → (first second : Entry events now word) → Has first.at list → Has second.at list → Before' first second
-          → StandsBefore (places_of list) (Place_at first) (Place_at second)
+      pub stands_as : (list : List (Entry events now word)) → Sorted events memory now word list
+          → (first second : Entry events now word) → Has first.at list → Has second.at list → IsEarlier first second
+          → StandsBefore (places_of list) (its_place first) (its_place second)
       stands_as list sorted first second has has' earlier =
-          elim (one_stands_first (places_of list) (Place_at first) (Place_at second) (place_in list first has) (place_in list second has')) [
+          elim (one_stands_first (places_of list) (its_place first) (its_place second) (place_in list first has) (place_in list second has')) [
             | inl same ↦ absurd (not_earlier events now frames word memory caching second
                 (earlier_as events now frames word memory caching first second second second (one_access events now frames word history rows first second same) refl earlier))
             | inr (inl stands) ↦ stands
             | inr (inr stands) ↦ absurd (
-                let it = stands_earlier list sorted (Place_at second) (Place_at first) stands in
+                let it = stands_earlier list sorted (its_place second) (its_place first) stands in
                 let one = one_access events now frames word history rows (it.0) second (sym (it.2)) in
                 let two = one_access events now frames word history rows (it.1) first (sym (it.3)) in
                 let back = earlier_as events now frames word memory caching (it.0) (it.1) second first one two (it.4) in
@@ -96,22 +98,26 @@ module _ (events : Events) (now : ℕ) (frames : List FrameId) (word : ℕ) wher
           ]
 
       pub keeps_the_dag : (list : List (Entry events now word)) → Sorted events memory now word list
-          → ((node other act later : ℕ) → later < now → IsAccess events node word act → IsAccess events other word later → Precedes events act later → Before events memory now word node act other later)
+          → ((node other act later : ℕ) → later < now → IsAccess events node word act → IsAccess events other word later
+          → Precedes events act later → Before events memory now word node act other later)
           → (x y : Place) → Contains (places_of list) x → Contains (places_of list) y → dag.Precedes history x y → StandsBefore (places_of list) x y
       keeps_the_dag list sorted keeps x y is_x is_y before =
           let one = entry_in list x is_x in
           let two = entry_in list y is_y in
           let first = one.0 in
           let second = two.0 in
-          let here : dag.Precedes history (Place_at first) (Place_at second) = subst (λ place. dag.Precedes history place (Place_at second)) (one.2) (subst (λ place. dag.Precedes history x place) (two.2) before) in
-          let in_events = precedes events now frames history rows (Place_at first) (Place_at second) first.at second.at (stands_at events now frames word history rows first) (stands_at events now frames word history rows second)
+          let here : dag.Precedes history (its_place first) (its_place second) =
+          subst (λ place. dag.Precedes history place (its_place second)) (one.2) (subst (λ place. dag.Precedes history x place) (two.2) before) in
+          let in_events = precedes events now frames history rows (its_place first) (its_place second) first.at second.at
+          (stands_at events now frames word history rows first) (stands_at events now frames word history rows second)
           (is_place events now frames word history rows first) (is_place events now frames word history rows second) here in
-          let earlier : Before' first second = keeps first.node second.node first.at second.at second.inside first.is second.is in_events in
+          let earlier : IsEarlier first second = keeps first.node second.node first.at second.at second.inside first.is second.is in_events in
           subst (λ place. StandsBefore (places_of list) place y) (sym (one.2))
-          (subst (λ place. StandsBefore (places_of list) (Place_at first) place) (sym (two.2)) (stands_as list sorted first second (one.1) (two.1) earlier))
+          (subst (λ place. StandsBefore (places_of list) (its_place first) place) (sym (two.2)) (stands_as list sorted first second (one.1) (two.1) earlier))
 
   -- the list of the word has each of its accesses
-  pub all_accesses : (memory : SharedMemory) (history : History) (rows : AreRows events now frames history) (list : HomeList events memory now word) (place : Place) → is_access history word place ≡ true
+  pub all_accesses : (memory : SharedMemory) (history : History) (rows : AreRows events now frames history) (list : HomeList events memory now word)
+      (place : Place) → is_access history word place ≡ true
       → Contains (places_of history rows list.list) place
   all_accesses memory history rows list place is =
       let it = entry_for events now frames word history rows place is in

@@ -37,7 +37,8 @@ module _ (node : Node) (order : AreInOrder 0 node.code.shared) where
   live_fine deposits [] each = tt
   live_fine deposits (life ∷ below) each = on (returned life) (λ deposits. live_fine deposits below (each.1))
     where
-      on : (value : Option ℤ) → ((deposits : List Deposit) → EachFine (live_from deposits below)) → EachFine (elim value [ None ↦ record life { kept = life.kept ++ deposits } ∷ below | Some value ↦ live_from ((life.spawned.target, value) ∷ []) below ])
+      on : (value : Option ℤ) → ((deposits : List Deposit) → EachFine (live_from deposits below))
+          → EachFine (elim value [ None ↦ record life { kept = life.kept ++ deposits } ∷ below | Some value ↦ live_from ((life.spawned.target, value) ∷ []) below ])
       on None rest = each
       on (Some value) rest = rest ((life.spawned.target, value) ∷ [])
 

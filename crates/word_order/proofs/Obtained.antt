@@ -23,8 +23,8 @@ module _ (events : Events) (memory : SharedMemory) (caching : Caching events mem
   abbrev Access : Type 0
   Access = Entry events now word
 
-  abbrev Before' : Access → Access → Type 0
-  Before' first second = Earlier events now frames word memory caching first second
+  abbrev IsEarlier : Access → Access → Type 0
+  IsEarlier first second = Earlier events now frames word memory caching first second
 
   abbrev shown_by : Access → Act
   shown_by entry = shown_at events now frames word history rows entry
@@ -68,9 +68,9 @@ module _ (events : Events) (memory : SharedMemory) (caching : Caching events mem
 
               none : (other : Access) → Has other.at back → (left : ℤ) → left_in word (shown_by other) ≡ Some left → ⊥
               none other has_other left is =
-                  let behind_one : Before' one other = (sorted_back events memory caching sums now frames history rows word front (one ∷ back) sorted_here).0 other has_other in
+                  let behind_one : IsEarlier one other = (sorted_back events memory caching sums now frames history rows word front (one ∷ back) sorted_here).0 other has_other in
                   let in_before : Has other.at before = subst (λ list. Has other.at list) (sym parts) (has_back events now frames word front (one ∷ back) other.at (inr has_other)) in
-                  let earlier : Before' other entry = in_front events memory caching sums now frames history rows word before entry behind sorted other in_before in
+                  let earlier : IsEarlier other entry = in_front events memory caching sums now frames history rows word before entry behind sorted other in_before in
                   elim (last.last other.node other.at other.inside (left, leaves_of events memory caching sums now frames history rows word other left is) earlier) [
                     | inl here ↦ not_earlier events now frames word memory caching one (earlier_as events now frames word memory caching one other one one refl (here ∙ sym same) behind_one)
                     | inr front_of ↦ not_earlier events now frames word memory caching one
@@ -88,7 +88,8 @@ module _ (events : Events) (memory : SharedMemory) (caching : Caching events mem
       obtained value obtains = elim (reads word entry.node entry.at value entry.inside obtains) [ inl last ↦ sym (last_is value last) | inr none ↦ sym (none_is value none) ]
 
       answered : (is : IsAccess events entry.node word entry.at) → entry.is ≡ is → IsAnsweredFrom (λ one. last_write one (memory.start one) (map shown_by before)) (shown_by entry)
-      answered (inl (inl write)) same = subst (λ is. IsAnsweredFrom (λ one. last_write one (memory.start one) (map shown_by before)) (shown frames (act_in events now frames word entry.node entry.at is).done)) (sym same) tt
+      answered (inl (inl write)) same =
+          subst (λ is. IsAnsweredFrom (λ one. last_write one (memory.start one) (map shown_by before)) (shown frames (act_in events now frames word entry.node entry.at is).done)) (sym same) tt
       answered (inl (inr read)) same =
           subst (λ is. IsAnsweredFrom (λ one. last_write one (memory.start one) (map shown_by before)) (shown frames (act_in events now frames word entry.node entry.at is).done)) (sym same)
           (obtained (read.0) (inl (read.1)))
@@ -98,10 +99,13 @@ module _ (events : Events) (memory : SharedMemory) (caching : Caching events mem
 
     -- In the list of the word each is answered by the last write before it.
     pub reads_last_writes : ReadsLastWrites memory.start (filter_map (act_at history) (places_of events now frames word history rows list.list))
-    reads_last_writes front back act is = on (cut_at events memory caching sums now frames history rows word list.list front back act (sym (acts_are events memory caching sums now frames history rows word list.list) ∙ is))
+    reads_last_writes front back act is =
+        on (cut_at events memory caching sums now frames history rows word list.list front back act
+        (sym (acts_are events memory caching sums now frames history rows word list.list) ∙ is))
       where
         on : Cut events memory caching sums now frames history rows word list.list front act → IsAnsweredFrom (λ one. last_write one (memory.start one) front) act
         on cut =
-            let it = answered cut.before cut.entry cut.behind (subst IsSorted cut.parts list.sorted) (λ node at inside is. subst (λ one. Has at one) cut.parts (list.all node at inside is)) cut.entry.is refl in
+            let it = answered cut.before cut.entry cut.behind (subst IsSorted cut.parts list.sorted)
+            (λ node at inside is. subst (λ one. Has at one) cut.parts (list.all node at inside is)) cut.entry.is refl in
             subst (λ one. IsAnsweredFrom (λ word. last_write word (memory.start word) front) one) cut.act_is
             (subst (λ list. IsAnsweredFrom (λ word. last_write word (memory.start word) list) (shown_by cut.entry)) cut.front_is it)

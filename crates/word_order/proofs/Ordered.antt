@@ -87,5 +87,5 @@ module _ (cluster : Cluster) (turns : List WholeTurn) (lawful : IsLawful cluster
   -- with a list for each of so many words
   pub as_many : length orders ≡ words
   as_many =
-      length-map-range_with_len (order_of (events_of cluster (course_of turns)) (memory_of cluster) (keeps_the_page_rules cluster turns lawful) (λ old addend. refl) (length (course_of turns)) frames history
-      (are_rows cluster turns main frames history is_history made) consistent) 0 words
+      length-map-range_with_len (order_of (events_of cluster (course_of turns)) (memory_of cluster) (keeps_the_page_rules cluster turns lawful) (λ old addend. refl)
+      (length (course_of turns)) frames history (are_rows cluster turns main frames history is_history made) consistent) 0 words

@@ -77,7 +77,8 @@ module _ (events : Events) (now : ℕ) (frames : List FrameId) (history : Histor
   pub act_here : (at node : ℕ) (frame : FrameId) (act : log.Act) → at < now → events at ≡ log.Acts node frame act → act_at history (place_for frame at) ≡ Some (shown frames act)
   act_here at node frame act inside is =
       let number = number_get frames frame (rows.named at node frame act inside is) in
-      subst (λ acts. slice_get acts (place_in frames events frame at) ≡ Some (shown frames act)) (sym (rows.acts (row_number frames frame) frame number)) (act_there frames events frame at node now act is inside)
+      subst (λ acts. slice_get acts (place_in frames events frame at) ≡ Some (shown frames act))
+      (sym (rows.acts (row_number frames frame) frame number)) (act_there frames events frame at node now act is inside)
 
   pub place_there : (at node : ℕ) (frame : FrameId) (act : log.Act) → at < now → events at ≡ log.Acts node frame act → IsPlace history (place_for frame at)
   place_there at node frame act inside is = slice_get_within (row_at history (row_number frames frame)).acts (place_in frames events frame at) (shown frames act) (act_here at node frame act inside is)

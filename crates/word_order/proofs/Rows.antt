@@ -158,7 +158,9 @@ module _ (frames : List FrameId) (events : Events) (frame : FrameId) where
   found_by now place act event is found rest = on event is found
     where
       older : slice_get (acts now) place ≡ Some act → Found (suc now) place act
-      older found = let it = rest found in record { at = it.at; node = it.node; done = it.done; inside = (let less = it.inside in omega (arith, less)); is = it.is; place_is = it.place_is; act_is = it.act_is }
+      older found =
+          let it = rest found in
+          record { at = it.at; node = it.node; done = it.done; inside = (let less = it.inside in omega (arith, less)); is = it.is; place_is = it.place_is; act_is = it.act_is }
 
       nothing : (list : List Act) → slice_get (list ++ []) place ≡ Some act → slice_get list place ≡ Some act
       nothing list found = let same : list ++ [] ≡ list = search rules in subst (λ it. slice_get it place ≡ Some act) same found
@@ -169,7 +171,15 @@ module _ (frames : List FrameId) (events : Events) (frame : FrameId) where
           by : (b : Bool) → same_frame other frame ≡ b → slice_get (acts now ++ cond b (shown frames done ∷ []) []) place ≡ Some act → Found (suc now) place act
           by true same found = elim (get_more (acts now) (shown frames done) act place found) [
             | inl earlier ↦ older earlier
-            | inr here ↦ record { at = now; node = node; done = done; inside = omega arith; is = is ∙ ap (λ it. log.Acts node it done) (frame_is other frame same); place_is = sym (here.0); act_is = here.1 }
+            | inr here ↦ record {
+              at = now;
+              node = node;
+              done = done;
+              inside = omega arith;
+              is = is ∙ ap (λ it. log.Acts node it done) (frame_is other frame same);
+              place_is = sym (here.0);
+              act_is = here.1;
+            }
           ]
           by false same found = older (nothing (acts now) found)
       on log.Nothing is found = older (nothing (acts now) found)
