@@ -22,3 +22,4 @@ pub mod Holding
 pub mod Advancing
 pub mod Phases
 pub mod UnderWay
+pub mod Asking
