@@ -161,7 +161,7 @@ module _ (cluster : Cluster) (course : Course) (node : ℕ) (here : Option PostA
     olds = λ number. olds number ∙ phased.olds number ∙ ap (λ it. one (is_told it)) (sym (same number));
   }
 
-  quiet_idle : IsQuiet past → phase_of node course ≡ Idle
+  pub quiet_idle : IsQuiet past → phase_of node course ≡ Idle
   quiet_idle quiet = idle_is (phase_of node course) (sym (phased.waiting node) ∙ quiet ForAdded)
 
   -- ---- items
@@ -184,20 +184,20 @@ module _ (cluster : Cluster) (course : Course) (node : ℕ) (here : Option PostA
     add_is : (number : ℕ) (other : FrameId) (acts : ℕ) → add_from number other acts serves.add ≡ one (eqb asker number && (same_frame frame other && eqb index acts))
     add_is number other acts = ap (λ it. one (adds_body number other acts asker it)) serves.asked
 
-    was_asked : phase_of asker course ≡ Asked frame index
+    pub was_asked : phase_of asker course ≡ Asked frame index
     was_asked =
         let counts = owed_counts cluster course node here less asker frame index serves.add serves.later serves.oldest in
         let here_one : add_from asker frame index serves.add ≡ 1 = add_is asker frame index ∙ rw (own_number asker, same_self frame, own_number index) refl in
         let before = phased.adds asker frame index in
         asked_same frame index (phase_of asker course) (is_one (is_asked frame index (phase_of asker course)) (omega (arith, counts, here_one, before)))
 
-    phase_served : (number : ℕ) → phase_of number (more served) ≡ cond (eqb asker number) (Told frame index) (phase_of number course)
+    pub phase_served : (number : ℕ) → phase_of number (more served) ≡ cond (eqb asker number) (Told frame index) (phase_of number course)
     phase_served number = ap (λ adds. after_adding number frame index adds (phase_of number course)) serves.oldest
 
-    phase_asker : phase_of asker (more served) ≡ Told frame index
+    pub phase_asker : phase_of asker (more served) ≡ Told frame index
     phase_asker = phase_served asker ∙ ap (λ b. cond b (Told frame index) (phase_of asker course)) (own_number asker)
 
-    phase_others : (number : ℕ) → eqb asker number ≡ false → phase_of number (more served) ≡ phase_of number course
+    pub phase_others : (number : ℕ) → eqb asker number ≡ false → phase_of number (more served) ≡ phase_of number course
     phase_others number other = phase_served number ∙ ap (λ b. cond b (Told frame index) (phase_of number course)) other
 
     stack_stays : stack_of (node_at cluster node) (served ∷ past) ≡ stack_of (node_at cluster node) past
@@ -288,7 +288,7 @@ module _ (cluster : Cluster) (course : Course) (node : ℕ) (here : Option PostA
     abbrev post : Event
     post = Sent message
 
-    phase_posted : (number : ℕ) (said : Body) → message.body ≡ said → phase_of number (more post) ≡ cond (eqb node number) (after_post said (phase_of number course)) (phase_of number course)
+    pub phase_posted : (number : ℕ) (said : Body) → message.body ≡ said → phase_of number (more post) ≡ cond (eqb node number) (after_post said (phase_of number course)) (phase_of number course)
     phase_posted number said is = ap (λ it. cond (eqb node number) (after_post it (phase_of number course)) (phase_of number course)) is
 
     -- it is neither an Add nor an Added
@@ -308,13 +308,13 @@ module _ (cluster : Cluster) (course : Course) (node : ℕ) (here : Option PostA
         olds_posted cluster course node here less number message posts (ap tells_in is ∙ other) (ap (λ it. one (tells_body number message.receiver it)) is ∙ ap one (none number message.receiver))
 
     module _ (frame : FrameId) (index word : ℕ) (addend : ℤ) (is : message.body ≡ body.Add frame index word addend) (may : MayPostAdd (node_at cluster node) past message.receiver frame index word addend) where
-      phase_node : phase_of node (more post) ≡ Asked frame index
+      pub phase_node : phase_of node (more post) ≡ Asked frame index
       phase_node = phase_posted node (body.Add frame index word addend) is ∙ ap (λ b. cond b (Asked frame index) (phase_of node course)) (own_number node)
 
-      phase_apart : (number : ℕ) → number ≢ node → phase_of number (more post) ≡ phase_of number course
+      pub phase_apart : (number : ℕ) → number ≢ node → phase_of number (more post) ≡ phase_of number course
       phase_apart number not = phase_posted number (body.Add frame index word addend) is ∙ ap (λ b. cond b (Asked frame index) (phase_of number course)) (other_number node number (λ same. not (sym same)))
 
-      was_idle : phase_of node course ≡ Idle
+      pub was_idle : phase_of node course ≡ Idle
       was_idle = quiet_idle may.quiet
 
       add_amount : (number : ℕ) (other : FrameId) (acts : ℕ) → add_from number other acts message ≡ one (eqb node number && (same_frame frame other && eqb index acts))
@@ -409,7 +409,7 @@ module _ (cluster : Cluster) (course : Course) (node : ℕ) (here : Option PostA
     abbrev taking : Event
     taking = Took message
 
-    phase_taken : (number : ℕ) (said : Body) → message.body ≡ said → phase_of number (more taking) ≡ cond (eqb node number) (after_taking said (phase_of number course)) (phase_of number course)
+    pub phase_taken : (number : ℕ) (said : Body) → message.body ≡ said → phase_of number (more taking) ≡ cond (eqb node number) (after_taking said (phase_of number course)) (phase_of number course)
     phase_taken number said is = ap (λ it. cond (eqb node number) (after_taking it (phase_of number course)) (phase_of number course)) is
 
     -- it is no Added
@@ -424,16 +424,16 @@ module _ (cluster : Cluster) (course : Course) (node : ℕ) (here : Option PostA
         (subst (IsFirst (phase_of node course)) (sym stack) (phased.first node))
 
     module _ (old : ℤ) (is : message.body ≡ body.Added old) where
-      phase_done : phase_of node (more taking) ≡ Idle
+      pub phase_done : phase_of node (more taking) ≡ Idle
       phase_done = phase_taken node (body.Added old) is ∙ ap (λ b. cond b Idle (phase_of node course)) (own_number node)
 
-      phase_far : (number : ℕ) → number ≢ node → phase_of number (more taking) ≡ phase_of number course
+      pub phase_far : (number : ℕ) → number ≢ node → phase_of number (more taking) ≡ phase_of number course
       phase_far number not = phase_taken number (body.Added old) is ∙ ap (λ b. cond b Idle (phase_of number course)) (other_number node number (λ same. not (sym same)))
 
       old_amount : (number : ℕ) → old_to number message ≡ one (eqb node number)
       old_amount number = ap (λ it. one (tells_body number message.receiver it)) is ∙ ap (λ it. one (eqb it number)) takes.receiver
 
-      was_told : is_told (phase_of node course) ≡ true
+      pub was_told : is_told (phase_of node course) ≡ true
       was_told =
           let took = olds_took cluster course node here less node message stepped takes in
           let amount : old_to node message ≡ 1 = old_amount node ∙ ap one (own_number node) in

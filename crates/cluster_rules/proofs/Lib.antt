@@ -23,3 +23,5 @@ pub mod Advancing
 pub mod Phases
 pub mod UnderWay
 pub mod Asking
+pub mod Claiming
+pub mod Indexing
