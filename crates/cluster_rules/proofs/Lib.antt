@@ -25,3 +25,4 @@ pub mod UnderWay
 pub mod Asking
 pub mod Claiming
 pub mod Indexing
+pub mod Claimed
