@@ -529,3 +529,10 @@ phased cluster [] stepped = record {
   olds = λ number. start_olds cluster number;
 }
 phased cluster (moved ∷ course) stepped = event_phased cluster course moved.node moved.message moved.event stepped.0 stepped.1 (phased cluster course stepped.0)
+
+-- an Add of this frame and index is under way
+pub asked_by : (cluster : Cluster) (course : Course) → Phased cluster course → (number : ℕ) (frame : FrameId) (index : ℕ) → 1 ≤ under_way cluster course number frame index
+    → phase_of number course ≡ Asked frame index
+asked_by cluster course phased number frame index some =
+    let is = phased.adds number frame index in
+    asked_same frame index (phase_of number course) (is_one (is_asked frame index (phase_of number course)) (omega (arith, some, is)))

@@ -13,10 +13,10 @@ use Rattle.cluster_rules.specs.Runs.{Cluster, node_at, IsFree, IsOwed, MayDo}
 use Rattle.cluster_rules.specs.Allowed.{IsAllowed}
 use Rattle.cluster_rules.specs.Positions.{Moved, Course, own}
 use Rattle.cluster_rules.proofs.Stepping.{Step, Stepped}
-use Rattle.cluster_rules.proofs.Summing.{sum_none}
+use Rattle.cluster_rules.proofs.Summing.{sum_none, sum_one}
 use Rattle.cluster_rules.proofs.Marks.{Mark, one, many, many_append, named, marks, marks_of, other_marks, same_self, same_name, AddsFirst}
 use Rattle.cluster_rules.proofs.Passing.{is_among}
-use Rattle.cluster_rules.proofs.Holding.{at_node, one_node}
+use Rattle.cluster_rules.proofs.Holding.{at_node, held, one_node}
 use Rattle.cluster_rules.proofs.Advancing.{counted, acts_counted}
 use Rattle.cluster_rules.proofs.Phases.{Phase, Idle, Asked, Told, phase_of, is_told_of, waits_in, IsFirst}
 use Rattle.cluster_rules.proofs.Asking.{Phased, phased, quiet_idle, was_asked}
@@ -42,6 +42,11 @@ first_mark such frame acts (life ∷ below) first =
     let is : one (such (record { id = life.id; acts = life.acts })) ≡ one (such (record { id = frame; acts = acts })) = ap (λ it. one (such it)) same in
     omega (arith, is)
 
+pub first_stack_mark : (cluster : Cluster) (course : Course) (number : ℕ) (frame : FrameId) (acts : ℕ) → AddsFirst frame acts (stack_of (node_at cluster number) (own number course))
+    → HasMark cluster course number (record { id = frame; acts = acts })
+first_stack_mark cluster course number frame acts first =
+    stack_mark cluster course number (record { id = frame; acts = acts }) (λ such. first_mark such frame acts (stack_of (node_at cluster number) (own number course)) first)
+
 module _ (cluster : Cluster) (course : Course) (stepped : Stepped cluster course) where
   -- a frame that was not told of its add is the first of its stack
   told_there : (number : ℕ) (frame : FrameId) (phase : Phase) → phase_of number course ≡ phase → is_told_of frame phase ≡ true → 1 ≤ at_node cluster course (named frame) number
@@ -51,7 +56,7 @@ module _ (cluster : Cluster) (course : Course) (stepped : Stepped cluster course
       let name = same_name other frame told in
       let first : AddsFirst other acts (stack_of (node_at cluster number) (own number course)) =
       subst (λ it. IsFirst it (stack_of (node_at cluster number) (own number course))) is ((phased cluster course stepped).first number) in
-      let has = stack_mark cluster course number (record { id = other; acts = acts }) (λ such. first_mark such other acts (stack_of (node_at cluster number) (own number course)) first) in
+      let has = first_stack_mark cluster course number other acts first in
       subst (λ it. 1 ≤ at_node cluster course (named it) number) name (mark_named cluster course number other acts has)
 
   told_within : (number : ℕ) (frame : FrameId) (phase : Phase) → phase_of number course ≡ phase → is_told_of frame phase ≡ true → number < cluster.config.nodes
@@ -79,6 +84,15 @@ module _ (cluster : Cluster) (course : Course) (stepped : Stepped cluster course
       let sums = adds_up cluster course stepped frame in
       omega (arith, counts, none, sums)
 
+  mark_held : (node : ℕ) → node < cluster.config.nodes → (frame : FrameId) (acts : ℕ) → HasMark cluster course node (record { id = frame; acts = acts }) → 1 ≤ held cluster course frame
+  mark_held node less frame acts has =
+      let here = mark_named cluster course node frame acts has in
+      let whole = sum_one cluster.config.nodes (at_node cluster course (named frame)) node less in omega (arith, here, whole)
+
+  -- the frame has made so many acts, and is somewhere
+  abbrev pub Made : FrameId → ℕ → Type 0
+  Made frame index = (index ≡ acts_before frame course) × (1 ≤ held cluster course frame)
+
   module _ (moved : Moved) (step : Step cluster course moved) where
     abbrev node : ℕ
     node = moved.node
@@ -87,32 +101,31 @@ module _ (cluster : Cluster) (course : Course) (stepped : Stepped cluster course
     past = own node course
 
     -- the frame that acts, on a node that waits for nothing
-    acting : (frame : FrameId) (life : Life) (index : ℕ) → IsFree past → Acts (node_at cluster node) past frame life → index ≡ life.acts → index ≡ acts_before frame course
+    acting : (frame : FrameId) (life : Life) (index : ℕ) → IsFree past → Acts (node_at cluster node) past frame life → index ≡ life.acts → Made frame index
     acting frame life index free acts index_is =
         let idle = quiet_idle cluster course node moved.message step.within (phased cluster course stepped) free.quiet in
-        mark_acts node step.within frame index
-        (stack_mark cluster course node (record { id = frame; acts = index }) (is_among (node_at cluster node) past frame life acts index index_is))
-        (ap (is_told_of frame) idle)
+        let has = stack_mark cluster course node (record { id = frame; acts = index }) (is_among (node_at cluster node) past frame life acts index index_is) in
+        (mark_acts node step.within frame index has (ap (is_told_of frame) idle), mark_held node step.within frame index has)
 
     -- the frame whose add is done
-    serving : (frame : FrameId) (index word : ℕ) (old addend : ℤ) → Serves (node_at cluster node) past frame index word old addend → index ≡ acts_before frame course
+    serving : (frame : FrameId) (index word : ℕ) (old addend : ℤ) → Serves (node_at cluster node) past frame index word old addend → Made frame index
     serving frame index word old addend serves =
         let asker = serves.add.sender in
         let known = phased cluster course stepped in
         let asked = was_asked cluster course node moved.message step.within known frame index word old addend serves in
         let first : AddsFirst frame index (stack_of (node_at cluster asker) (own asker course)) =
         subst (λ it. IsFirst it (stack_of (node_at cluster asker) (own asker course))) asked (known.first asker) in
-        mark_acts asker (known.within asker (ap waits_in asked)) frame index
-        (stack_mark cluster course asker (record { id = frame; acts = index }) (λ such. first_mark such frame index (stack_of (node_at cluster asker) (own asker course)) first))
-        (ap (is_told_of frame) asked)
+        let within = known.within asker (ap waits_in asked) in
+        let has = first_stack_mark cluster course asker frame index first in
+        (mark_acts asker within frame index has (ap (is_told_of frame) asked), mark_held asker within frame index has)
 
     act_on : (frame : FrameId) (index : ℕ) (act : LoggedAct) (rest : List Item) (posts : List Msg)
-        → IsOwed (node_at cluster node) past (item.Act frame index act) ⊎ (IsFree past × MayDo (node_at cluster node) past (item.Act frame index act) rest posts) → index ≡ acts_before frame course
+        → IsOwed (node_at cluster node) past (item.Act frame index act) ⊎ (IsFree past × MayDo (node_at cluster node) past (item.Act frame index act) rest posts) → Made frame index
     act_on frame index act rest posts (inl owed) = absurd owed
     act_on frame index act rest posts (inr both) = acting frame both.1.life index both.0 both.1.acts both.1.index_is
 
     served_on : (frame : FrameId) (index word : ℕ) (old addend : ℤ) (rest : List Item) (posts : List Msg)
-        → IsOwed (node_at cluster node) past (item.Served frame index word old addend) ⊎ (IsFree past × MayDo (node_at cluster node) past (item.Served frame index word old addend) rest posts) → index ≡ acts_before frame course
+        → IsOwed (node_at cluster node) past (item.Served frame index word old addend) ⊎ (IsFree past × MayDo (node_at cluster node) past (item.Served frame index word old addend) rest posts) → Made frame index
     served_on frame index word old addend rest posts (inl serves) = serving frame index word old addend serves
     served_on frame index word old addend rest posts (inr both) = acting frame both.1.add.life index both.0 both.1.add.acts both.1.add.index_is
 
@@ -126,20 +139,34 @@ Claims frame index (item.OwnFetch page words) = ⊥
 Claims frame index (item.OwnReconcile part) = ⊥
 Claims frame index (item.Served other number word old addend) = (other ≡ frame) × (number ≡ index)
 
-claim_on : (cluster : Cluster) (course : Course) (moved : Moved) → Stepped cluster course → Step cluster course moved → (done : Item) (frame : FrameId) (index : ℕ)
-    → IsAllowed (node_at cluster moved.node) (own moved.node course) (Did done) → Claims frame index done → index ≡ acts_before frame course
+renamed : (cluster : Cluster) (course : Course) (stepped : Stepped cluster course) (other frame : FrameId) (number index : ℕ) → other ≡ frame → number ≡ index → Made cluster course stepped other number
+    → Made cluster course stepped frame index
+renamed cluster course stepped other frame number index names numbers made =
+    subst (Made cluster course stepped frame) numbers (subst (λ it. Made cluster course stepped it number) names made)
+
+claim_on : (cluster : Cluster) (course : Course) (moved : Moved) → (stepped : Stepped cluster course) → Step cluster course moved → (done : Item) (frame : FrameId) (index : ℕ)
+    → IsAllowed (node_at cluster moved.node) (own moved.node course) (Did done) → Claims frame index done → Made cluster course stepped frame index
 claim_on cluster course moved stepped step (item.Act other number act) frame index does claims =
-    sym claims.1 ∙ act_on cluster course stepped moved step other number act does.rest does.posts does.may ∙ ap (λ it. acts_before it course) claims.0
+    renamed cluster course stepped other frame number index claims.0 claims.1 (act_on cluster course stepped moved step other number act does.rest does.posts does.may)
 claim_on cluster course moved stepped step (item.Tick other) frame index does claims = absurd claims
 claim_on cluster course moved stepped step (item.Drop page) frame index does claims = absurd claims
 claim_on cluster course moved stepped step (item.TakeUp other) frame index does claims = absurd claims
 claim_on cluster course moved stepped step (item.OwnFetch page words) frame index does claims = absurd claims
 claim_on cluster course moved stepped step (item.OwnReconcile part) frame index does claims = absurd claims
 claim_on cluster course moved stepped step (item.Served other number word old addend) frame index does claims =
-    sym claims.1 ∙ served_on cluster course stepped moved step other number word old addend does.rest does.posts does.may ∙ ap (λ it. acts_before it course) claims.0
+    renamed cluster course stepped other frame number index claims.0 claims.1 (served_on cluster course stepped moved step other number word old addend does.rest does.posts does.may)
+
+claim : (cluster : Cluster) (course : Course) (moved : Moved) → (stepped : Stepped cluster (moved ∷ course)) → (done : Item) → moved.event ≡ Did done → (frame : FrameId) (index : ℕ) → Claims frame index done
+    → Made cluster course stepped.0 frame index
+claim cluster course moved stepped done is frame index claims =
+    claim_on cluster course moved stepped.0 stepped.1 done frame index (subst (IsAllowed (node_at cluster moved.node) (own moved.node course)) is stepped.1.allowed) claims
 
 -- The index of an act is the number of acts that its frame made before.
 pub index_is_count : (cluster : Cluster) (course : Course) (moved : Moved) → Stepped cluster (moved ∷ course) → (done : Item) → moved.event ≡ Did done → (frame : FrameId) (index : ℕ) → Claims frame index done
     → index ≡ acts_before frame course
-index_is_count cluster course moved stepped done is frame index claims =
-    claim_on cluster course moved stepped.0 stepped.1 done frame index (subst (IsAllowed (node_at cluster moved.node) (own moved.node course)) is stepped.1.allowed) claims
+index_is_count cluster course moved stepped done is frame index claims = (claim cluster course moved stepped done is frame index claims).0
+
+-- Its frame is somewhere as it is made.
+pub claims_held : (cluster : Cluster) (course : Course) (moved : Moved) → Stepped cluster (moved ∷ course) → (done : Item) → moved.event ≡ Did done → (frame : FrameId) (index : ℕ) → Claims frame index done
+    → 1 ≤ held cluster course frame
+claims_held cluster course moved stepped done is frame index claims = (claim cluster course moved stepped done is frame index claims).1

@@ -26,3 +26,4 @@ pub mod Asking
 pub mod Claiming
 pub mod Indexing
 pub mod Claimed
+pub mod Places
