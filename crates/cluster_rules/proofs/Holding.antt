@@ -95,6 +95,11 @@ next_on node number moved course = on (eqb moved.node number)
     on true = omega arith
     on false = omega arith
 
+-- the numbers that are given grow
+pub next_grows : (cluster : Cluster) (course : Course) (moved : Moved) (frame : FrameId)
+    → next_frame (node_at cluster frame.node) (own frame.node course) ≤ next_frame (node_at cluster frame.node) (own frame.node (moved ∷ course))
+next_grows cluster course moved frame = next_on (node_at cluster frame.node) frame.node moved course
+
 -- what is unknown was so before
 pub unknown_before : (cluster : Cluster) (course : Course) (moved : Moved) (frame : FrameId) → Unknown cluster (moved ∷ course) frame → Unknown cluster course frame
 unknown_before cluster course moved frame unknown = let less = next_on (node_at cluster frame.node) frame.node moved course in omega (arith, less, unknown)
@@ -222,7 +227,7 @@ same_risen frame (mark ∷ marks) = ap (λ it. one (named frame mark) + it) (sam
 pub born_one : (frame : FrameId) → many (named frame) (record { id = frame; acts = 0 } ∷ []) ≡ 1
 born_one frame = rw (same_self frame) refl
 
-held_more : (cluster : Cluster) (course : Course) (moved : Moved) → Stepped cluster course → Step cluster course moved → (frame : FrameId)
+pub held_more : (cluster : Cluster) (course : Course) (moved : Moved) → Stepped cluster course → Step cluster course moved → (frame : FrameId)
     → held cluster (moved ∷ course) frame ≤ held cluster course frame + many (named frame) (born_by moved.event)
 held_more cluster course moved stepped step frame =
     let changes = held_changes cluster course moved stepped step (named frame) in

@@ -22,3 +22,8 @@ pub mod Holding
 pub mod Advancing
 pub mod Phases
 pub mod UnderWay
+pub mod Asking
+pub mod Claiming
+pub mod Indexing
+pub mod Claimed
+pub mod Places
