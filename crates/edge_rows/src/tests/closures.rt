@@ -45,22 +45,33 @@ fn have_targets(children: &[Child], locals: u32) -> bool
     ensures { result ≡ list_all (λ child. option_map_or (λ target. nat_lt target locals) child.target true) children.now }
 {
     for child in children {
-        if child.target.is_some_and(|target| target >= locals) {
+        if !is_below(child.target, locals) {
             return false;
         }
     }
     true
 }
 
+// No target counts as below each number.
+fn is_below(target: Option<u32>, locals: u32) -> bool
+    ensures { result ≡ option_map_or (λ target. nat_lt target locals) target true }
+{
+    match target {
+        Some(target) => target < locals,
+        None => true,
+    }
+}
+
 fn frame(alloc: Global, code: &Code) -> Result<Frame, Fail>
     ensures stands { IfOk result (λ frame. StandsIn code.now frame.frame) }
     ensures locals { IfOk result (λ frame. length (own_locals frame.frame) ≡ 2) }
 {
-    if code.procs.len() <= SHOW as usize
-        || code.proc(SHOW).params != 2
-        || code.proc(SHOW).locals != 2
-    {
-        return Err("another code")?;
+    if code.procs.len() <= SHOW as usize {
+        return Err("no such procedure")?;
+    }
+    let show = code.proc(SHOW);
+    if show.params != 2 || show.locals != 2 {
+        return Err("another procedure")?;
     }
     Ok(Frame::start(alloc, code, SHOW, &[-1, -2], 1)?)
 }

@@ -1,4 +1,4 @@
-ghost use Rattle.std.specs.Prelude.{◌≡◌, IfOk, OnOk, IsTrue};
+ghost use Rattle.std.specs.Prelude.{◌≡◌, ◌<◌, IfOk, OnOk, IsTrue};
 ghost use Rattle.edge_rule.specs.Joins.{HasTargets, StandsThere, is_waiting};
 ghost use Rattle.edge_rows.specs.Standing.{AllStand};
 ghost use Rattle.plain_machine.specs.Standing.{StandsIn};
@@ -47,7 +47,9 @@ fn assert_row(rt: &impl Abort, alloc: Global, code: &Code, row: Row) -> Result<(
 }
 
 // The next join has this number.
-fn start(rt: &impl Abort, joins: &mut Joins, number: u32) -> Result<(), Fail> {
+fn start(rt: &impl Abort, joins: &mut Joins, number: u32) -> Result<(), Fail>
+    requires { number < 4294967295 }
+{
     if joins.started() != number {
         return Err("another number was started")?;
     }
