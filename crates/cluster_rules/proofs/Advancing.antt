@@ -18,9 +18,9 @@ use Rattle.cluster_rules.specs.Positions.{Moved, Course, own}
 use Rattle.cluster_rules.proofs.Stepping.{Step, Stepped}
 use Rattle.cluster_rules.proofs.Letters.{Letter, letters_of, amount_of}
 use Rattle.cluster_rules.proofs.Summing.{sum_below, sum_one}
-use Rattle.cluster_rules.proofs.Marks.{Mark, one, many, named, mark_of, marks_of, Within, same_self, same_name}
+use Rattle.cluster_rules.proofs.Marks.{Mark, one, many, named, mark_of, marks_of, same_self, same_name}
 use Rattle.cluster_rules.proofs.Passing.{closure_marks, advanced_item, advanced_body, advanced_by, first_marks, risen, born_by, advanced_within}
-use Rattle.cluster_rules.proofs.Holding.{at_node, in_message, held_by, held, advanced, held_changes, Unknown, unknown_before, IsBorn, births, main_mark, held_start, held_once, held_known, same_risen, born_one}
+use Rattle.cluster_rules.proofs.Holding.{at_node, in_message, held_by, advanced, held_changes, Unknown, unknown_before, IsBorn, births, main_mark, held_start, held_once, held_known, same_risen}
 
 -- How many acts the frame counts.
 abbrev pub counted : Cluster → FrameId → Course → ℕ

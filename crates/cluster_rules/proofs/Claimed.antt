@@ -1,17 +1,15 @@
 -- No act is made twice: a frame and an index stand at one position at most.
-use Rattle.std.proofs.Common.{◌≡◌, ◌≤◌, ◌<◌, ◌+◌, ◌⊎◌, inl, inr, ℕ, suc, ℤ, List, [], ◌∷◌, Option, Some, None, Bool, true, false, cond, eqb, length, refl, sym, ◌∙◌, ap, subst, arith}
+use Rattle.std.proofs.Common.{◌≡◌, ◌≤◌, ◌<◌, ◌⊎◌, inl, inr, ℕ, suc, [], ◌∷◌, Some, Bool, true, false, cond, eqb, length, refl, ◌∙◌, ap, subst, arith}
 use Rattle.std.proofs.lemmas.Bool.Decides.{nat_tests}
 use Rattle.page_messages.specs.declared.closure.FrameId.{FrameId}
-use Rattle.page_messages.specs.declared.log.Item.{Item}
 use Rattle.page_messages.specs.declared.log.Item.TheVariants as item
 use Rattle.cluster_rules.specs.Turns.{Event, Did, Sent, Took, Ended}
 use Rattle.cluster_rules.specs.Lives.{same_frame}
-use Rattle.cluster_rules.specs.Runs.{Cluster, node_at}
-use Rattle.cluster_rules.specs.Allowed.{IsAllowed}
-use Rattle.cluster_rules.specs.Positions.{Moved, Course, own, at, before}
+use Rattle.cluster_rules.specs.Runs.{Cluster}
+use Rattle.cluster_rules.specs.Positions.{Moved, Course, at, before}
 use Rattle.cluster_rules.proofs.Stepping.{Step, Stepped, stepped_before}
 use Rattle.cluster_rules.proofs.Marks.{one, same_self}
-use Rattle.cluster_rules.proofs.Claiming.{claims_item, claims_event, acts_before}
+use Rattle.cluster_rules.proofs.Claiming.{claims_event, acts_before}
 use Rattle.cluster_rules.proofs.Indexing.{Claims, index_is_count}
 
 -- the event is this act of this frame

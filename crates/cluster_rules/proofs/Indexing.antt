@@ -1,12 +1,12 @@
 -- The index of each act is the number of acts that its frame made before.
-use Rattle.std.proofs.Common.{◌≡◌, ◌≤◌, ◌<◌, ◌+◌, ◌⊎◌, inl, inr, ℕ, ℤ, List, [], ◌∷◌, Bool, true, false, refl, sym, ◌∙◌, ap, subst, arith}
+use Rattle.std.proofs.Common.{◌≡◌, ◌≤◌, ◌<◌, ◌⊎◌, inl, inr, ℕ, ℤ, List, [], ◌∷◌, Bool, true, false, refl, ap, subst, arith}
 use Rattle.page_messages.specs.declared.closure.FrameId.{FrameId}
 use Rattle.page_messages.specs.declared.message.Msg.{Msg}
 use Rattle.page_messages.specs.declared.log.LoggedAct.{LoggedAct}
 use Rattle.page_messages.specs.declared.log.Item.{Item}
 use Rattle.page_messages.specs.declared.log.Item.TheVariants as item
-use Rattle.cluster_rules.specs.Turns.{Event, Did, Sent, Took, Ended, Past}
-use Rattle.cluster_rules.specs.Lives.{Life, same_frame}
+use Rattle.cluster_rules.specs.Turns.{Did, Past}
+use Rattle.cluster_rules.specs.Lives.{Life}
 use Rattle.cluster_rules.specs.Frames.{frames_of, stack_of}
 use Rattle.cluster_rules.specs.Acting.{Acts, Serves}
 use Rattle.cluster_rules.specs.Runs.{Cluster, node_at, IsFree, IsOwed, MayDo}
@@ -14,12 +14,13 @@ use Rattle.cluster_rules.specs.Allowed.{IsAllowed}
 use Rattle.cluster_rules.specs.Positions.{Moved, Course, own}
 use Rattle.cluster_rules.proofs.Stepping.{Step, Stepped}
 use Rattle.cluster_rules.proofs.Summing.{sum_none, sum_one}
-use Rattle.cluster_rules.proofs.Marks.{Mark, one, many, many_append, named, marks, marks_of, other_marks, same_self, same_name, AddsFirst}
+use Rattle.cluster_rules.proofs.Marks.{Mark, one, many, many_append, named, marks, other_marks, same_self, same_name, AddsFirst}
 use Rattle.cluster_rules.proofs.Passing.{is_among}
 use Rattle.cluster_rules.proofs.Holding.{at_node, held, one_node}
-use Rattle.cluster_rules.proofs.Advancing.{counted, acts_counted}
+use Rattle.cluster_rules.proofs.Advancing.{acts_counted}
 use Rattle.cluster_rules.proofs.Phases.{Phase, Idle, Asked, Told, phase_of, is_told_of, waits_in, IsFirst}
-use Rattle.cluster_rules.proofs.Asking.{Phased, phased, quiet_idle, was_asked}
+use Rattle.cluster_rules.proofs.Phasing.{quiet_idle}
+use Rattle.cluster_rules.proofs.Asking.{phased, was_asked}
 use Rattle.cluster_rules.proofs.Claiming.{acts_before, pending_at, pending, adds_up}
 
 -- the mark is among those of the node

@@ -22,6 +22,7 @@ pub mod Holding
 pub mod Advancing
 pub mod Phases
 pub mod UnderWay
+pub mod Phasing
 pub mod Asking
 pub mod Claiming
 pub mod Indexing

@@ -1,5 +1,5 @@
 -- What one event makes of the marks of its node: which go, which come, which are one act further, and which are new.
-use Rattle.std.proofs.Common.{◌≡◌, ◌≤◌, ◌+◌, ◌⊎◌, inl, inr, ℕ, suc, ℤ, List, [], ◌∷◌, ◌++◌, Option, Some, None, Bool, true, false, cond, refl, sym, ◌∙◌, ap, subst, arith}
+use Rattle.std.proofs.Common.{◌≡◌, ◌≤◌, ◌+◌, ◌⊎◌, inl, inr, ℕ, suc, ℤ, List, [], ◌∷◌, ◌++◌, Bool, true, cond, refl, sym, ◌∙◌, ap, subst, arith}
 use Rattle.cilk_meaning.specs.Wants.{Done as DoneAnswer}
 use Rattle.page_messages.specs.declared.closure.FrameId.{FrameId}
 use Rattle.page_messages.specs.declared.closure.JoinId.{JoinId}
@@ -15,14 +15,14 @@ use Rattle.cluster_rules.specs.Walking.{is_empty, with_first}
 use Rattle.cluster_rules.specs.Turns.{Event, Did, Sent, Took, Ended, Past}
 use Rattle.cluster_rules.specs.Node.{Node}
 use Rattle.cluster_rules.specs.Home.{replies_in, owed_adds}
-use Rattle.cluster_rules.specs.Lives.{Life, live, answered, acted, added, children_of, after_act, without_bottom, link_to, carried}
-use Rattle.cluster_rules.specs.Frames.{Frames, Parked, with_stack, taken_up, with_joined, stack_sent, frames_item, frames_took, frames_on, frames_of, stack_of}
-use Rattle.cluster_rules.specs.Acting.{Acts, MayAct, MayAddHere, Serves}
+use Rattle.cluster_rules.specs.Lives.{Life, live, answered, added, after_act, without_bottom, link_to, carried}
+use Rattle.cluster_rules.specs.Frames.{Frames, Parked, with_stack, taken_up, with_joined, stack_sent, frames_item, frames_took, frames_of, stack_of}
+use Rattle.cluster_rules.specs.Acting.{Acts}
 use Rattle.cluster_rules.specs.Edges.{MayGrant, MayPark}
 use Rattle.cluster_rules.specs.Runs.{IsFree, MayPost, IsOwed, MayDo, MaySend}
-use Rattle.cluster_rules.specs.Allowed.{IsAllowed, DoesItem}
+use Rattle.cluster_rules.specs.Allowed.{IsAllowed}
 use Rattle.cluster_rules.proofs.Senders.{owed_replies, AreReplies}
-use Rattle.cluster_rules.proofs.Marks.{Mark, one, many, many_append, Within, within_same, mark_of, marks, marks_append, parked_marks, parked_append, other_marks, marks_of, live_within, with_joined_within, bottom_gone, bottom_marks, first_is}
+use Rattle.cluster_rules.proofs.Marks.{Mark, one, many, many_append, Within, mark_of, marks, marks_append, parked_marks, parked_append, other_marks, marks_of, live_within, with_joined_within, bottom_gone, bottom_marks, first_is}
 
 -- ---- the marks of an event
 

@@ -1,5 +1,5 @@
 -- A frame that is somewhere, or has made an act, is `main` or was spawned before. Each is spawned once.
-use Rattle.std.proofs.Common.{◌≡◌, ◌≢◌, ◌≤◌, ◌<◌, ◌+◌, ◌⊎◌, inl, inr, ℕ, suc, ℤ, List, [], ◌∷◌, ◌++◌, Option, Some, None, Bool, true, false, cond, eqb, length, refl, sym, ◌∙◌, ap, subst, arith}
+use Rattle.std.proofs.Common.{◌≡◌, ◌≤◌, ◌<◌, ◌+◌, ◌⊎◌, inl, inr, ℕ, [], ◌∷◌, Some, Bool, true, false, cond, eqb, length, refl, sym, ◌∙◌, ap, subst, arith}
 use Rattle.std.proofs.lemmas.Bool.Decides.{nat_tests}
 use Rattle.page_messages.specs.declared.closure.FrameId.{FrameId}
 use Rattle.page_messages.specs.declared.log.LoggedAct.{LoggedAct}
@@ -11,17 +11,17 @@ use Rattle.cluster_rules.specs.Lives.{same_frame, main_id}
 use Rattle.cluster_rules.specs.Frames.{frames_of, stack_of, next_frame}
 use Rattle.cluster_rules.specs.Runs.{Cluster, node_at}
 use Rattle.cluster_rules.specs.Positions.{Moved, Course, own, at, before}
-use Rattle.cluster_rules.proofs.Stepping.{Step, Stepped, stepped_before}
+use Rattle.cluster_rules.proofs.Stepping.{Step, Stepped}
 use Rattle.cluster_rules.proofs.Summing.{sum_one}
 use Rattle.cluster_rules.proofs.Marks.{Mark, one, many, many_append, named, marks, other_marks, same_self, same_name, AddsFirst}
 use Rattle.cluster_rules.proofs.Passing.{born_act, born_by}
-use Rattle.cluster_rules.proofs.Holding.{at_node, held, held_start, held_more, held_once, main_mark, next_grows, Unknown, unknown_before, IsBorn, births}
-use Rattle.cluster_rules.proofs.Phases.{Phase, Idle, Asked, Told, phase_of, is_told_of, waits_in, IsFirst}
+use Rattle.cluster_rules.proofs.Holding.{at_node, held, held_start, held_more, held_once, main_mark, next_grows, IsBorn, births}
+use Rattle.cluster_rules.proofs.Phases.{is_told_of, waits_in, IsFirst}
 use Rattle.cluster_rules.proofs.UnderWay.{under_way}
 use Rattle.cluster_rules.proofs.Asking.{phased, asked_by}
-use Rattle.cluster_rules.proofs.Claiming.{claims_event, acts_before}
+use Rattle.cluster_rules.proofs.Claiming.{acts_before}
 use Rattle.cluster_rules.proofs.Indexing.{Claims, first_stack_mark, mark_acts, claims_held}
-use Rattle.cluster_rules.proofs.Claimed.{step_at, stepped_at, at_within}
+use Rattle.cluster_rules.proofs.Claimed.{stepped_at, at_within}
 
 -- ---- spawns
 

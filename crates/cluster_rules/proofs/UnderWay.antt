@@ -1,5 +1,5 @@
 -- The Adds that were posted and not done, and the old values that were not told: how many of them there are of one node.
-use Rattle.std.proofs.Common.{◌≡◌, ◌≢◌, ◌≤◌, ◌<◌, ◌+◌, ◌⊎◌, inl, inr, ℕ, suc, ℤ, List, [], ◌∷◌, ◌++◌, Option, Some, None, Bool, true, false, cond, eqb, ◌&&◌, refl, sym, ◌∙◌, ap, subst, arith}
+use Rattle.std.proofs.Common.{◌≡◌, ◌≤◌, ◌<◌, ◌+◌, ℕ, ℤ, List, [], ◌∷◌, ◌++◌, Option, Bool, false, cond, eqb, ◌&&◌, refl, ◌∙◌, ap, arith}
 use Rattle.cilk_meaning.specs.declared.ends.NodeEnd.{NodeEnd}
 use Rattle.page_messages.specs.declared.closure.FrameId.{FrameId}
 use Rattle.page_messages.specs.declared.message.Msg.{Msg}
@@ -10,15 +10,14 @@ use Rattle.page_messages.specs.declared.log.Item.TheVariants as item
 use Rattle.page_messages.specs.declared.log.PostAt.{PostAt}
 use Rattle.cluster_rules.specs.Walking.{rest_of}
 use Rattle.cluster_rules.specs.Turns.{Event, Did, Sent, Took, Ended, Past}
-use Rattle.cluster_rules.specs.Node.{Node}
 use Rattle.cluster_rules.specs.Sendings.{tells_in}
-use Rattle.cluster_rules.specs.Home.{replies_in, from_me, owed_adds, with_add, after_served, told_by, owed_olds}
+use Rattle.cluster_rules.specs.Home.{owed_adds, with_add, after_served, told_by, owed_olds}
 use Rattle.cluster_rules.specs.Lives.{same_frame}
 use Rattle.cluster_rules.specs.Acting.{Tells}
-use Rattle.cluster_rules.specs.Runs.{Cluster, node_at, MayPost}
+use Rattle.cluster_rules.specs.Runs.{Cluster, node_at}
 use Rattle.cluster_rules.specs.Positions.{Moved, Course, own}
 use Rattle.cluster_rules.proofs.Stepping.{Posts, Takes, Stepped}
-use Rattle.cluster_rules.proofs.Letters.{letters_on, letters_of, amount_of, letter_sent, letter_taken}
+use Rattle.cluster_rules.proofs.Letters.{letters_of, amount_of, letter_sent, letter_taken}
 use Rattle.cluster_rules.proofs.Summing.{sum_below, sum_change, sum_one}
 use Rattle.cluster_rules.proofs.Marks.{one}
 use Rattle.cluster_rules.proofs.Holding.{own_first, own_other}
@@ -89,7 +88,7 @@ moved_by node event here = record { node = node; event = event; message = here }
 
 sum_moved : (count : ℕ) (part : ℕ → Past → ℕ) (node : ℕ) (event : Event) (here : Option PostAt) (course : Course) → node < count
     → sum_below count (λ home. part home (own home (moved_by node event here ∷ course))) + part node (own node course)
-      ≡ sum_below count (λ home. part home (own home course)) + part node (event ∷ own node course)
+    ≡ sum_below count (λ home. part home (own home course)) + part node (event ∷ own node course)
 sum_moved count part node event here course less =
     let moved = moved_by node event here in
     let sum = sum_change count (λ home. part home (own home course)) (λ home. part home (own home (moved ∷ course))) node less
