@@ -170,7 +170,8 @@ module _ (cluster : Cluster) (course : Course) (moved : Moved) (stepped : Steppe
       omega (arith, changes, before, rises, count, born, none)
 
   -- this frame is
-  this_next : (frame : FrameId) (acts : ℕ) → advanced cluster course moved ≡ record { id = frame; acts = acts } ∷ [] → held_by cluster (moved ∷ course) (otherwise frame (counted cluster frame (moved ∷ course))) ≡ 0
+  this_next : (frame : FrameId) (acts : ℕ) → advanced cluster course moved ≡ record { id = frame; acts = acts } ∷ []
+      → held_by cluster (moved ∷ course) (otherwise frame (counted cluster frame (moved ∷ course))) ≡ 0
   this_next frame acts is =
       let old = counted cluster frame course in
       let count : many (named frame) (advanced cluster course moved) ≡ 1 = ap (many (named frame)) is ∙ born_like in

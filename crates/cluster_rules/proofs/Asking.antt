@@ -1,11 +1,7 @@
 -- One Add of a node is under way at most, and while one is, the frame that wants it stays the first of the stack.
-use Rattle.std.proofs.Common.{◌≡◌, ◌≢◌, ◌≤◌, ◌<◌, ◌+◌, ◌⊎◌, inl, inr, ℕ, ℤ, List, [], ◌∷◌, ◌++◌, Option, Some, Bool, true, false, cond, eqb, ◌&&◌, ◌||◌, refl, sym, ◌∙◌, ap, subst, arith}
-use Rattle.std.proofs.lemmas.Bool.Decides.{nat_tests}
+use Rattle.std.proofs.Common.{◌≡◌, ◌≢◌, ◌≤◌, ◌<◌, ◌+◌, ◌⊎◌, inl, inr, ℕ, ℤ, List, [], ◌∷◌, Option, Bool, true, false, cond, eqb, ◌&&◌, ◌||◌, refl, sym, ◌∙◌, ap, subst, arith}
 use Rattle.cilk_meaning.specs.declared.ends.NodeEnd.{NodeEnd}
-use Rattle.cilk_meaning.specs.Wants as want
-use Rattle.cilk_meaning.specs.Wants.{Asks}
 use Rattle.page_messages.specs.declared.closure.FrameId.{FrameId}
-use Rattle.page_messages.specs.declared.closure.Closure.{Closure}
 use Rattle.page_messages.specs.declared.message.Msg.{Msg}
 use Rattle.page_messages.specs.declared.message.Body.{Body}
 use Rattle.page_messages.specs.declared.message.Body.TheVariants as body
@@ -14,24 +10,24 @@ use Rattle.page_messages.specs.declared.log.Item.TheVariants as item
 use Rattle.page_messages.specs.declared.log.PostAt.{PostAt}
 use Rattle.cluster_rules.specs.Walking.{rest_of}
 use Rattle.cluster_rules.specs.Turns.{Event, Did, Sent, Took, Ended, Past}
-use Rattle.cluster_rules.specs.Node.{Node}
-use Rattle.cluster_rules.specs.Sendings.{ForAdded, adds_in, tells_in, awaits, IsQuiet}
+use Rattle.cluster_rules.specs.Sendings.{ForAdded, adds_in, tells_in, awaits}
 use Rattle.cluster_rules.specs.Home.{replies_in, owed_adds, owed_olds, after_served, told_by}
-use Rattle.cluster_rules.specs.Lives.{Life, same_frame, live, without_bottom, link_to}
+use Rattle.cluster_rules.specs.Lives.{same_frame, live}
 use Rattle.cluster_rules.specs.Frames.{stack_sent, frames_took, frames_of, stack_of}
-use Rattle.cluster_rules.specs.Acting.{Wants, MayPostAdd, Serves}
-use Rattle.cluster_rules.specs.Edges.{MayGrant}
+use Rattle.cluster_rules.specs.Acting.{MayPostAdd, Serves}
 use Rattle.cluster_rules.specs.Runs.{Cluster, node_at, IsFree, IsOwed, MayDo, MayPost}
 use Rattle.cluster_rules.specs.Positions.{Course, own}
-use Rattle.cluster_rules.proofs.Settling.{both_true}
 use Rattle.cluster_rules.proofs.Stepping.{Posts, Takes, Step, Stepped}
 use Rattle.cluster_rules.proofs.Summing.{sum_none, one_or_two}
-use Rattle.cluster_rules.proofs.Marks.{one, same_self, same_name, WantsAdd, AddsFirst, live_first, first_is, bottom_gone, kept_first}
+use Rattle.cluster_rules.proofs.Marks.{one, same_self, first_is}
 use Rattle.cluster_rules.proofs.Passing.{may_post}
 use Rattle.cluster_rules.proofs.Holding.{own_first, own_other}
-use Rattle.cluster_rules.proofs.Phases.{Phase, Idle, Asked, Told, after_post, after_taking, after_adding, after_item, phase_of, waits_in, is_asked, is_told, IsFirst, idle_is, first_idle, awaits_told, awaits_took}
-use Rattle.cluster_rules.proofs.UnderWay.{adds_body, add_from, under_way, tells_body, old_to, to_tell, amount_in, moved_by, adds_sent, adds_took, adds_ended, adds_kept, adds_served, owed_counts, olds_ended, olds_took, olds_did, olds_posted, olds_told}
-use Rattle.cluster_rules.proofs.Phasing.{Phased, own_number, other_number, equal_number, cond_same, is_one, asked_same, told_not_asked, first_granted, returned_none, wants_no_sync, parked_none, first_done, first_parked, awaits_more, stack_more, first_more, kept, quiet_idle}
+use Rattle.cluster_rules.proofs.Phases.{Phase, Idle, Asked, Told, after_post, after_taking, after_adding, after_item, phase_of, waits_in}
+use Rattle.cluster_rules.proofs.Phases.{is_asked, is_told, IsFirst, first_idle, awaits_told, awaits_took}
+use Rattle.cluster_rules.proofs.UnderWay.{adds_body, add_from, under_way, tells_body, old_to, to_tell, amount_in, moved_by, adds_sent, adds_took, adds_ended}
+use Rattle.cluster_rules.proofs.UnderWay.{adds_kept, adds_served, owed_counts, olds_ended, olds_took, olds_did, olds_posted, olds_told}
+use Rattle.cluster_rules.proofs.Phasing.{Phased, own_number, other_number, equal_number, cond_same, is_one, asked_same, told_not_asked, first_granted, first_done}
+use Rattle.cluster_rules.proofs.Phasing.{first_parked, awaits_more, stack_more, first_more, kept, quiet_idle}
 
 -- ---- one event more
 
@@ -49,7 +45,8 @@ module _ (cluster : Cluster) (course : Course) (node : ℕ) (here : Option PostA
   did_kept done same served told free =
       kept cluster course node here less phased (Did done) (λ number. same number (phase_of number course))
       (λ number frame index. adds_kept cluster course node here less number frame index done served)
-      (λ number. let olds = olds_did cluster course node here less number done in let none : amount_in (old_to number) (told_by (node_at cluster node) done (owed_adds past)) ≡ 0 = ap (amount_in (old_to number)) told in omega (arith, olds, none))
+      (λ number. let olds = olds_did cluster course node here less number done in
+      let none : amount_in (old_to number) (told_by (node_at cluster node) done (owed_adds past)) ≡ 0 = ap (amount_in (old_to number)) told in omega (arith, olds, none))
       refl (first_idle (phase_of node course) (stack_of (node_at cluster node) (Did done ∷ past)) (quiet_idle cluster course node here less phased free.quiet))
 
   module _ (frame : FrameId) (index word : ℕ) (old addend : ℤ) (serves : Serves (node_at cluster node) past frame index word old addend) where
@@ -106,13 +103,15 @@ module _ (cluster : Cluster) (course : Course) (node : ℕ) (here : Option PostA
         let change = adds_served cluster course node here less number other acts serves.add serves.later frame index word old addend serves.oldest in
         let amount : add_from number other acts serves.add ≡ 0 = add_is number other acts ∙ rw apart refl in
         let before = phased.adds number other acts in
-        let after : one (is_asked other acts (phase_of number (more served))) ≡ one (is_asked other acts (phase_of number course)) = ap (λ it. one (is_asked other acts it)) (phase_others number apart) in
+        let after : one (is_asked other acts (phase_of number (more served))) ≡ one (is_asked other acts (phase_of number course)) =
+        ap (λ it. one (is_asked other acts it)) (phase_others number apart) in
         omega (arith, change, amount, before, after)
 
     olds_asker : to_tell cluster (more served) asker ≡ one (is_told (phase_of asker (more served)))
     olds_asker =
         let change = olds_did cluster course node here less asker (item.Served frame index word old addend) in
-        let amount : amount_in (old_to asker) (told_by (node_at cluster node) (item.Served frame index word old addend) (owed_adds past)) ≡ 1 = told_amount asker ∙ ap (λ it. one it + 0) (own_number asker) in
+        let amount : amount_in (old_to asker) (told_by (node_at cluster node) (item.Served frame index word old addend) (owed_adds past)) ≡ 1 = told_amount asker
+        ∙ ap (λ it. one it + 0) (own_number asker) in
         let before : to_tell cluster course asker ≡ 0 = phased.olds asker ∙ ap (λ it. one (is_told it)) was_asked in
         let after : one (is_told (phase_of asker (more served))) ≡ 1 = ap (λ it. one (is_told it)) phase_asker in
         omega (arith, change, amount, before, after)
@@ -143,11 +142,13 @@ module _ (cluster : Cluster) (course : Course) (node : ℕ) (here : Option PostA
       olds = by_number (λ number. to_tell cluster (more served) number ≡ one (is_told (phase_of number (more served)))) olds_asker olds_others;
     }
 
-  free_of : (done : Item) (rest : List Item) (posts : List Msg) → (IsOwed (node_at cluster node) past done → ⊥) → IsOwed (node_at cluster node) past done ⊎ (IsFree past × MayDo (node_at cluster node) past done rest posts) → IsFree past
+  free_of : (done : Item) (rest : List Item) (posts : List Msg) → (IsOwed (node_at cluster node) past done → ⊥)
+      → IsOwed (node_at cluster node) past done ⊎ (IsFree past × MayDo (node_at cluster node) past done rest posts) → IsFree past
   free_of done rest posts never (inl owed) = absurd (never owed)
   free_of done rest posts never (inr both) = both.0
 
-  did_phased : (done : Item) (rest : List Item) (posts : List Msg) → IsOwed (node_at cluster node) past done ⊎ (IsFree past × MayDo (node_at cluster node) past done rest posts) → Phased cluster (more (Did done))
+  did_phased : (done : Item) (rest : List Item) (posts : List Msg) → IsOwed (node_at cluster node) past done ⊎ (IsFree past × MayDo (node_at cluster node) past done rest posts)
+      → Phased cluster (more (Did done))
   did_phased (item.Act frame index act) rest posts may = did_kept (item.Act frame index act) (λ number phase. refl) refl refl (free_of (item.Act frame index act) rest posts (λ owed. owed) may)
   did_phased (item.Tick frame) rest posts may = did_kept (item.Tick frame) (λ number phase. refl) refl refl (free_of (item.Tick frame) rest posts (λ owed. owed) may)
   did_phased (item.Drop page) rest posts may = did_kept (item.Drop page) (λ number phase. refl) refl refl (free_of (item.Drop page) rest posts (λ owed. owed) may)
@@ -170,27 +171,33 @@ module _ (cluster : Cluster) (course : Course) (node : ℕ) (here : Option PostA
     phase_posted number said is = ap (λ it. cond (eqb node number) (after_post it (phase_of number course)) (phase_of number course)) is
 
     -- it is neither an Add nor an Added
-    other_post : (said : Body) → message.body ≡ said → ((phase : Phase) → after_post said phase ≡ phase) → ((number : ℕ) (frame : FrameId) (index sender : ℕ) → adds_body number frame index sender said ≡ false)
+    other_post : (said : Body) → message.body ≡ said → ((phase : Phase) → after_post said phase ≡ phase)
+        → ((number : ℕ) (frame : FrameId) (index sender : ℕ) → adds_body number frame index sender said ≡ false)
         → ((number : ℕ) → to_tell cluster (more post) number ≡ to_tell cluster course number) → adds_in said ≡ false
         → IsFirst (phase_of node course) (stack_sent said (stack_of (node_at cluster node) past)) → Phased cluster (more post)
     unfolding frames_of
     other_post said is same adds olds waits first =
-        kept cluster course node here less phased post (λ number. phase_posted number said is ∙ cond_same (eqb node number) (after_post said (phase_of number course)) (phase_of number course) (same (phase_of number course)))
+        kept cluster course node here less phased post
+        (λ number. phase_posted number said is ∙ cond_same (eqb node number) (after_post said (phase_of number course)) (phase_of number course) (same (phase_of number course)))
         (λ number frame index. let sent = adds_sent cluster course node here less number frame index message posts in
-        let none : add_from number frame index message ≡ 0 = ap (λ it. one (adds_body number frame index message.sender it)) is ∙ ap one (adds number frame index message.sender) in omega (arith, sent, none))
+        let none : add_from number frame index message ≡ 0 = ap (λ it. one (adds_body number frame index message.sender it)) is ∙ ap one (adds number frame index message.sender) in
+        omega (arith, sent, none))
         olds (ap (λ it. adds_in it || awaits ForAdded past) is ∙ ap (λ b. b || awaits ForAdded past) waits)
         (subst (λ it. IsFirst (phase_of node course) (stack_sent it (stack_of (node_at cluster node) past))) (sym is) first)
 
-    olds_stay : (said : Body) → message.body ≡ said → tells_in said ≡ false → ((number : ℕ) (receiver : ℕ) → tells_body number receiver said ≡ false) → (number : ℕ) → to_tell cluster (more post) number ≡ to_tell cluster course number
+    olds_stay : (said : Body) → message.body ≡ said → tells_in said ≡ false → ((number : ℕ) (receiver : ℕ) → tells_body number receiver said ≡ false) → (number : ℕ)
+        → to_tell cluster (more post) number ≡ to_tell cluster course number
     olds_stay said is other none number =
         olds_posted cluster course node here less number message posts (ap tells_in is ∙ other) (ap (λ it. one (tells_body number message.receiver it)) is ∙ ap one (none number message.receiver))
 
-    module _ (frame : FrameId) (index word : ℕ) (addend : ℤ) (is : message.body ≡ body.Add frame index word addend) (may : MayPostAdd (node_at cluster node) past message.receiver frame index word addend) where
+    module _ (frame : FrameId) (index word : ℕ) (addend : ℤ) (is : message.body ≡ body.Add frame index word addend)
+        (may : MayPostAdd (node_at cluster node) past message.receiver frame index word addend) where
       pub phase_node : phase_of node (more post) ≡ Asked frame index
       phase_node = phase_posted node (body.Add frame index word addend) is ∙ ap (λ b. cond b (Asked frame index) (phase_of node course)) (own_number node)
 
       pub phase_apart : (number : ℕ) → number ≢ node → phase_of number (more post) ≡ phase_of number course
-      phase_apart number not = phase_posted number (body.Add frame index word addend) is ∙ ap (λ b. cond b (Asked frame index) (phase_of number course)) (other_number node number (λ same. not (sym same)))
+      phase_apart number not = phase_posted number (body.Add frame index word addend) is
+          ∙ ap (λ b. cond b (Asked frame index) (phase_of number course)) (other_number node number (λ same. not (sym same)))
 
       pub was_idle : phase_of node course ≡ Idle
       was_idle = quiet_idle cluster course node here less phased may.quiet
@@ -228,9 +235,11 @@ module _ (cluster : Cluster) (course : Course) (node : ℕ) (here : Option PostA
       adds_apart : (other : FrameId) (acts number : ℕ) → number ≢ node → under_way cluster (more post) number other acts ≡ one (is_asked other acts (phase_of number (more post)))
       adds_apart other acts number not =
           let sent = adds_sent cluster course node here less number other acts message posts in
-          let amount : add_from number other acts message ≡ 0 = add_amount number other acts ∙ ap (λ b. one (b && (same_frame frame other && eqb index acts))) (other_number node number (λ same. not (sym same))) in
+          let amount : add_from number other acts message ≡ 0 = add_amount number other acts
+          ∙ ap (λ b. one (b && (same_frame frame other && eqb index acts))) (other_number node number (λ same. not (sym same))) in
           let before = phased.adds number other acts in
-          let after : one (is_asked other acts (phase_of number (more post))) ≡ one (is_asked other acts (phase_of number course)) = ap (λ it. one (is_asked other acts it)) (phase_apart number not) in
+          let after : one (is_asked other acts (phase_of number (more post))) ≡ one (is_asked other acts (phase_of number course)) =
+          ap (λ it. one (is_asked other acts it)) (phase_apart number not) in
           omega (arith, sent, amount, before, after)
 
       olds_same : (number : ℕ) → to_tell cluster (more post) number ≡ to_tell cluster course number
@@ -244,7 +253,9 @@ module _ (cluster : Cluster) (course : Course) (node : ℕ) (here : Option PostA
             (ap (awaits ForAdded) (own_first (moved_by node post here) course) ∙ ap (λ it. adds_in it || awaits ForAdded past) is ∙ ap waits_in (sym phase_node))
             (λ number not. ap (awaits ForAdded) (own_other number (moved_by node post here) course not) ∙ phased.waiting number ∙ ap waits_in (sym (phase_apart number not)));
         first = first_more cluster course node here less phased post phase_apart first_post;
-        adds = λ number other acts. by_node (λ number. under_way cluster (more post) number other acts ≡ one (is_asked other acts (phase_of number (more post)))) (adds_node other acts) (adds_apart other acts) number;
+        adds =
+            λ number other acts. by_node (λ number. under_way cluster (more post) number other acts ≡ one (is_asked other acts (phase_of number (more post))))
+            (adds_node other acts) (adds_apart other acts) number;
         olds = by_node (λ number. to_tell cluster (more post) number ≡ one (is_told (phase_of number (more post))))
             (olds_same node ∙ phased.olds node ∙ ap (λ it. one (is_told it)) was_idle ∙ ap (λ it. one (is_told it)) (sym phase_node))
             (λ number not. olds_same number ∙ phased.olds number ∙ ap (λ it. one (is_told it)) (sym (phase_apart number not)));
@@ -258,8 +269,10 @@ module _ (cluster : Cluster) (course : Course) (node : ℕ) (here : Option PostA
     sent_phased (body.Fetch page) is (inr may) =
         other_post (body.Fetch page) is (λ phase. refl) (λ number frame index sender. refl) (olds_stay (body.Fetch page) is refl (λ number receiver. refl)) refl
         (first_idle (phase_of node course) (live (stack_of (node_at cluster node) past)) (quiet_idle cluster course node here less phased may.quiet))
-    sent_phased (body.Page page words) is may = other_post (body.Page page words) is (λ phase. refl) (λ number frame index sender. refl) (olds_stay (body.Page page words) is refl (λ number receiver. refl)) refl first_here
-    sent_phased (body.Reconcile parts) is may = other_post (body.Reconcile parts) is (λ phase. refl) (λ number frame index sender. refl) (olds_stay (body.Reconcile parts) is refl (λ number receiver. refl)) refl first_here
+    sent_phased (body.Page page words) is may =
+        other_post (body.Page page words) is (λ phase. refl) (λ number frame index sender. refl) (olds_stay (body.Page page words) is refl (λ number receiver. refl)) refl first_here
+    sent_phased (body.Reconcile parts) is may =
+        other_post (body.Reconcile parts) is (λ phase. refl) (λ number frame index sender. refl) (olds_stay (body.Reconcile parts) is refl (λ number receiver. refl)) refl first_here
     sent_phased body.Ack is may = other_post body.Ack is (λ phase. refl) (λ number frame index sender. refl) (olds_stay body.Ack is refl (λ number receiver. refl)) refl first_here
     sent_phased body.Ask is may = other_post body.Ask is (λ phase. refl) (λ number frame index sender. refl) (olds_stay body.Ask is refl (λ number receiver. refl)) refl first_here
     sent_phased (body.Grant closure) is (inl reply) = absurd (cc)
@@ -291,10 +304,12 @@ module _ (cluster : Cluster) (course : Course) (node : ℕ) (here : Option PostA
     phase_taken number said is = ap (λ it. cond (eqb node number) (after_taking it (phase_of number course)) (phase_of number course)) is
 
     -- it is no Added
-    other_taking : (said : Body) → message.body ≡ said → ((phase : Phase) → after_taking said phase ≡ phase) → ((number : ℕ) (receiver : ℕ) → tells_body number receiver said ≡ false) → tells_in said ≡ false
+    other_taking : (said : Body) → message.body ≡ said → ((phase : Phase) → after_taking said phase ≡ phase) → ((number : ℕ) (receiver : ℕ) → tells_body number receiver said ≡ false)
+        → tells_in said ≡ false
         → stack_of (node_at cluster node) (taking ∷ past) ≡ stack_of (node_at cluster node) past → Phased cluster (more taking)
     other_taking said is same none other stack =
-        kept cluster course node here less phased taking (λ number. phase_taken number said is ∙ cond_same (eqb node number) (after_taking said (phase_of number course)) (phase_of number course) (same (phase_of number course)))
+        kept cluster course node here less phased taking
+        (λ number. phase_taken number said is ∙ cond_same (eqb node number) (after_taking said (phase_of number course)) (phase_of number course) (same (phase_of number course)))
         (λ number frame index. adds_took cluster course node here less number frame index message stepped takes)
         (λ number. let took = olds_took cluster course node here less number message stepped takes in
         let zero : old_to number message ≡ 0 = ap (λ it. one (tells_body number message.receiver it)) is ∙ ap one (none number message.receiver) in omega (arith, took, zero))
@@ -349,13 +364,15 @@ module _ (cluster : Cluster) (course : Course) (node : ℕ) (here : Option PostA
             (ap (awaits ForAdded) (own_first (moved_by node taking here) course) ∙ awaits_told message past (ap tells_in is) ∙ ap waits_in (sym phase_done))
             (λ number not. ap (awaits ForAdded) (own_other number (moved_by node taking here) course not) ∙ phased.waiting number ∙ ap waits_in (sym (phase_far number not)));
         first = first_more cluster course node here less phased taking phase_far (first_idle (phase_of node (more taking)) (stack_of (node_at cluster node) (taking ∷ past)) phase_done);
-        adds = λ number frame index. adds_took cluster course node here less number frame index message stepped takes ∙ by_place (λ number. under_way cluster course number frame index ≡ one (is_asked frame index (phase_of number (more taking))))
+        adds = λ number frame index. adds_took cluster course node here less number frame index message stepped takes
+            ∙ by_place (λ number. under_way cluster course number frame index ≡ one (is_asked frame index (phase_of number (more taking))))
             (phased.adds node frame index ∙ ap one (told_not_asked frame index (phase_of node course) was_told) ∙ ap (λ it. one (is_asked frame index it)) (sym phase_done))
             (λ number not. phased.adds number frame index ∙ ap (λ it. one (is_asked frame index it)) (sym (phase_far number not))) number;
         olds = by_place (λ number. to_tell cluster (more taking) number ≡ one (is_told (phase_of number (more taking)))) olds_done olds_far;
       }
 
-    stack_taken : (said : Body) → message.body ≡ said → stack_of (node_at cluster node) (taking ∷ past) ≡ (frames_took (node_at cluster node) said (taking ∷ past) (frames_of (node_at cluster node) past)).stack
+    stack_taken : (said : Body) → message.body ≡ said
+        → stack_of (node_at cluster node) (taking ∷ past) ≡ (frames_took (node_at cluster node) said (taking ∷ past) (frames_of (node_at cluster node) past)).stack
     unfolding frames_of
     stack_taken said is = ap (λ it. (frames_took (node_at cluster node) it (taking ∷ past) (frames_of (node_at cluster node) past)).stack) is
 
@@ -369,7 +386,8 @@ module _ (cluster : Cluster) (course : Course) (node : ℕ) (here : Option PostA
     took_phased body.Refuse is = other_taking body.Refuse is (λ phase. refl) (λ number receiver. refl) refl (stack_taken body.Refuse is)
     took_phased (body.Done join index value) is = other_taking (body.Done join index value) is (λ phase. refl) (λ number receiver. refl) refl (stack_taken (body.Done join index value) is)
     took_phased (body.Park join closure) is = other_taking (body.Park join closure) is (λ phase. refl) (λ number receiver. refl) refl (stack_taken (body.Park join closure) is)
-    took_phased (body.Add frame index word addend) is = other_taking (body.Add frame index word addend) is (λ phase. refl) (λ number receiver. refl) refl (stack_taken (body.Add frame index word addend) is)
+    took_phased (body.Add frame index word addend) is =
+        other_taking (body.Add frame index word addend) is (λ phase. refl) (λ number receiver. refl) refl (stack_taken (body.Add frame index word addend) is)
     took_phased (body.Added old) is = added_phased old is
 
   -- ---- ends
@@ -377,11 +395,13 @@ module _ (cluster : Cluster) (course : Course) (node : ℕ) (here : Option PostA
   ended_phased : (end : NodeEnd) → Phased cluster (more (Ended end))
   unfolding frames_of
   ended_phased end =
-      kept cluster course node here less phased (Ended end) (λ number. refl) (λ number frame index. adds_ended cluster course node here less number frame index end) (λ number. olds_ended cluster course node here less number end) refl (phased.first node)
+      kept cluster course node here less phased (Ended end) (λ number. refl) (λ number frame index. adds_ended cluster course node here less number frame index end)
+      (λ number. olds_ended cluster course node here less number end) refl (phased.first node)
 
 -- ---- all events
 
-event_phased : (cluster : Cluster) (course : Course) (node : ℕ) (here : Option PostAt) (event : Event) → Stepped cluster course → Step cluster course (moved_by node event here) → Phased cluster course
+event_phased : (cluster : Cluster) (course : Course) (node : ℕ) (here : Option PostAt) (event : Event) → Stepped cluster course → Step cluster course (moved_by node event here)
+    → Phased cluster course
     → Phased cluster (moved_by node event here ∷ course)
 event_phased cluster course node here (Did done) stepped step phased =
     did_phased cluster course node here step.within phased done step.allowed.rest step.allowed.posts step.allowed.may

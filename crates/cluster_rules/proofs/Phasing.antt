@@ -1,36 +1,26 @@
 -- What the phases of all nodes say together, and what an event keeps of it that changes no phase.
-use Rattle.std.proofs.Common.{◌≡◌, ◌≢◌, ◌≤◌, ◌<◌, ◌+◌, ◌⊎◌, inl, inr, ℕ, ℤ, List, [], ◌∷◌, ◌++◌, Option, Some, Bool, true, false, cond, eqb, ◌&&◌, ◌||◌, refl, sym, ◌∙◌, ap, subst, arith}
+use Rattle.std.proofs.Common.{◌≡◌, ◌≢◌, ◌≤◌, ◌<◌, ◌⊎◌, inl, inr, ℕ, List, [], ◌∷◌, ◌++◌, Option, Some, Bool, true, false, cond, eqb, refl, sym, ◌∙◌, ap, subst, arith}
 use Rattle.std.proofs.lemmas.Bool.Decides.{nat_tests}
-use Rattle.cilk_meaning.specs.declared.ends.NodeEnd.{NodeEnd}
 use Rattle.cilk_meaning.specs.Wants as want
 use Rattle.cilk_meaning.specs.Wants.{Asks}
 use Rattle.page_messages.specs.declared.closure.FrameId.{FrameId}
 use Rattle.page_messages.specs.declared.closure.Closure.{Closure}
-use Rattle.page_messages.specs.declared.message.Msg.{Msg}
-use Rattle.page_messages.specs.declared.message.Body.{Body}
-use Rattle.page_messages.specs.declared.message.Body.TheVariants as body
-use Rattle.page_messages.specs.declared.log.Item.{Item}
-use Rattle.page_messages.specs.declared.log.Item.TheVariants as item
 use Rattle.page_messages.specs.declared.log.PostAt.{PostAt}
-use Rattle.cluster_rules.specs.Walking.{rest_of}
-use Rattle.cluster_rules.specs.Turns.{Event, Did, Sent, Took, Ended, Past}
+use Rattle.cluster_rules.specs.Turns.{Event, Past}
 use Rattle.cluster_rules.specs.Node.{Node}
-use Rattle.cluster_rules.specs.Sendings.{ForAdded, adds_in, tells_in, awaits, IsQuiet}
-use Rattle.cluster_rules.specs.Home.{replies_in, owed_adds, owed_olds, after_served, told_by}
+use Rattle.cluster_rules.specs.Sendings.{ForAdded, awaits, IsQuiet}
 use Rattle.cluster_rules.specs.Lives.{Life, same_frame, live, without_bottom, link_to}
-use Rattle.cluster_rules.specs.Frames.{stack_sent, frames_took, frames_of, stack_of}
-use Rattle.cluster_rules.specs.Acting.{Wants, MayPostAdd, Serves}
+use Rattle.cluster_rules.specs.Frames.{stack_of}
+use Rattle.cluster_rules.specs.Acting.{Wants}
 use Rattle.cluster_rules.specs.Edges.{MayGrant}
-use Rattle.cluster_rules.specs.Runs.{Cluster, node_at, IsFree, IsOwed, MayDo, MayPost}
+use Rattle.cluster_rules.specs.Runs.{Cluster, node_at}
 use Rattle.cluster_rules.specs.Positions.{Course, own}
 use Rattle.cluster_rules.proofs.Settling.{both_true}
-use Rattle.cluster_rules.proofs.Stepping.{Posts, Takes, Step, Stepped}
-use Rattle.cluster_rules.proofs.Summing.{sum_none, one_or_two}
-use Rattle.cluster_rules.proofs.Marks.{one, same_self, same_name, WantsAdd, AddsFirst, live_first, first_is, bottom_gone, kept_first}
-use Rattle.cluster_rules.proofs.Passing.{may_post}
+use Rattle.cluster_rules.proofs.Summing.{one_or_two}
+use Rattle.cluster_rules.proofs.Marks.{one, same_name, WantsAdd, AddsFirst, live_first, bottom_gone, kept_first}
 use Rattle.cluster_rules.proofs.Holding.{own_first, own_other}
-use Rattle.cluster_rules.proofs.Phases.{Phase, Idle, Asked, Told, after_post, after_taking, after_adding, after_item, phase_of, waits_in, is_asked, is_told, IsFirst, idle_is, first_idle, awaits_told, awaits_took}
-use Rattle.cluster_rules.proofs.UnderWay.{adds_body, add_from, under_way, tells_body, old_to, to_tell, amount_in, moved_by, adds_sent, adds_took, adds_ended, adds_kept, adds_served, owed_counts, olds_ended, olds_took, olds_did, olds_posted, olds_told}
+use Rattle.cluster_rules.proofs.Phases.{Phase, Idle, Asked, Told, phase_of, waits_in, is_asked, is_told, IsFirst, idle_is}
+use Rattle.cluster_rules.proofs.UnderWay.{under_way, to_tell, moved_by}
 
 -- What the phases of all nodes say.
 pub record Phased (cluster : Cluster) (course : Course) : Type 0 where
@@ -138,7 +128,8 @@ module _ (cluster : Cluster) (course : Course) (node : ℕ) (here : Option PostA
       on (inr not) = ap (stack_of (node_at cluster number)) (own_other number (moved_by node event here) course not)
 
   pub first_more : (event : Event) → ((number : ℕ) → number ≢ node → phase_of number (more event) ≡ phase_of number course)
-      → IsFirst (phase_of node (more event)) (stack_of (node_at cluster node) (event ∷ past)) → (number : ℕ) → IsFirst (phase_of number (more event)) (stack_of (node_at cluster number) (own number (more event)))
+      → IsFirst (phase_of node (more event)) (stack_of (node_at cluster node) (event ∷ past)) → (number : ℕ)
+      → IsFirst (phase_of number (more event)) (stack_of (node_at cluster number) (own number (more event)))
   first_more event others first number = on (one_or_two number node)
     where
       on : (number ≡ node) ⊎ (number ≢ node) → IsFirst (phase_of number (more event)) (stack_of (node_at cluster number) (own number (more event)))
