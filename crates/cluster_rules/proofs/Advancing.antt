@@ -103,7 +103,7 @@ otherwise_named frame acts mark = on (named frame mark) (not (eqb mark.acts acts
     on false b = omega arith
 
 -- a mark of the frame has this number
-otherwise_none : (frame : FrameId) (acts number : ℕ) → one (otherwise frame acts (record { id = frame; acts = number })) ≡ 0 → number ≡ acts
+pub otherwise_none : (frame : FrameId) (acts number : ℕ) → one (otherwise frame acts (record { id = frame; acts = number })) ≡ 0 → number ≡ acts
 otherwise_none frame acts number none = on (eqb number acts) refl
   where
     on : (b : Bool) → eqb number acts ≡ b → number ≡ acts

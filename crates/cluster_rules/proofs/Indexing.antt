@@ -27,13 +27,13 @@ use Rattle.cluster_rules.proofs.Claiming.{acts_before, pending_at, pending, adds
 abbrev pub HasMark : Cluster → Course → ℕ → Mark → Type 0
 HasMark cluster course number mark = (such : Mark → Bool) → one (such mark) ≤ at_node cluster course such number
 
-mark_named : (cluster : Cluster) (course : Course) (number : ℕ) (frame : FrameId) (acts : ℕ) → HasMark cluster course number (record { id = frame; acts = acts })
+pub mark_named : (cluster : Cluster) (course : Course) (number : ℕ) (frame : FrameId) (acts : ℕ) → HasMark cluster course number (record { id = frame; acts = acts })
     → 1 ≤ at_node cluster course (named frame) number
 mark_named cluster course number frame acts has =
     let here = has (named frame) in
     let is : one (named frame (record { id = frame; acts = acts })) ≡ 1 = ap one (same_self frame) in omega (arith, here, is)
 
-stack_mark : (cluster : Cluster) (course : Course) (number : ℕ) (mark : Mark)
+pub stack_mark : (cluster : Cluster) (course : Course) (number : ℕ) (mark : Mark)
     → ((such : Mark → Bool) → one (such mark) ≤ many such (marks (stack_of (node_at cluster number) (own number course)))) → HasMark cluster course number mark
 stack_mark cluster course number mark has = λ such.
     let frames = frames_of (node_at cluster number) (own number course) in
@@ -54,7 +54,7 @@ first_stack_mark cluster course number frame acts first =
 
 module _ (cluster : Cluster) (course : Course) (stepped : Stepped cluster course) where
   -- a frame that was not told of its add is the first of its stack
-  told_there : (number : ℕ) (frame : FrameId) (phase : Phase) → phase_of number course ≡ phase → is_told_of frame phase ≡ true → 1 ≤ at_node cluster course (named frame) number
+  pub told_there : (number : ℕ) (frame : FrameId) (phase : Phase) → phase_of number course ≡ phase → is_told_of frame phase ≡ true → 1 ≤ at_node cluster course (named frame) number
   told_there number frame Idle is told = absurd (cc)
   told_there number frame (Asked other acts) is told = absurd (cc)
   told_there number frame (Told other acts) is told =
@@ -64,7 +64,7 @@ module _ (cluster : Cluster) (course : Course) (stepped : Stepped cluster course
       let has = first_stack_mark cluster course number other acts first in
       subst (λ it. 1 ≤ at_node cluster course (named it) number) name (mark_named cluster course number other acts has)
 
-  told_within : (number : ℕ) (frame : FrameId) (phase : Phase) → phase_of number course ≡ phase → is_told_of frame phase ≡ true → number < cluster.config.nodes
+  pub told_within : (number : ℕ) (frame : FrameId) (phase : Phase) → phase_of number course ≡ phase → is_told_of frame phase ≡ true → number < cluster.config.nodes
   told_within number frame Idle is told = absurd (cc)
   told_within number frame (Asked other acts) is told = absurd (cc)
   told_within number frame (Told other acts) is told = (phased cluster course stepped).within number (ap waits_in is)

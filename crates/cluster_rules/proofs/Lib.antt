@@ -28,3 +28,5 @@ pub mod Claiming
 pub mod Indexing
 pub mod Claimed
 pub mod Places
+pub mod Keeping
+pub mod Posting
