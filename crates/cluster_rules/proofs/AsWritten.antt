@@ -30,11 +30,11 @@ resident_since page past resident =
       },
     )
 
-stay_is : (page : ℕ) (past : Past) (words : List ℤ) (arrival : Arrival page past words) → stay page past ≡ arrival.newer
+pub stay_is : (page : ℕ) (past : Past) (words : List ℤ) (arrival : Arrival page past words) → stay page past ≡ arrival.newer
 stay_is page past words arrival =
     ap (since (arrives page)) arrival.parts ∙ since_at (arrives page) arrival.newer arrival.event arrival.older arrival.last (ap is_some arrival.brought)
 
-brought_is : (page : ℕ) (past : Past) (words : List ℤ) (arrival : Arrival page past words) → given (brings page) past ≡ Some words
+pub brought_is : (page : ℕ) (past : Past) (words : List ℤ) (arrival : Arrival page past words) → given (brings page) past ≡ Some words
 brought_is page past words arrival =
     ap (given (brings page)) arrival.parts ∙ given_at (brings page) arrival.newer arrival.event arrival.older words (given_none (brings page) arrival.newer arrival.last) arrival.brought
 
