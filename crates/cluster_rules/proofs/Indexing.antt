@@ -14,7 +14,7 @@ use Rattle.cluster_rules.specs.Allowed.{IsAllowed}
 use Rattle.cluster_rules.specs.Positions.{Moved, Course, own}
 use Rattle.cluster_rules.proofs.Stepping.{Step, Stepped}
 use Rattle.cluster_rules.proofs.Summing.{sum_none, sum_one}
-use Rattle.cluster_rules.proofs.Marks.{Mark, one, many, many_append, named, marks, other_marks, same_self, same_name, AddsFirst}
+use Rattle.cluster_rules.proofs.Marks.{Mark, one, many, many_append, named, mark_of, marks, other_marks, same_self, same_name, AddsFirst}
 use Rattle.cluster_rules.proofs.Passing.{is_among}
 use Rattle.cluster_rules.proofs.Holding.{at_node, held, one_node}
 use Rattle.cluster_rules.proofs.Advancing.{acts_counted}
@@ -40,12 +40,13 @@ stack_mark cluster course number mark has = λ such.
     let here = has such in
     let all = many_append such (marks frames.stack) (other_marks frames) in omega (arith, here, all)
 
+same_mark : (life : Life) (frame : FrameId) (acts : ℕ) → life.id ≡ frame → life.acts ≡ acts → mark_of life ≡ record { id = frame; acts = acts }
+same_mark life frame acts name number = λ i. record { id = name i; acts = number i }
+
 first_mark : (such : Mark → Bool) (frame : FrameId) (acts : ℕ) (stack : List Life) → AddsFirst frame acts stack → one (such (record { id = frame; acts = acts })) ≤ many such (marks stack)
 first_mark such frame acts [] first = absurd first
 first_mark such frame acts (life ∷ below) first =
-    let same : record { id = life.id; acts = life.acts } ≡ record { id = frame; acts = acts } = λ i. record { id = first.0 i; acts = first.1 i } in
-    let is : one (such (record { id = life.id; acts = life.acts })) ≡ one (such (record { id = frame; acts = acts })) = ap (λ it. one (such it)) same in
-    omega (arith, is)
+    let is = ap (λ it. one (such it)) (same_mark life frame acts first.0 first.1) in omega (arith, is)
 
 pub first_stack_mark : (cluster : Cluster) (course : Course) (number : ℕ) (frame : FrameId) (acts : ℕ) → AddsFirst frame acts (stack_of (node_at cluster number) (own number course))
     → HasMark cluster course number (record { id = frame; acts = acts })
