@@ -459,7 +459,7 @@ module _ (cluster : Cluster) (turns : List WholeTurn) (lawful : IsLawful cluster
       let reply_same = owed.once push pop (first.reply) (second.reply) (first.taking) (gave_reply (first.home) number (first.reply) (first.note) (first.posted) (first.replies)) popped_second (first.answers) answers_second in
       (delivery cluster turns lawful).once one other number number (first.reply) (first.takes) (second.takes ∙ ap (log.Took number) (sym reply_same))
 
-  done_once : (number post one other : ℕ) → DoneAt number post one → DoneAt number post other → one ≡ other
+  pub done_once : (number post one other : ℕ) → DoneAt number post one → DoneAt number post other → one ≡ other
   done_once number post one other first second =
       let same = same_taking (first.home) (second.home) post (first.taking) (second.taking) (first.took) (second.took) in
       let takes = λ (at : ℕ). takes_add events (first.home) (events at) in
