@@ -22,7 +22,7 @@ use Rattle.cluster_rules.specs.Walking.{is_empty, with_first, last_of}
 use Rattle.cluster_rules.specs.Turns.{Event, Did, Sent, Took, Ended, Past, same_place}
 use Rattle.cluster_rules.specs.Node.{Node}
 use Rattle.cluster_rules.specs.Home.{owed_adds, replies_in}
-use Rattle.cluster_rules.specs.Lives.{Life, returned, with_kept, live_from, live, answered, made, acted, added, children_of, after_act, without_bottom, link_to, carried}
+use Rattle.cluster_rules.specs.Lives.{Life, main_id, returned, with_kept, live_from, live, answered, made, acted, added, children_of, after_act, without_bottom, link_to, carried}
 use Rattle.cluster_rules.specs.Frames.{Frames, Parked, is_complete, all_joined, still_parked, with_joined, taken_up, stack_sent, frames_item, frames_took, frames_on, frames_of, stack_of}
 use Rattle.cluster_rules.specs.Acting.{Wants, Acts, MaySpawn, MayMake, MayAct}
 use Rattle.cluster_rules.specs.Edges.{IsClosure, MayGrant, MayPark}
@@ -406,3 +406,62 @@ module _ (node : Node) (past : Past) (P Q : Saying) where
       (each_same (Sent message) keeps (stack_sent message.body frames.stack) (sent_each message.body message.receiver (may_post node past message may) all.stack)) all
   event_each (Took message) may keeps brings all = took_each message keeps message.body refl (Took message ∷ past) brings all
   event_each (Ended end) may keeps brings all = all_same (Ended end) keeps frames all
+
+-- ---- a course and one event more
+
+module _ (cluster : Cluster) (course : Course) (moved : Moved) (stepped : Stepped cluster course) (step : Step cluster course moved) (P Q : Saying) where
+  abbrev mover : Node
+  mover = node_at cluster moved.node
+
+  abbrev before_it : Past
+  before_it = own moved.node course
+
+  brought : (here : Option PostAt) (event : Event) → Carries course moved.node here event → EachLetter cluster.code P (letters_of course) → Brings mover before_it P Q event
+  brought here (Did done) carries letters = tt
+  brought here (Sent message) carries letters = tt
+  brought here (Took message) carries letters =
+      letter_of P cluster.code carries.place message (letters_of course)
+      (letters_hold cluster course stepped carries.place message carries.was_posted carries.not_taken) letters
+  brought here (Ended end) carries letters = tt
+
+  letters_same : (event : Event) → Keeps mover before_it event P Q → (letters : List Letter) → EachLetter cluster.code P letters → EachLetter cluster.code Q letters
+  letters_same event keeps letters all = letters_both P P Q (λ id goes first second. keeps.same id goes first) cluster.code letters all all
+
+  letters_each : (here : Option PostAt) (event : Event) → IsAllowed mover before_it event → Keeps mover before_it event P Q → Each P (stack_of mover before_it) → EachLetter cluster.code P (letters_of course)
+      → EachLetter cluster.code Q (letters_on event here (letters_of course))
+  letters_each here (Did done) may keeps stack letters = letters_same (Did done) keeps (letters_of course) letters
+  letters_each None (Sent message) may keeps stack letters = letters_same (Sent message) keeps (letters_of course) letters
+  letters_each (Some place) (Sent message) may keeps stack letters = (
+    leaves mover before_it P Q (Sent message) keeps message.body message.receiver (may_post mover before_it message may) stack,
+    letters_same (Sent message) keeps (letters_of course) letters,
+  )
+  letters_each None (Took message) may keeps stack letters = letters_same (Took message) keeps (letters_of course) letters
+  letters_each (Some place) (Took message) may keeps stack letters =
+      letters_same (Took message) keeps (without_letter place (letters_of course)) (without_each P cluster.code place (letters_of course) letters)
+  letters_each here (Ended end) may keeps stack letters = letters_same (Ended end) keeps (letters_of course) letters
+
+  -- What holds of every frame anywhere, behind one event more.
+  pub everywhere_next : Keeps mover before_it moved.event P Q → Everywhere cluster course P → Everywhere cluster (moved ∷ course) Q
+  everywhere_next keeps all = record {
+    at = λ number less. on number less (one_or_two number moved.node);
+    letters = letters_each moved.message moved.event step.allowed keeps (all.at moved.node step.within).stack all.letters;
+  }
+    where
+      here : InFrames cluster.code Q (frames_of mover (own moved.node (moved ∷ course)))
+      here = subst (λ past. InFrames cluster.code Q (frames_of mover past)) (sym (own_first moved course))
+          (event_each mover before_it P Q moved.event step.allowed keeps (brought moved.message moved.event step.carries all.letters) (all.at moved.node step.within))
+
+      on : (number : ℕ) → number < cluster.config.nodes → (number ≡ moved.node) ⊎ (number ≢ moved.node) → InFrames cluster.code Q (frames_of (node_at cluster number) (own number (moved ∷ course)))
+      on number less (inl same) = subst (λ it. InFrames cluster.code Q (frames_of (node_at cluster it) (own it (moved ∷ course)))) (sym same) here
+      on number less (inr other) =
+          subst (λ past. InFrames cluster.code Q (frames_of (node_at cluster number) past)) (sym (own_other number moved course other))
+          (frames_both P P Q (λ id goes first second. keeps.same id goes first) cluster.code (frames_of (node_at cluster number) (own number course)) (all.at number less) (all.at number less))
+
+-- At the start `main` alone is anywhere.
+pub everywhere_first : (cluster : Cluster) (P : Saying) → P main_id (starts cluster.code 0 cluster.code.main []) → Everywhere cluster [] P
+unfolding frames_of
+everywhere_first cluster P main = record { at = λ number less. on number (eqb number 0) refl; letters = tt }
+  where
+    on : (number : ℕ) (b : Bool) → eqb number 0 ≡ b → InFrames cluster.code P (frames_of (node_at cluster number) [])
+    on number true is = rw is (record { stack = (main, tt); ready = tt; parked = tt })
+    on number false is = rw is (record { stack = tt; ready = tt; parked = tt })
