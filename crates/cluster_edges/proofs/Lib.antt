@@ -1,1 +1,2 @@
 pub mod Anywhere
+pub mod Lone
