@@ -66,7 +66,7 @@ some_later number such (first ∷ later) rest any = on (eqb first.node number) r
 
 -- ---- what begins and ends a wait
 
-any_waits : (wait : Wait) (newer : Past) (event : Event) (older : Past) → list_any (ends wait) newer ≡ false → ends wait event ≡ false → begins wait event ≡ true → awaits wait (newer ++ event ∷ older) ≡ true
+pub any_waits : (wait : Wait) (newer : Past) (event : Event) (older : Past) → list_any (ends wait) newer ≡ false → ends wait event ≡ false → begins wait event ≡ true → awaits wait (newer ++ event ∷ older) ≡ true
 any_waits wait [] event older none not is = rw (not, is) refl
 any_waits wait (first ∷ newer) event older none not is = on (ends wait first) refl none (any_waits wait newer event older)
   where
