@@ -19,7 +19,7 @@ use Rattle.cluster_rules.specs.Lives.{Life, want_of, returned, with_kept, live_f
 use Rattle.cluster_rules.specs.Frames.{Frames, frames_took, frames_on, frames_of, stack_of, stack_sent}
 use Rattle.cluster_rules.specs.Runs.{Cluster, node_at, IsOwed, IsFree, MayDo, MayPost, MaySend}
 use Rattle.cluster_rules.specs.Allowed.{IsAllowed, AllAllowed}
-use Rattle.cluster_rules.specs.Positions.{Moved, Course, own}
+use Rattle.cluster_rules.specs.Positions.{Moved, Course, own, at, before}
 use Rattle.cluster_rules.proofs.Stepping.{Step, Stepped}
 use Rattle.cluster_rules.proofs.Summing.{one_or_two}
 use Rattle.cluster_rules.proofs.Marks.{WantsAdd, first_is, bottom_gone}
@@ -154,3 +154,13 @@ stepped_allowed cluster (moved ∷ course) stepped number = on (one_or_two numbe
         subst (λ it. AllAllowed (node_at cluster it) (own it (moved ∷ course))) (sym same)
         (subst (AllAllowed (node_at cluster moved.node)) (sym (own_first moved course)) (stepped.1.allowed, rest moved.node))
     on (inr other) rest = subst (AllAllowed (node_at cluster number)) (sym (own_other number moved course other)) (rest number)
+
+-- The event at a position is a step behind what was before it.
+pub step_at : (cluster : Cluster) (course : Course) → Stepped cluster course → (position : ℕ) (moved : Moved) → at course position ≡ Some moved → Step cluster (before course position) moved
+step_at cluster [] stepped position moved found = absurd (cc)
+step_at cluster (latest ∷ course) stepped position moved found = on (eqb position (length course)) refl found (step_at cluster course stepped.0 position moved)
+  where
+    on : (b : Bool) → eqb position (length course) ≡ b → cond b (Some latest) (at course position) ≡ Some moved → (at course position ≡ Some moved → Step cluster (before course position) moved)
+        → Step cluster (cond b course (before course position)) moved
+    on true is here rest = let same : latest ≡ moved = cc in subst (Step cluster course) same stepped.1
+    on false is here rest = rest here

@@ -1,3 +1,4 @@
 pub mod Anywhere
 pub mod Lone
 pub mod Asking
+pub mod AskedThere

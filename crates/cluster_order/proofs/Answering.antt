@@ -119,7 +119,7 @@ reconciling (body.Park join closure) is = absurd (cc)
 reconciling (body.Add frame index word addend) is = absurd (cc)
 reconciling (body.Added old) is = absurd (cc)
 
-adding : (said : Body) → adds_in said ≡ true → (frame : FrameId) × (index word : ℕ) × (addend : ℤ) × (said ≡ body.Add frame index word addend)
+pub adding : (said : Body) → adds_in said ≡ true → (frame : FrameId) × (index word : ℕ) × (addend : ℤ) × (said ≡ body.Add frame index word addend)
 adding (body.Fetch page) is = absurd (cc)
 adding (body.Page page words) is = absurd (cc)
 adding (body.Reconcile parts) is = absurd (cc)
