@@ -126,6 +126,82 @@ module _ (P Q R : Saying) (both : Both P Q R) where
     letters = letters_both cluster.code (letters_of course) first.letters second.letters;
   }
 
+-- ---- frame by frame
+
+-- it is said of this frame alone
+abbrev pub If : FrameId → Saying → Saying
+If frame P id goes = id ≡ frame → P id goes
+
+module _ (P : Saying) where
+  each_for : (lives : List Life) → ((frame : FrameId) → Each (If frame P) lives) → Each P lives
+  each_for [] all = tt
+  each_for (life ∷ lives) all = ((all life.id).0 refl, each_for lives (λ frame. (all frame).1))
+
+  parked_for : (code : Code) (parked : List Parked) → ((frame : FrameId) → EachParked code (If frame P) parked) → EachParked code P parked
+  parked_for code [] all = tt
+  parked_for code (first ∷ parked) all = ((all first.closure.id).0 refl, parked_for code parked (λ frame. (all frame).1))
+
+  body_for : (code : Code) (said : Body) → ((frame : FrameId) → OfBody code (If frame P) said) → OfBody code P said
+  body_for code (body.Fetch page) all = tt
+  body_for code (body.Page page words) all = tt
+  body_for code (body.Reconcile parts) all = tt
+  body_for code body.Ack all = tt
+  body_for code body.Ask all = tt
+  body_for code (body.Grant closure) all = all closure.id refl
+  body_for code body.Refuse all = tt
+  body_for code (body.Done join index value) all = tt
+  body_for code (body.Park join closure) all = all closure.id refl
+  body_for code (body.Add frame index word addend) all = tt
+  body_for code (body.Added old) all = tt
+
+  letters_for : (code : Code) (letters : List Letter) → ((frame : FrameId) → EachLetter code (If frame P) letters) → EachLetter code P letters
+  letters_for code [] all = tt
+  letters_for code (letter ∷ letters) all = (body_for code letter.message.body (λ frame. (all frame).0), letters_for code letters (λ frame. (all frame).1))
+
+  -- What holds of each single frame holds of all.
+  pub everywhere_for : (cluster : Cluster) (course : Course) → ((frame : FrameId) → Everywhere cluster course (If frame P)) → Everywhere cluster course P
+  everywhere_for cluster course all = record {
+    at = λ number less. (let here = frames_of (node_at cluster number) (own number course) in record {
+      stack = each_for here.stack (λ frame. ((all frame).at number less).stack);
+      ready = each_for here.ready (λ frame. ((all frame).at number less).ready);
+      parked = parked_for cluster.code here.parked (λ frame. ((all frame).at number less).parked);
+    });
+    letters = letters_for cluster.code (letters_of course) (λ frame. (all frame).letters);
+  }
+
+  module _ (holds : (id : FrameId) (goes : Meaning) → P id goes) where
+    each_always : (lives : List Life) → Each P lives
+    each_always [] = tt
+    each_always (life ∷ lives) = (holds life.id life.goes, each_always lives)
+
+    parked_always : (code : Code) (parked : List Parked) → EachParked code P parked
+    parked_always code [] = tt
+    parked_always code (first ∷ parked) = (holds first.closure.id (wants code first.closure.frame.frame), parked_always code parked)
+
+    body_always : (code : Code) (said : Body) → OfBody code P said
+    body_always code (body.Fetch page) = tt
+    body_always code (body.Page page words) = tt
+    body_always code (body.Reconcile parts) = tt
+    body_always code body.Ack = tt
+    body_always code body.Ask = tt
+    body_always code (body.Grant closure) = holds closure.id (wants code closure.frame.frame)
+    body_always code body.Refuse = tt
+    body_always code (body.Done join index value) = tt
+    body_always code (body.Park join closure) = holds closure.id (wants code closure.frame.frame)
+    body_always code (body.Add frame index word addend) = tt
+    body_always code (body.Added old) = tt
+
+    letters_always : (code : Code) (letters : List Letter) → EachLetter code P letters
+    letters_always code [] = tt
+    letters_always code (letter ∷ letters) = (body_always code letter.message.body, letters_always code letters)
+
+    pub everywhere_always : (cluster : Cluster) (course : Course) → Everywhere cluster course P
+    everywhere_always cluster course = record {
+      at = λ number less. (let here = frames_of (node_at cluster number) (own number course) in
+          record { stack = each_always here.stack; ready = each_always here.ready; parked = parked_always cluster.code here.parked });
+      letters = letters_always cluster.code (letters_of course);
+    }
+
 -- ---- lists
 
 module _ (P : Saying) where

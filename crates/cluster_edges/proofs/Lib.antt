@@ -2,3 +2,4 @@ pub mod Anywhere
 pub mod Lone
 pub mod Asking
 pub mod AskedThere
+pub mod Returned

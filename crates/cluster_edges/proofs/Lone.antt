@@ -88,7 +88,7 @@ module _ (frame : FrameId) (Q : Meaning → Type 0) where
           parked = none_parked code frames.parked (omega (arith, a, b, once, count));
         }
 
-    at_least : (frames : Frames) → frames.stack ≡ front ++ life ∷ back → 1 ≤ many (named frame) (marks_of frames)
+    pub at_least : (frames : Frames) → frames.stack ≡ front ++ life ∷ back → 1 ≤ many (named frame) (marks_of frames)
     at_least frames parts =
         let a = many_append (named frame) (marks frames.stack) (other_marks frames) in
         let count : many (named frame) (marks frames.stack) ≡ many (named frame) (marks front) + (1 + many (named frame) (marks back)) = ap (λ it. many (named frame) (marks it)) parts ∙ in_stack in
