@@ -3,3 +3,4 @@ pub mod Lone
 pub mod Asking
 pub mod AskedThere
 pub mod Returned
+pub mod NoAct

@@ -127,7 +127,7 @@ abbrev pub StaysReturned : Cluster → Course → Saying
 StaysReturned cluster course id goes = has_returned cluster id course ≡ true → IsReturned goes
 
 -- so is one that stands returned
-standing_everywhere : (cluster : Cluster) (course : Course) → Stepped cluster course → Everywhere cluster course (λ id goes. stands_returned cluster id course ≡ true → IsReturned goes)
+pub standing_everywhere : (cluster : Cluster) (course : Course) → Stepped cluster course → Everywhere cluster course (λ id goes. stands_returned cluster id course ≡ true → IsReturned goes)
 standing_everywhere cluster course stepped =
     everywhere_for (λ id goes. stands_returned cluster id course ≡ true → IsReturned goes) cluster course (λ frame. on frame (stands_returned cluster frame course) refl)
   where
@@ -142,7 +142,7 @@ standing_everywhere cluster course stepped =
         (λ id goes same stands. (let not : stands_returned cluster id course ≡ false = ap (λ it. stands_returned cluster it course) same ∙ other in absurd (cc))) cluster course
 
 -- one event more
-grown : (cluster : Cluster) (course : Course) (moved : Moved) → Stepped cluster (moved ∷ course) → Everywhere cluster (moved ∷ course) (StaysReturned cluster course)
+pub grown : (cluster : Cluster) (course : Course) (moved : Moved) → Stepped cluster (moved ∷ course) → Everywhere cluster (moved ∷ course) (StaysReturned cluster course)
     → Everywhere cluster (moved ∷ course) (StaysReturned cluster (moved ∷ course))
 grown cluster course moved stepped before =
     everywhere_both (StaysReturned cluster course) (λ id goes. stands_returned cluster id (moved ∷ course) ≡ true → IsReturned goes) (StaysReturned cluster (moved ∷ course))
