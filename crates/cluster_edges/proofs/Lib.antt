@@ -4,3 +4,4 @@ pub mod Asking
 pub mod AskedThere
 pub mod Returned
 pub mod NoAct
+pub mod Meant
