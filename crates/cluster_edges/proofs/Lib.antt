@@ -5,3 +5,4 @@ pub mod AskedThere
 pub mod Returned
 pub mod NoAct
 pub mod Meant
+pub mod BlockOf
