@@ -6,3 +6,5 @@ pub mod Returned
 pub mod NoAct
 pub mod Meant
 pub mod BlockOf
+pub mod Counting
+pub mod NoChildren

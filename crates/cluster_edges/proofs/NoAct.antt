@@ -43,7 +43,7 @@ module _ (cluster : Cluster) (turns : List WholeTurn) (lawful : IsLawful cluster
   abbrev past : ℕ → ℕ → Past
   past number position = own number (before course position)
 
-  stepped_then : (position : ℕ) → Stepped cluster (before course position)
+  pub stepped_then : (position : ℕ) → Stepped cluster (before course position)
   stepped_then position = stepped_before cluster course (lawful_stepped cluster turns lawful) position
 
   pub step_then : (position : ℕ) (moved : Moved) → at course position ≡ Some moved → Step cluster (before course position) moved

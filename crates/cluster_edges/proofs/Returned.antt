@@ -87,7 +87,7 @@ stands_so cluster frame course stands =
       is = both.1;
     }
 
-either : (first second : Bool) → first || second ≡ true → (first ≡ true) ⊎ (second ≡ true)
+pub either : (first second : Bool) → first || second ≡ true → (first ≡ true) ⊎ (second ≡ true)
 either true second is = inl refl
 either false second is = inr is
 
