@@ -1,12 +1,12 @@
 -- The frame whose add was asked for waits for it where the home does the add, and where the old value comes.
-use Rattle.std.proofs.Common.{◌≡◌, ◌≢◌, ◌⊎◌, inl, inr, ℕ, suc, ℤ, ◌<◌, ◌≤◌, List, [], ◌∷◌, ◌++◌, Option, Some, None, Bool, true, false, cond, eqb, refl, sym, ◌∙◌, ap, subst, arith, length}
+use Rattle.std.proofs.Common.{◌≡◌, ◌≢◌, ℕ, suc, ℤ, ◌<◌, ◌≤◌, List, ◌∷◌, ◌++◌, Some, Bool, true, false, eqb, refl, sym, ◌∙◌, ap, subst, arith}
 use Rattle.std.proofs.lemmas.Bool.Decides.{nat_tests}
 use Rattle.std.specs.List.{list_any}
 use Rattle.page_messages.specs.declared.closure.FrameId.{FrameId}
 use Rattle.page_messages.specs.declared.message.Msg.{Msg}
 use Rattle.page_messages.specs.declared.message.Body.TheVariants as body
 use Rattle.page_messages.specs.declared.log.Item.TheVariants as item
-use Rattle.cluster_rules.specs.Turns.{WholeTurn, Event, Did, Sent, Took, Past}
+use Rattle.cluster_rules.specs.Turns.{WholeTurn, Did, Sent, Took, Past}
 use Rattle.cluster_rules.specs.Sendings.{ForAdded, ends, adds_in, tells_in}
 use Rattle.cluster_rules.specs.Home.{owed_adds}
 use Rattle.cluster_rules.specs.Frames.{stack_of}
@@ -14,15 +14,14 @@ use Rattle.cluster_rules.specs.Acting.{Serves as DoesOwed}
 use Rattle.cluster_rules.specs.Runs.{Cluster, IsLawful, node_at}
 use Rattle.cluster_rules.specs.Allowed.{AllAllowed}
 use Rattle.cluster_rules.specs.Positions.{Moved, Course, course_of, own, at, before, Happens}
-use Rattle.cluster_rules.proofs.Stepping.{Stepped, lawful_stepped, stepped_before}
+use Rattle.cluster_rules.proofs.Stepping.{lawful_stepped, stepped_before}
 use Rattle.backer_order.specs.Log as log
-use Rattle.backer_order.specs.Rules.{Delivery}
 use Rattle.backer_order.specs.Moments.{Serves, takes_add, serves, gives_added}
 use Rattle.backer_order.proofs.Owed as owed
 use Rattle.cluster_order.specs.Reading.{memory_of, served_for}
 use Rattle.cluster_order.proofs.Growing.{within}
 use Rattle.cluster_order.proofs.Events.{happens}
-use Rattle.cluster_order.proofs.Between.{NoneFrom, Stands, stands_at, past_parts, none_newer}
+use Rattle.cluster_order.proofs.Between.{Stands, stands_at, past_parts, none_newer}
 use Rattle.cluster_order.proofs.Messages.{length_before, happens_before, happened_before, Taking, delivery}
 use Rattle.cluster_order.proofs.Accesses.{ev}
 use Rattle.cluster_order.proofs.Adding.{AddTaken, add_other, add_for, served_at_home, serves_other}
@@ -86,10 +85,10 @@ module _ (cluster : Cluster) (turns : List WholeTurn) (lawful : IsLawful cluster
       let said = adding due.1.message.body due.1.asks in (
         said.0,
         asks_there number due.0 position due.1.message said.0 said.1 said.2 said.3 took.moved took.is due.1.is said.4 due.2
-        (λ between after earlier other.
-        let found = told_behind_answer cluster turns lawful number ForAdded between due.0 due.1 after other in
-        let same = done_once cluster turns lawful number due.0 position found.0 due.3 found.2 in
-        absurd (omega (arith, earlier, same, found.1))),
+            (λ between after earlier other.
+            let found = told_behind_answer cluster turns lawful number ForAdded between due.0 due.1 after other in
+            let same = done_once cluster turns lawful number due.0 position found.0 due.3 found.2 in
+            absurd (omega (arith, earlier, same, found.1))),
       )
 
   -- ---- where the home does the add

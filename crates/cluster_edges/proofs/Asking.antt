@@ -1,5 +1,5 @@
 -- While an add that a node asked for is not answered, the frame that wants it is the first on the node's stack.
-use Rattle.std.proofs.Common.{◌≡◌, ◌⊎◌, inl, inr, ℕ, suc, ℤ, ◌<◌, ◌≤◌, List, [], ◌∷◌, ◌++◌, Option, Some, None, Bool, true, false, cond, ◌||◌, eqb, refl, sym, ◌∙◌, ap, subst, arith, length}
+use Rattle.std.proofs.Common.{◌≡◌, ◌⊎◌, inl, inr, ℕ, ℤ, List, [], ◌∷◌, ◌++◌, Option, Some, None, Bool, true, false, cond, ◌||◌, eqb, refl, sym, ◌∙◌, ap, subst, length}
 use Rattle.std.specs.List.{list_any}
 use Rattle.cilk_meaning.specs.Wants as want
 use Rattle.cilk_meaning.specs.Wants.{Asks}
@@ -10,11 +10,11 @@ use Rattle.page_messages.specs.declared.message.Body.{Body}
 use Rattle.page_messages.specs.declared.message.Body.TheVariants as body
 use Rattle.page_messages.specs.declared.log.Item.{Item}
 use Rattle.page_messages.specs.declared.log.Item.TheVariants as item
-use Rattle.cluster_rules.specs.Walking.{is_empty, first_of}
+use Rattle.cluster_rules.specs.Walking.{is_empty}
 use Rattle.cluster_rules.specs.Turns.{Event, Did, Sent, Took, Ended, Past}
 use Rattle.cluster_rules.specs.Node.{Node}
 use Rattle.cluster_rules.specs.Sendings.{ForAdded, awaits, ends, adds_in, tells_in}
-use Rattle.cluster_rules.specs.Home.{replies_in, owed_adds}
+use Rattle.cluster_rules.specs.Home.{replies_in}
 use Rattle.cluster_rules.specs.Lives.{Life, want_of, returned, with_kept, live_from, live, added, without_bottom, link_to}
 use Rattle.cluster_rules.specs.Frames.{Frames, frames_took, frames_on, frames_of, stack_of, stack_sent}
 use Rattle.cluster_rules.specs.Runs.{Cluster, node_at, IsOwed, IsFree, MayDo, MayPost, MaySend}
@@ -33,8 +33,8 @@ AsksFirst frame [] = ⊥
 AsksFirst frame (life ∷ below) = (life.id ≡ frame) × WantsAdd life
 
 first_live_on : (life : Life) (below : List Life) (value : Option ℤ) → value ≡ None
-    → elim value [ | None ↦ with_kept [] life ∷ below | Some it ↦ live_from ((life.spawned.target, it) ∷ []) below ] ≡ with_kept [] life ∷ below
-first_live_on life below value is = ap (λ value. elim value [ | None ↦ with_kept [] life ∷ below | Some it ↦ live_from ((life.spawned.target, it) ∷ []) below ]) is
+    → elim value [ None ↦ with_kept [] life ∷ below | Some it ↦ live_from ((life.spawned.target, it) ∷ []) below ] ≡ with_kept [] life ∷ below
+first_live_on life below value is = ap (λ value. elim value [ None ↦ with_kept [] life ∷ below | Some it ↦ live_from ((life.spawned.target, it) ∷ []) below ]) is
 
 -- it has not returned
 pub asks_live : (frame : FrameId) (stack : List Life) → AsksFirst frame stack → (life : Life) × (below : List Life) × (live stack ≡ life ∷ below) × WantsAdd life
@@ -59,7 +59,8 @@ above_first : (frame : FrameId) (join : Option JoinId) (above : List Life) (chil
 above_first frame join [] child parent first = first
 above_first frame join (life ∷ above) child parent first = first
 
-took_first : (node : Node) (frame : FrameId) (said : Body) (past : Past) (frames : Frames) → tells_in said ≡ false → AsksFirst frame frames.stack → AsksFirst frame ((frames_took node said past frames).stack)
+took_first : (node : Node) (frame : FrameId) (said : Body) (past : Past) (frames : Frames) → tells_in said ≡ false → AsksFirst frame frames.stack
+    → AsksFirst frame ((frames_took node said past frames).stack)
 took_first node frame (body.Fetch page) past frames other first = first
 took_first node frame (body.Page page words) past frames other first = first
 took_first node frame (body.Reconcile parts) past frames other first = first
@@ -149,7 +150,8 @@ pub stepped_allowed : (cluster : Cluster) (course : Course) → Stepped cluster 
 stepped_allowed cluster [] stepped number = tt
 stepped_allowed cluster (moved ∷ course) stepped number = on (one_or_two number moved.node) (stepped_allowed cluster course stepped.0)
   where
-    on : (number ≡ moved.node) ⊎ ((number ≡ moved.node) → ⊥) → ((number : ℕ) → AllAllowed (node_at cluster number) (own number course)) → AllAllowed (node_at cluster number) (own number (moved ∷ course))
+    on : (number ≡ moved.node) ⊎ ((number ≡ moved.node) → ⊥) → ((number : ℕ) → AllAllowed (node_at cluster number) (own number course))
+        → AllAllowed (node_at cluster number) (own number (moved ∷ course))
     on (inl same) rest =
         subst (λ it. AllAllowed (node_at cluster it) (own it (moved ∷ course))) (sym same)
         (subst (AllAllowed (node_at cluster moved.node)) (sym (own_first moved course)) (stepped.1.allowed, rest moved.node))

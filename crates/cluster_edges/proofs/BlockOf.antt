@@ -1,5 +1,5 @@
 -- The children that a frame spawned since its last sync, along a course.
-use Rattle.std.proofs.Common.{◌≡◌, ◌≢◌, ◌⊎◌, inl, inr, ℕ, zero, suc, ℤ, ◌+◌, ◌<◌, ◌≤◌, List, [], ◌∷◌, Option, Some, None, Bool, true, false, refl, sym, ◌∙◌, ap, subst, arith}
+use Rattle.std.proofs.Common.{◌≡◌, ◌⊎◌, inl, inr, ℕ, zero, suc, ℤ, ◌<◌, ◌≤◌, List, [], ◌∷◌, Option, Some, None, refl, sym, ap, subst, arith}
 use Rattle.page_messages.specs.declared.closure.FrameId.{FrameId}
 use Rattle.page_messages.specs.declared.message.Msg.{Msg}
 use Rattle.page_messages.specs.declared.log.LoggedAct.{LoggedAct}
@@ -7,25 +7,25 @@ use Rattle.page_messages.specs.declared.log.LoggedAct.TheVariants as act
 use Rattle.page_messages.specs.declared.log.Item.{Item}
 use Rattle.page_messages.specs.declared.log.Item.TheVariants as item
 use Rattle.page_messages.specs.declared.log.PostAt.{PostAt}
-use Rattle.cluster_rules.specs.Turns.{WholeTurn, Event, Did, Sent, Took, Ended, Past}
+use Rattle.cluster_rules.specs.Turns.{Event, Did, Sent, Took, Ended, Past}
 use Rattle.cluster_rules.specs.Node.{Node}
 use Rattle.cluster_rules.specs.Lives.{Life}
-use Rattle.cluster_rules.specs.Frames.{frames_of, stack_of}
+use Rattle.cluster_rules.specs.Frames.{frames_of}
 use Rattle.cluster_rules.specs.Acting.{Acts, MayAct}
 use Rattle.cluster_rules.specs.Runs.{Cluster, node_at, IsOwed, IsFree, MayDo}
 use Rattle.cluster_rules.specs.Allowed.{DoesItem, IsAllowed}
 use Rattle.cluster_rules.specs.Positions.{Moved, Course, own, at, before}
 use Rattle.cluster_rules.proofs.Stepping.{Step, Stepped}
 use Rattle.cluster_rules.proofs.Summing.{sum_one}
-use Rattle.cluster_rules.proofs.Marks.{one, many, named, marks, other_marks, marks_of, many_append, same_self}
+use Rattle.cluster_rules.proofs.Marks.{one, named, marks, other_marks, many_append, same_self}
 use Rattle.cluster_rules.proofs.Passing.{is_among}
 use Rattle.cluster_rules.proofs.Holding.{at_node, held, held_known, Unknown, unknown_before}
 use Rattle.backer_order.specs.Log as log
 use Rattle.backer_order.specs.Edges.{block_after, BlockChild}
-use Rattle.cluster_order.specs.Reading.{act_of, item_of, happens_to, event_of, events_of}
+use Rattle.cluster_order.specs.Reading.{happens_to, events_of}
 use Rattle.cluster_order.specs.Standing.{first}
 use Rattle.cluster_order.proofs.Events.{event_at}
-use Rattle.cluster_order.proofs.Fronts.{first_none, first_next, first_same, first_at}
+use Rattle.cluster_order.proofs.Fronts.{first_next, first_same, first_at}
 
 -- The frame spawned the child since its last sync.
 abbrev pub BlockOf : Cluster → Course → FrameId → FrameId → Type 0
@@ -121,7 +121,8 @@ spawned_block cluster course number here event it frame child block =
 pub act_may : (node : Node) (past : Past) (parent : FrameId) (index : ℕ) (done : LoggedAct) → DoesItem node past (item.Act parent index done) → MayAct node past parent index done
 act_may node past parent index done does = on does.rest does.posts does.may
   where
-    on : (rest : List Item) (posts : List Msg) → IsOwed node past (item.Act parent index done) ⊎ (IsFree past × MayDo node past (item.Act parent index done) rest posts) → MayAct node past parent index done
+    on : (rest : List Item) (posts : List Msg) → IsOwed node past (item.Act parent index done) ⊎ (IsFree past × MayDo node past (item.Act parent index done) rest posts)
+        → MayAct node past parent index done
     on rest posts (inl owed) = absurd owed
     on rest posts (inr both) = both.1
 

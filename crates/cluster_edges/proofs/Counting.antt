@@ -1,5 +1,5 @@
 -- What a frame wants shows that it has children of its block, where it has some.
-use Rattle.std.proofs.Common.{◌≡◌, ◌≢◌, ◌⊎◌, inl, inr, ℕ, zero, suc, ℤ, ◌<◌, List, [], ◌∷◌, ◌++◌, length, take, Option, Some, None, Bool, true, false, is_some, refl, sym, ◌∙◌, ap, subst, arith}
+use Rattle.std.proofs.Common.{◌≡◌, ◌⊎◌, inl, inr, ℕ, suc, ℤ, List, [], ◌∷◌, ◌++◌, length, take, Option, Bool, true, false, is_some, refl, sym, ◌∙◌, ap, subst}
 use Rattle.cilk_meaning.specs.Alone.{Block}
 use Rattle.cilk_meaning.specs.Alone as alone
 use Rattle.cilk_meaning.specs.Instance.{Meaning}
@@ -17,37 +17,34 @@ use Rattle.page_messages.specs.declared.message.Body.TheVariants as body
 use Rattle.page_messages.specs.declared.log.LoggedAct.TheVariants as act
 use Rattle.page_messages.specs.declared.log.Item.TheVariants as item
 use Rattle.page_messages.specs.declared.log.PostAt.{PostAt}
-use Rattle.cluster_rules.specs.Turns.{WholeTurn, Event, Did, Sent, Took, Ended, Past}
+use Rattle.cluster_rules.specs.Turns.{Event, Did, Sent, Took, Ended, Past}
 use Rattle.cluster_rules.specs.Node.{Node}
-use Rattle.cluster_rules.specs.Lives.{Life, main_id, same_frame, value_in, returned, live, acted, newborn, after_act}
+use Rattle.cluster_rules.specs.Lives.{Life, same_frame, value_in, live, acted, newborn, after_act}
 use Rattle.cluster_rules.specs.Frames.{frames_of, stack_of}
 use Rattle.cluster_rules.specs.Acting.{Wants, Acts, MaySpawn, MayAct}
-use Rattle.cluster_rules.specs.Runs.{Cluster, IsLawful, node_at}
-use Rattle.cluster_rules.specs.Positions.{Moved, Course, course_of, own, at, before, Happens}
-use Rattle.cluster_rules.proofs.Stepping.{Step, Stepped, lawful_stepped, stepped_before}
+use Rattle.cluster_rules.specs.Runs.{Cluster, node_at}
+use Rattle.cluster_rules.specs.Positions.{Moved, Course, own}
+use Rattle.cluster_rules.proofs.Stepping.{Step, Stepped}
 use Rattle.cluster_rules.proofs.Marks.{first_is, same_self, same_name}
 use Rattle.cluster_rules.proofs.Holding.{own_first, Unknown}
-use Rattle.backer_order.specs.Log as log
-use Rattle.backer_order.specs.Edges.{block_after, BlockChild}
+use Rattle.backer_order.specs.Edges.{block_after}
 use Rattle.cluster_order.specs.Reading.{happens_to}
-use Rattle.cluster_order.specs.Standing.{first, stands_returned, has_returned, returns_of}
-use Rattle.cluster_order.proofs.Fronts.{first_none, first_next, first_same, first_at}
-use Rattle.cluster_order.proofs.Events.{event_at}
-use Rattle.cluster_order.proofs.Accesses.{ev}
-use Rattle.cluster_edges.proofs.Anywhere.{Saying, Each, Everywhere, Keeps, Answers, ByBody, live_each, each_parts, everywhere_both, everywhere_next, everywhere_first}
+use Rattle.cluster_order.specs.Standing.{first}
+use Rattle.cluster_edges.proofs.Anywhere.{Saying, Each, Everywhere, live_each, everywhere_both}
+use Rattle.cluster_edges.proofs.Onward.{Keeps, Answers, ByBody, everywhere_next}
 use Rattle.cluster_edges.proofs.Lone.{lone}
 use Rattle.cluster_edges.proofs.Asking.{AsksFirst}
-use Rattle.cluster_edges.proofs.AskedThere.{asks_told}
 use Rattle.cluster_edges.proofs.Returned.{child_unknown}
 use Rattle.cluster_edges.proofs.Meant.{Meant, block_so, meant_first, meant_closed, meant_answered, steady_wants, returned_block}
-use Rattle.cluster_edges.proofs.BlockOf.{BlockOf, block_child, IsSpawn, AddsNone, spawn_or_none, spawned_block, actor_known, spawn_may, known_block}
+use Rattle.cluster_edges.proofs.BlockOf.{BlockOf, IsSpawn, AddsNone, spawn_or_none, spawned_block, actor_known, spawn_may, known_block}
 
 one_at_least : (block : Block) (target : Option ℕ) → block ++ target ∷ [] ≡ [] → ⊥
 one_at_least [] target is = absurd (cc)
 one_at_least (first ∷ block) target is = absurd (cc)
 
 -- the stack behind a spawn
-spawn_stack : (node : Node) (past : Past) (parent : FrameId) (index : ℕ) (child : FrameId) (procedure : ℕ) (arguments : List ℤ) (life : Life) (below : List Life) → live (stack_of node past) ≡ life ∷ below
+spawn_stack : (node : Node) (past : Past) (parent : FrameId) (index : ℕ) (child : FrameId) (procedure : ℕ) (arguments : List ℤ) (life : Life) (below : List Life)
+    → live (stack_of node past) ≡ life ∷ below
     → stack_of node (Did (item.Act parent index (act.Spawn child procedure arguments)) ∷ past)
     ≡ (newborn node child procedure arguments life ∷ []) ++ acted (act.Spawn child procedure arguments) life ∷ below
 unfolding frames_of
@@ -77,14 +74,16 @@ module _ (cluster : Cluster) (program : Program) (stands : StandsFor cluster.cod
     abbrev pub Behind : Event → FrameId → FrameId → Type 0
     Behind event = block_after (happens_to cluster course number here event) (BlockOf cluster course)
 
-    plain : (event : Event) (life : Life) (request : Request) (answer : Answer) → Wants life request → ((block : Block) → alone.block_after request block ≡ block) → AddsNone cluster course number here event
+    plain : (event : Event) (life : Life) (request : Request) (answer : Answer) → Wants life request → ((block : Block) → alone.block_after request block ≡ block)
+        → AddsNone cluster course number here event
         → Counts (BlockOf cluster course) life.id life.goes → Counts (Behind event) life.id (after life.goes answer)
     plain event life request answer wanted same none counts =
         let it = meant_answered begins steady life.goes counts.0 request answer wanted in
         (it.0, λ child block empty. counts.1 child (none life.id child block) (sym (same (block_so begins life.goes counts.0)) ∙ sym it.1 ∙ empty))
 
     -- the frame that an event answers
-    answers_count : (event : Event) → ((message : Msg) (old : ℤ) → event ≡ Took message → message.body ≡ body.Added old → (frame : FrameId) × AsksFirst frame (stack_of (node_at cluster number) (own number course)))
+    answers_count : (event : Event)
+        → ((message : Msg) (old : ℤ) → event ≡ Took message → message.body ≡ body.Added old → (frame : FrameId) × AsksFirst frame (stack_of (node_at cluster number) (own number course)))
         → (life : Life) (answer : Answer) → Answers (node_at cluster number) (own number course) event life answer
         → Counts (BlockOf cluster course) life.id life.goes → Counts (Behind event) life.id (after life.goes answer)
     answers_count (Did (item.Act frame index (act.Read word value))) told life answer by counts =
@@ -142,7 +141,8 @@ module _ (cluster : Cluster) (program : Program) (stands : StandsFor cluster.cod
     abbrev OldOrNew : Saying
     OldOrNew id goes = Old id goes ⊎ New id goes
 
-    answered_new : (life : Life) (answer : Answer) → Answers (node_at cluster moved.node) (own moved.node course) moved.event life answer → Old life.id life.goes → New life.id (after life.goes answer)
+    answered_new : (life : Life) (answer : Answer) → Answers (node_at cluster moved.node) (own moved.node course) moved.event life answer → Old life.id life.goes
+        → New life.id (after life.goes answer)
     answered_new life answer by counts = answers_count course moved.node moved.message moved.event told life answer by counts
 
     born_new : (frame : FrameId) (index : ℕ) (child : FrameId) (procedure : ℕ) (arguments : List ℤ) (life : Life) → moved.event ≡ Did (item.Act frame index (act.Spawn child procedure arguments))

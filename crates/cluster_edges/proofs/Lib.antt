@@ -1,4 +1,5 @@
 pub mod Anywhere
+pub mod Onward
 pub mod Lone
 pub mod Asking
 pub mod AskedThere

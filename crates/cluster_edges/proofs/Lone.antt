@@ -1,9 +1,8 @@
 -- A frame is in one place at most. So what holds of it on the stack of a node holds of it wherever it is.
-use Rattle.std.proofs.Common.{◌≡◌, ◌≢◌, ◌⊎◌, inl, inr, ℕ, suc, ◌+◌, ◌<◌, ◌≤◌, List, [], ◌∷◌, ◌++◌, Bool, true, false, refl, sym, ◌∙◌, ap, subst, arith}
+use Rattle.std.proofs.Common.{◌≡◌, ◌≢◌, ◌⊎◌, inl, inr, ℕ, ◌+◌, ◌<◌, ◌≤◌, List, [], ◌∷◌, ◌++◌, sym, ◌∙◌, ap, subst, arith}
 use Rattle.cilk_meaning.specs.Instance.{Meaning}
 use Rattle.machine_code.specs.Machine.{Code, wants}
 use Rattle.page_messages.specs.declared.closure.FrameId.{FrameId}
-use Rattle.page_messages.specs.declared.closure.Closure.{Closure}
 use Rattle.page_messages.specs.declared.message.Body.{Body}
 use Rattle.page_messages.specs.declared.message.Body.TheVariants as body
 use Rattle.cluster_rules.specs.Lives.{Life, same_frame}
@@ -16,7 +15,7 @@ use Rattle.cluster_rules.proofs.Summing.{sum_below, sum_one, sum_two, one_or_two
 use Rattle.cluster_rules.proofs.Marks.{one, many, named, marks, parked_marks, other_marks, marks_of, many_append, marks_append, same_self}
 use Rattle.cluster_rules.proofs.Passing.{closure_marks}
 use Rattle.cluster_rules.proofs.Holding.{at_node, in_message, held, held_once}
-use Rattle.cluster_edges.proofs.Anywhere.{Saying, Each, OfClosure, EachParked, OfBody, EachLetter, InFrames, Everywhere, each_append}
+use Rattle.cluster_edges.proofs.Anywhere.{Saying, Each, EachParked, OfBody, EachLetter, InFrames, Everywhere, each_append}
 
 module _ (frame : FrameId) (Q : Meaning → Type 0) where
   -- it is said of this frame alone
@@ -95,7 +94,8 @@ module _ (frame : FrameId) (Q : Meaning → Type 0) where
         omega (arith, a, count)
 
     -- What holds of the frame there holds of it anywhere.
-    pub lone : (cluster : Cluster) (course : Course) → Stepped cluster course → (number : ℕ) → number < cluster.config.nodes → stack_of (node_at cluster number) (own number course) ≡ front ++ life ∷ back
+    pub lone : (cluster : Cluster) (course : Course) → Stepped cluster course → (number : ℕ) → number < cluster.config.nodes
+        → stack_of (node_at cluster number) (own number course) ≡ front ++ life ∷ back
         → Everywhere cluster course Only
     lone cluster course stepped number less parts = record {
       at = λ other below. on other below (one_or_two other number);
@@ -118,4 +118,3 @@ module _ (frame : FrameId) (Q : Meaning → Type 0) where
         on other below (inr apart) =
             let both = sum_two cluster.config.nodes (at_node cluster course (named frame)) other number below less apart in
             none_frames cluster.code (frames_of (node_at cluster other) (own other course)) (omega (arith, once, here, both))
-

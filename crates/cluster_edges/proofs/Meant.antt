@@ -1,8 +1,8 @@
 -- What a frame wants by the answers that its instance got, and the block of children that it has spawned by them.
-use Rattle.std.proofs.Common.{◌≡◌, ◌⊎◌, inl, inr, ℕ, zero, suc, ℤ, ◌+◌, ◌<◌, ◌≤◌, List, [], ◌∷◌, ◌++◌, append_assoc, length, length-append, take, drop, Option, Some, None, Bool, true, false, is_some, refl, sym, ◌∙◌, ap, subst, arith}
+use Rattle.std.proofs.Common.{◌≡◌, ℕ, zero, suc, ℤ, ◌≤◌, List, [], ◌∷◌, ◌++◌, append_assoc, length, length-append, take, drop, Option, Some, None, true, is_some, refl, sym, ◌∙◌, ap, subst, arith}
 use Rattle.std.specs.List.{last_or}
 use Rattle.std.proofs.lemmas.List.{append-nil}
-use Rattle.cilk_meaning.specs.Alone.{Block, block_after, block_of, HasReturned}
+use Rattle.cilk_meaning.specs.Alone.{Block, block_after, block_of}
 use Rattle.cilk_meaning.specs.Instance as instance
 use Rattle.cilk_meaning.specs.Instance.{Meaning, limits}
 use Rattle.cilk_meaning.specs.Parted.{IsParted}
@@ -167,8 +167,8 @@ module _ (begins : ℕ → ℕ → List ℤ → Meaning) where
             ∙ ap (λ it. drop it (all (more ++ at_sync (left meant.deposits answer) rest))) (sym (one_more meant.answers (given meant.deposits answer)));
       },
       ap (λ it. block_of [] (take it (all more))) (one_more meant.answers (given meant.deposits answer))
-      ∙ ap (block_of []) (steady meant.depth meant.procedure meant.arguments meant.answers (given meant.deposits answer ∷ []))
-      ∙ ap (block_of []) (wants_so goes meant (Asks request) wants) ∙ block_asks [] (answered_wants goes meant) request,
+          ∙ ap (block_of []) (steady meant.depth meant.procedure meant.arguments meant.answers (given meant.deposits answer ∷ []))
+          ∙ ap (block_of []) (wants_so goes meant (Asks request) wants) ∙ block_asks [] (answered_wants goes meant) request,
     )
       where
         all : Meaning

@@ -1,40 +1,33 @@
 -- A frame that has returned makes no act.
-use Rattle.std.proofs.Common.{◌≡◌, ◌⊎◌, inl, inr, ℕ, zero, suc, ℤ, ◌<◌, List, [], ◌∷◌, Option, Some, None, Bool, true, false, is_some, refl, sym, ◌∙◌, ap, subst, arith, length}
-use Rattle.cilk_meaning.specs.Instance.{Meaning}
+use Rattle.std.proofs.Common.{◌≡◌, ◌⊎◌, inl, inr, ℕ, zero, suc, ℤ, ◌<◌, List, [], ◌∷◌, Option, Some, None, true, is_some, refl, sym, ◌∙◌, ap, subst}
 use Rattle.cilk_meaning.specs.Serve as serving
 use Rattle.cilk_meaning.specs.Serve.{now, after}
 use Rattle.cilk_meaning.specs.Wants as want
 use Rattle.cilk_meaning.specs.Wants.{Want, Asks, Deposit, Answer, Value}
-use Rattle.machine_code.specs.Early.{at_sync}
-use Rattle.machine_code.specs.Machine.{starts}
 use Rattle.page_messages.specs.declared.closure.FrameId.{FrameId}
-use Rattle.page_messages.specs.declared.message.Msg.{Msg}
 use Rattle.page_messages.specs.declared.message.Body.{Body}
 use Rattle.page_messages.specs.declared.message.Body.TheVariants as body
-use Rattle.page_messages.specs.declared.log.LoggedAct.{LoggedAct}
-use Rattle.page_messages.specs.declared.log.LoggedAct.TheVariants as act
-use Rattle.page_messages.specs.declared.log.Item.{Item}
 use Rattle.page_messages.specs.declared.log.Item.TheVariants as item
 use Rattle.cluster_rules.specs.Turns.{WholeTurn, Event, Did, Sent, Took, Ended, Past}
-use Rattle.cluster_rules.specs.Node.{Node}
-use Rattle.cluster_rules.specs.Lives.{Life, main_id, want_of, value_in, returned, live}
+use Rattle.cluster_rules.specs.Lives.{Life, value_in, returned, live}
 use Rattle.cluster_rules.specs.Frames.{stack_of}
-use Rattle.cluster_rules.specs.Acting.{Wants, Acts, MaySpawn, MayMake, MayAct, MayAddHere, Serves as DoesOwed}
+use Rattle.cluster_rules.specs.Acting.{Acts, MayAddHere, Serves as DoesOwed}
 use Rattle.cluster_rules.specs.Runs.{Cluster, IsLawful, IsFree, node_at}
 use Rattle.cluster_rules.specs.Positions.{Moved, Course, course_of, own, at, before, Happens}
 use Rattle.cluster_rules.proofs.Stepping.{Step, Stepped, lawful_stepped, stepped_before}
 use Rattle.cluster_rules.proofs.Marks.{first_is}
 use Rattle.backer_order.specs.Log as log
 use Rattle.backer_order.specs.Edges.{ActOf}
-use Rattle.cluster_order.specs.Standing.{first, stands_returned, has_returned, returns_of}
+use Rattle.cluster_order.specs.Standing.{first, has_returned, returns_of}
 use Rattle.cluster_order.proofs.Fronts.{first_none, first_next, first_same, first_at}
 use Rattle.cluster_order.proofs.Events.{acted_is, Acted, Served}
 use Rattle.cluster_order.proofs.Accesses.{ev}
 use Rattle.cluster_order.proofs.Lawful.{act_allowed, served_allowed}
-use Rattle.cluster_edges.proofs.Anywhere.{Saying, Each, Everywhere, Keeps, Answers, ByBody, live_each, everywhere_next, everywhere_first}
+use Rattle.cluster_edges.proofs.Anywhere.{Each, Everywhere, live_each}
+use Rattle.cluster_edges.proofs.Onward.{Keeps, Answers, ByBody, everywhere_next}
 use Rattle.cluster_edges.proofs.Asking.{AsksFirst, step_at}
 use Rattle.cluster_edges.proofs.AskedThere.{asks_told, asks_served}
-use Rattle.cluster_edges.proofs.Returned.{StandsSo, stands_so, IsReturned, StaysReturned, standing_everywhere, grown, known_returned, wants_none, makes_none, child_unknown}
+use Rattle.cluster_edges.proofs.Returned.{IsReturned, StaysReturned, standing_everywhere, grown, known_returned, wants_none, makes_none, child_unknown}
 
 module _ (cluster : Cluster) (turns : List WholeTurn) (lawful : IsLawful cluster turns) where
   abbrev course : Course

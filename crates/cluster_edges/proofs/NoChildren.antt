@@ -1,17 +1,12 @@
 -- A frame that has returned has no child of its block left.
-use Rattle.std.proofs.Common.{◌≡◌, ◌⊎◌, inl, inr, ℕ, zero, suc, ℤ, List, [], ◌∷◌, ◌++◌, Option, Some, None, Bool, true, false, refl, sym, ◌∙◌, ap, subst}
+use Rattle.std.proofs.Common.{◌≡◌, ◌⊎◌, inl, inr, ℕ, zero, suc, List, [], ◌∷◌, Option, Some, None, true, refl, sym, ◌∙◌, ap, subst}
 use Rattle.cilk_meaning.specs.Parted.{IsParted}
 use Rattle.cilk_meaning.specs.Resolved.{Program}
 use Rattle.machine_code.specs.StandsFor.{StandsFor}
 use Rattle.page_messages.specs.declared.closure.FrameId.{FrameId}
-use Rattle.page_messages.specs.declared.message.Msg.{Msg}
-use Rattle.page_messages.specs.declared.message.Body.TheVariants as body
-use Rattle.page_messages.specs.declared.log.Item.TheVariants as item
-use Rattle.page_messages.specs.declared.log.LoggedAct.TheVariants as act
-use Rattle.cluster_rules.specs.Turns.{WholeTurn, Took}
-use Rattle.cluster_rules.specs.Frames.{frames_of, stack_of}
-use Rattle.cluster_rules.specs.Runs.{Cluster, IsLawful, node_at}
-use Rattle.cluster_rules.specs.Positions.{Moved, Course, course_of, own, at, before}
+use Rattle.cluster_rules.specs.Turns.{WholeTurn}
+use Rattle.cluster_rules.specs.Runs.{Cluster, IsLawful}
+use Rattle.cluster_rules.specs.Positions.{Moved, Course, course_of, at, before}
 use Rattle.backer_order.specs.Log as log
 use Rattle.backer_order.specs.Edges.{BlockChild}
 use Rattle.cluster_order.specs.Reading.{happens_to}
@@ -20,9 +15,8 @@ use Rattle.cluster_order.proofs.Fronts.{first_none, first_next, first_same, firs
 use Rattle.cluster_order.proofs.Events.{event_at}
 use Rattle.cluster_order.proofs.Accesses.{ev}
 use Rattle.cluster_edges.proofs.Anywhere.{Each, Everywhere, each_parts, everywhere_first}
-use Rattle.cluster_edges.proofs.Asking.{AsksFirst}
 use Rattle.cluster_edges.proofs.AskedThere.{asks_told}
-use Rattle.cluster_edges.proofs.Returned.{StandsSo, stands_so, either}
+use Rattle.cluster_edges.proofs.Returned.{stands_so, either}
 use Rattle.cluster_edges.proofs.NoAct.{stepped_then, step_then, no_act_there}
 use Rattle.cluster_edges.proofs.Meant.{meant_first}
 use Rattle.cluster_edges.proofs.BlockOf.{BlockOf, block_child, IsSpawn, AddsNone, spawn_or_none, spawned_block}

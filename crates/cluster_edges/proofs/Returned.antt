@@ -1,40 +1,28 @@
 -- A frame that has returned is returned wherever it is.
-use Rattle.std.proofs.Common.{◌≡◌, ◌≢◌, ◌⊎◌, inl, inr, ℕ, zero, suc, ℤ, ◌+◌, ◌<◌, ◌≤◌, List, [], ◌∷◌, ◌++◌, Option, Some, None, Bool, true, false, cond, ◌&&◌, ◌||◌, eqb, is_some, refl, sym, ◌∙◌, ap, subst, arith, length}
-use Rattle.std.proofs.lemmas.Bool.Decides.{nat_tests}
+use Rattle.std.proofs.Common.{◌≡◌, ◌⊎◌, inl, inr, ℕ, zero, suc, ◌+◌, ◌<◌, ◌≤◌, List, [], ◌∷◌, ◌++◌, Bool, true, false, ◌||◌, is_some, refl, sym, ◌∙◌, ap, subst, arith}
 use Rattle.std.specs.List.{list_any, range_with_len}
 use Rattle.cilk_meaning.specs.Instance.{Meaning}
-use Rattle.cilk_meaning.specs.Serve as serving
-use Rattle.cilk_meaning.specs.Serve.{now, after}
+use Rattle.cilk_meaning.specs.Serve.{now}
 use Rattle.cilk_meaning.specs.Wants as want
 use Rattle.cilk_meaning.specs.Wants.{Want, Asks, Deposit, Answer}
-use Rattle.machine_code.specs.Early.{at_sync}
-use Rattle.machine_code.specs.Machine.{starts}
 use Rattle.page_messages.specs.declared.closure.FrameId.{FrameId}
-use Rattle.page_messages.specs.declared.message.Msg.{Msg}
-use Rattle.page_messages.specs.declared.message.Body.{Body}
-use Rattle.page_messages.specs.declared.message.Body.TheVariants as body
 use Rattle.page_messages.specs.declared.log.LoggedAct.{LoggedAct}
 use Rattle.page_messages.specs.declared.log.LoggedAct.TheVariants as act
-use Rattle.page_messages.specs.declared.log.Item.{Item}
-use Rattle.page_messages.specs.declared.log.Item.TheVariants as item
-use Rattle.cluster_rules.specs.Turns.{WholeTurn, Event, Did, Sent, Took, Ended, Past}
+use Rattle.cluster_rules.specs.Turns.{Past}
 use Rattle.cluster_rules.specs.Node.{Node}
-use Rattle.cluster_rules.specs.Lives.{Life, main_id, same_frame, want_of, value_in, returned, live}
+use Rattle.cluster_rules.specs.Lives.{Life, same_frame, value_in, returned}
 use Rattle.cluster_rules.specs.Frames.{frames_of, stack_of, next_frame}
-use Rattle.cluster_rules.specs.Acting.{Wants, Acts, MaySpawn, MayMake}
-use Rattle.cluster_rules.specs.Runs.{Cluster, IsLawful, node_at}
-use Rattle.cluster_rules.specs.Positions.{Moved, Course, course_of, own, at, before, Happens}
+use Rattle.cluster_rules.specs.Acting.{Wants, MayMake}
+use Rattle.cluster_rules.specs.Runs.{Cluster, node_at}
+use Rattle.cluster_rules.specs.Positions.{Moved, Course, own, before}
 use Rattle.cluster_rules.proofs.Settling.{both_true}
-use Rattle.cluster_rules.proofs.Stepping.{Step, Stepped, lawful_stepped, stepped_before}
-use Rattle.cluster_rules.proofs.Summing.{sum_below, sum_one}
-use Rattle.cluster_rules.proofs.Marks.{one, many, named, marks, other_marks, marks_of, many_append, marks_append, same_self, same_name, first_is}
+use Rattle.cluster_rules.proofs.Stepping.{Stepped}
+use Rattle.cluster_rules.proofs.Summing.{sum_one}
+use Rattle.cluster_rules.proofs.Marks.{named, same_name}
 use Rattle.cluster_rules.proofs.Holding.{at_node, held, held_known, Unknown, unknown_before}
 use Rattle.cluster_order.specs.Standing.{first, is_returned, stands_returned, has_returned}
-use Rattle.cluster_order.proofs.Fronts.{first_none, first_next, first_same, first_at}
-use Rattle.cluster_edges.proofs.Anywhere.{Saying, Each, Everywhere, If, Keeps, Answers, live_each, everywhere_both, everywhere_for, everywhere_always, everywhere_next, everywhere_first}
+use Rattle.cluster_edges.proofs.Anywhere.{Saying, Everywhere, If, everywhere_both, everywhere_for, everywhere_always}
 use Rattle.cluster_edges.proofs.Lone.{lone, at_least}
-use Rattle.cluster_edges.proofs.Asking.{AsksFirst, asks_live, step_at}
-use Rattle.cluster_edges.proofs.AskedThere.{asks_told, asks_served}
 
 -- ---- where a frame stands returned
 
