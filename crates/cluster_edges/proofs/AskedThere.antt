@@ -44,7 +44,8 @@ module _ (cluster : Cluster) (turns : List WholeTurn) (lawful : IsLawful cluster
 
   -- Where no old value came since an add was asked for, its frame is the first.
   asks_there : (number post position : ℕ) (message : Msg) (frame : FrameId) (index word : ℕ) (addend : ℤ) (moved : Moved) → at course position ≡ Some moved
-      → Happens course number post (Sent message) → message.body ≡ body.Add frame index word addend → post < position → NoAnswer number post position → AsksFirst frame (stack_of (node_at cluster number) (past number position))
+      → Happens course number post (Sent message) → message.body ≡ body.Add frame index word addend → post < position → NoAnswer number post position
+      → AsksFirst frame (stack_of (node_at cluster number) (past number position))
   asks_there number post position message frame index word addend moved found sent is less no_answer =
       subst (λ it. AsksFirst frame (stack_of (node_at cluster number) it)) (sym parts)
       (asks_since (node_at cluster number) newer.0 (own number (before front post)) message frame index word addend

@@ -91,7 +91,8 @@ pub record IsSpawn (event : Event) : Type 0 where
 
 -- no frame gets a child
 abbrev pub AddsNone : Cluster → Course → ℕ → Option PostAt → Event → Type 0
-AddsNone cluster course number here event = (frame child : FrameId) → block_after (happens_to cluster course number here event) (BlockOf cluster course) frame child → BlockOf cluster course frame child
+AddsNone cluster course number here event =
+    (frame child : FrameId) → block_after (happens_to cluster course number here event) (BlockOf cluster course) frame child → BlockOf cluster course frame child
 
 pub spawn_or_none : (cluster : Cluster) (course : Course) (number : ℕ) (here : Option PostAt) (event : Event) → IsSpawn event ⊎ AddsNone cluster course number here event
 spawn_or_none cluster course number here (Did (item.Act parent index (act.Read word value))) = inr (λ frame child block. block)

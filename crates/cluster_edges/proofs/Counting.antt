@@ -131,7 +131,8 @@ module _ (cluster : Cluster) (program : Program) (stands : StandsFor cluster.cod
   -- ---- one event more
 
   module _ (course : Course) (moved : Moved) (stepped : Stepped cluster course) (step : Step cluster course moved)
-      (told : (message : Msg) (old : ℤ) → moved.event ≡ Took message → message.body ≡ body.Added old → (frame : FrameId) × AsksFirst frame (stack_of (node_at cluster moved.node) (own moved.node course))) where
+      (told : (message : Msg) (old : ℤ) → moved.event ≡ Took message → message.body ≡ body.Added old
+      → (frame : FrameId) × AsksFirst frame (stack_of (node_at cluster moved.node) (own moved.node course))) where
     abbrev Old : Saying
     Old = Counts (BlockOf cluster course)
 

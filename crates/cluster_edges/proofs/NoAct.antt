@@ -141,7 +141,8 @@ module _ (cluster : Cluster) (turns : List WholeTurn) (lawful : IsLawful cluster
     no_act_there number done is = on (acted_is cluster course position number frame done is)
       where
         own_or_owed : (home index word : ℕ) (old addend : ℤ) → Happens course home position (Did (item.Served frame index word old addend))
-            → DoesOwed (node_at cluster home) (past home position) frame index word old addend ⊎ (IsFree (past home position) × MayAddHere (node_at cluster home) (past home position) frame index word old addend) → ⊥
+            → DoesOwed (node_at cluster home) (past home position) frame index word old addend
+            ⊎ (IsFree (past home position) × MayAddHere (node_at cluster home) (past home position) frame index word old addend) → ⊥
         own_or_owed home index word old addend happens (inl owes) =
             let it = asks_served cluster turns lawful home position frame index word old addend happens owes in
             asks_returned it.0 it.1 (stack_of (node_at cluster it.0) (past it.0 position)) refl it.2

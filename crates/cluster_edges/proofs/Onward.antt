@@ -33,7 +33,8 @@ use Rattle.cluster_rules.proofs.Summing.{one_or_two}
 use Rattle.cluster_rules.proofs.Marks.{bottom_gone, first_is}
 use Rattle.cluster_rules.proofs.Passing.{may_post}
 use Rattle.cluster_rules.proofs.Holding.{own_first, own_other}
-use Rattle.cluster_edges.proofs.Anywhere.{Saying, Each, OfBody, EachLetter, InFrames, Everywhere, Both, each_both, letters_both, frames_both, each_append, each_parts, parked_append, live_each, with_joined_each, without_each, letter_of}
+use Rattle.cluster_edges.proofs.Anywhere.{Saying, Each, OfBody, EachLetter, InFrames, Everywhere, Both}
+use Rattle.cluster_edges.proofs.Anywhere.{each_both, letters_both, frames_both, each_append, each_parts, parked_append, live_each, with_joined_each, without_each, letter_of}
 
 -- ---- what an event answers
 
@@ -117,7 +118,8 @@ module _ (node : Node) (past : Past) (P Q : Saying) where
     where
       by_act : (done : LoggedAct) → Keeps node past (Did (item.Act frame index done)) P Q → (life : Life) → Acts node past frame life → MayMake node past done life → (below : List Life)
           → Each P (life ∷ below) → Each Q (after_act node done (life ∷ below))
-      by_act (act.Read word value) keeps life acts makes below all = (keeps.acts life (Value value) (acts, makes, refl) all.0, each_same (Did (item.Act frame index (act.Read word value))) keeps below all.1)
+      by_act (act.Read word value) keeps life acts makes below all =
+          (keeps.acts life (Value value) (acts, makes, refl) all.0, each_same (Did (item.Act frame index (act.Read word value))) keeps below all.1)
       by_act (act.Write word value) keeps life acts makes below all = (keeps.acts life Done (acts, makes, refl) all.0, each_same (Did (item.Act frame index (act.Write word value))) keeps below all.1)
       by_act (act.Print value) keeps life acts makes below all = (keeps.acts life Done (acts, makes, refl) all.0, each_same (Did (item.Act frame index (act.Print value))) keeps below all.1)
       by_act (act.Spawn child procedure arguments) keeps life acts makes below all = (
