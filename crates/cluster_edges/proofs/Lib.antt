@@ -1,0 +1,11 @@
+pub mod Anywhere
+pub mod Onward
+pub mod Lone
+pub mod Asking
+pub mod AskedThere
+pub mod Returned
+pub mod NoAct
+pub mod Meant
+pub mod BlockOf
+pub mod Counting
+pub mod NoChildren

@@ -66,7 +66,7 @@ some_later number such (first ∷ later) rest any = on (eqb first.node number) r
 
 -- ---- what begins and ends a wait
 
-any_waits : (wait : Wait) (newer : Past) (event : Event) (older : Past) → list_any (ends wait) newer ≡ false → ends wait event ≡ false → begins wait event ≡ true → awaits wait (newer ++ event ∷ older) ≡ true
+pub any_waits : (wait : Wait) (newer : Past) (event : Event) (older : Past) → list_any (ends wait) newer ≡ false → ends wait event ≡ false → begins wait event ≡ true → awaits wait (newer ++ event ∷ older) ≡ true
 any_waits wait [] event older none not is = rw (not, is) refl
 any_waits wait (first ∷ newer) event older none not is = on (ends wait first) refl none (any_waits wait newer event older)
   where
@@ -119,7 +119,7 @@ reconciling (body.Park join closure) is = absurd (cc)
 reconciling (body.Add frame index word addend) is = absurd (cc)
 reconciling (body.Added old) is = absurd (cc)
 
-adding : (said : Body) → adds_in said ≡ true → (frame : FrameId) × (index word : ℕ) × (addend : ℤ) × (said ≡ body.Add frame index word addend)
+pub adding : (said : Body) → adds_in said ≡ true → (frame : FrameId) × (index word : ℕ) × (addend : ℤ) × (said ≡ body.Add frame index word addend)
 adding (body.Fetch page) is = absurd (cc)
 adding (body.Page page words) is = absurd (cc)
 adding (body.Reconcile parts) is = absurd (cc)
@@ -459,7 +459,7 @@ module _ (cluster : Cluster) (turns : List WholeTurn) (lawful : IsLawful cluster
       let reply_same = owed.once push pop (first.reply) (second.reply) (first.taking) (gave_reply (first.home) number (first.reply) (first.note) (first.posted) (first.replies)) popped_second (first.answers) answers_second in
       (delivery cluster turns lawful).once one other number number (first.reply) (first.takes) (second.takes ∙ ap (log.Took number) (sym reply_same))
 
-  done_once : (number post one other : ℕ) → DoneAt number post one → DoneAt number post other → one ≡ other
+  pub done_once : (number post one other : ℕ) → DoneAt number post one → DoneAt number post other → one ≡ other
   done_once number post one other first second =
       let same = same_taking (first.home) (second.home) post (first.taking) (second.taking) (first.took) (second.took) in
       let takes = λ (at : ℕ). takes_add events (first.home) (events at) in

@@ -45,7 +45,7 @@ amount_of amount (letter ∷ letters) = amount letter.message + amount_of amount
 
 -- ---- the first letter of a place
 
-abbrev Holds : PostAt → Msg → List Letter → Type 0
+abbrev pub Holds : PostAt → Msg → List Letter → Type 0
 Holds place message [] = ⊥
 Holds place message (letter ∷ letters) =
     ((letter.place ≡ place) × (letter.message ≡ message)) ⊎ ((same_place letter.place place ≡ false) × Holds place message letters)
@@ -141,7 +141,7 @@ module _ (cluster : Cluster) where
       took : (said : Msg) → first.event ≡ Took said → takes_place place first ≡ false → takes_at place first.message ≡ false
       took said is not = subst (λ event. takes_at place first.message ≡ false) is (let taken : takes_place place first ≡ takes_at place first.message = rw is refl in sym taken ∙ not)
 
-  letters_hold : (course : Course) → Stepped cluster course → (place : PostAt) (message : Msg) → WasPosted course place message → list_any (takes_place place) course ≡ false
+  pub letters_hold : (course : Course) → Stepped cluster course → (place : PostAt) (message : Msg) → WasPosted course place message → list_any (takes_place place) course ≡ false
       → Holds place message (letters_of course)
   letters_hold [] stepped place message was none = absurd was
   letters_hold (first ∷ course) stepped place message was none =
