@@ -1,3 +1,4 @@
 pub mod Ties
 pub mod Longer
 pub mod Granting
+pub mod Stacks

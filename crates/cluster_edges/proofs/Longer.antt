@@ -2,6 +2,7 @@
 use Rattle.std.proofs.Common.{◌≡◌, ◌≢◌, ◌⊎◌, inl, inr, ◌<◌, ◌≤◌, ◌+◌, ℕ, List, [], ◌∷◌, Option, Some, None, Bool, true, false, cond, eqb, refl, sym, ◌∙◌, ap, subst, arith}
 use Rattle.page_messages.specs.declared.closure.FrameId.{FrameId}
 use Rattle.page_messages.specs.declared.closure.JoinId.{JoinId}
+use Rattle.page_messages.specs.declared.closure.Child.{Child}
 use Rattle.page_messages.specs.declared.message.Body.{Body}
 use Rattle.page_messages.specs.declared.message.Body.TheVariants as body
 use Rattle.page_messages.specs.declared.log.LoggedAct.{LoggedAct}
@@ -107,22 +108,23 @@ abbrev pub StaysNamed : Moved → Course → Type 0
 StaysNamed moved course = (join : JoinId) (frame : FrameId) → Named join frame course → Named join frame (moved ∷ course)
 
 module _ (cluster : Cluster) (moved : Moved) (course : Course) (stays : StaysNamed moved course) where
-  pub parent_more : (tie : Tie) (join : JoinId) → HasParent course tie join → HasParent (moved ∷ course) tie join
-  parent_more tie join has = record { parent = has.parent; named = stays join has.parent has.named; born = inr has.born }
+  pub parent_more : (id : FrameId) (index : ℕ) (join : JoinId) → HasParent course id index join → HasParent (moved ∷ course) id index join
+  parent_more id index join has = record { parent = has.parent; named = stays join has.parent has.named; born = inr has.born }
 
-  pub noted_more : (tie : Tie) (child : FrameId) → IsNoted course tie child → IsNoted (moved ∷ course) tie child
-  noted_more tie child noted = record { entry = noted.entry; among = noted.among; born = inr noted.born }
+  pub noted_more : (id : FrameId) (away : List Child) (child : FrameId) → IsNoted course id away child → IsNoted (moved ∷ course) id away child
+  noted_more id away child noted = record { entry = noted.entry; among = noted.among; born = inr noted.born }
 
-  pub waits_more : (tie : Tie) (child : FrameId) → Told cluster course tie.id child ⊎ IsNoted course tie child → Told cluster (moved ∷ course) tie.id child ⊎ IsNoted (moved ∷ course) tie child
-  waits_more tie child (inl told) = inl (inr told)
-  waits_more tie child (inr noted) = inr (noted_more tie child noted)
+  pub waits_more : (id : FrameId) (away : List Child) (child : FrameId) → Told cluster course id child ⊎ IsNoted course id away child
+      → Told cluster (moved ∷ course) id child ⊎ IsNoted (moved ∷ course) id away child
+  waits_more id away child (inl told) = inl (inr told)
+  waits_more id away child (inr noted) = inr (noted_more id away child noted)
 
   pub fits_more : (tie : Tie) → Apart cluster moved course tie.id → Fits cluster course tie → Fits cluster (moved ∷ course) tie
   fits_more tie apart fits = record {
     known = known_more cluster moved course tie.id fits.known;
-    linked = λ join is. parent_more tie join (fits.linked join is);
+    linked = λ join is. parent_more tie.id tie.spawned.index join (fits.linked join is);
     joined = λ join is. stays join tie.id (fits.joined join is);
-    waits = λ child gone. waits_more tie child (fits.waits child (apart.gone child gone));
+    waits = λ child gone. waits_more tie.id tie.away child (fits.waits child (apart.gone child gone));
   }
 
   pub standing_more : (tie : Tie) → Apart cluster moved course tie.id → Standing cluster course tie → Standing cluster (moved ∷ course) tie

@@ -134,23 +134,23 @@ abbrev pub tie_in : Closure → Tie
 tie_in closure = record { id = closure.id; link = closure.link; spawned = closure.spawned; join = closure.join; away = closure.away }
 
 -- the join to which it tells its return was named for its parent, which bore it
-pub record HasParent (course : Course) (tie : Tie) (join : JoinId) : Type 0 where
+pub record HasParent (course : Course) (id : FrameId) (index : ℕ) (join : JoinId) : Type 0 where
   pub parent : FrameId
   pub named : Named join parent course
-  pub born : Born parent tie.spawned.index tie.id course
+  pub born : Born parent index id course
 
 -- it is noted that the child is away
-pub record IsNoted (course : Course) (tie : Tie) (child : FrameId) : Type 0 where
+pub record IsNoted (course : Course) (id : FrameId) (away : List Child) (child : FrameId) : Type 0 where
   pub entry : Child
-  pub among : Among entry tie.away
-  pub born : Born tie.id entry.index child course
+  pub among : Among entry away
+  pub born : Born id entry.index child course
 
 -- Each child that was separated from it has told its return, or is noted to be away.
 pub record Fits (cluster : Cluster) (course : Course) (tie : Tie) : Type 0 where
   pub known : Known cluster tie.id course
-  pub linked : (join : JoinId) → tie.link ≡ Away join → HasParent course tie join
+  pub linked : (join : JoinId) → tie.link ≡ Away join → HasParent course tie.id tie.spawned.index join
   pub joined : (join : JoinId) → tie.join ≡ Some join → Named join tie.id course
-  pub waits : (child : FrameId) → Gone cluster course tie.id child → Told cluster course tie.id child ⊎ IsNoted course tie child
+  pub waits : (child : FrameId) → Gone cluster course tie.id child → Told cluster course tie.id child ⊎ IsNoted course tie.id tie.away child
 
 -- a frame that is at work, or goes to another node by a Grant
 pub record Standing (cluster : Cluster) (course : Course) (tie : Tie) : Type 0 where
