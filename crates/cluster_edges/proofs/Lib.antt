@@ -2,3 +2,4 @@ pub mod Ties
 pub mod Longer
 pub mod Granting
 pub mod Stacks
+pub mod Completing
