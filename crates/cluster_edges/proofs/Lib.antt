@@ -3,3 +3,4 @@ pub mod Longer
 pub mod Granting
 pub mod Stacks
 pub mod Completing
+pub mod Doing

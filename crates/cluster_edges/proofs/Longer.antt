@@ -119,23 +119,24 @@ module _ (cluster : Cluster) (moved : Moved) (course : Course) (stays : StaysNam
   waits_more id away child (inl told) = inl (inr told)
   waits_more id away child (inr noted) = inr (noted_more id away child noted)
 
-  pub fits_more : (tie : Tie) → Apart cluster moved course tie.id → Fits cluster course tie → Fits cluster (moved ∷ course) tie
-  fits_more tie apart fits = record {
+  pub fits_more : (tie : Tie) → ((child : FrameId) → Gone cluster (moved ∷ course) tie.id child → Gone cluster course tie.id child) → Fits cluster course tie
+      → Fits cluster (moved ∷ course) tie
+  fits_more tie back fits = record {
     known = known_more cluster moved course tie.id fits.known;
     linked = λ join is. parent_more tie.id tie.spawned.index join (fits.linked join is);
     joined = λ join is. stays join tie.id (fits.joined join is);
-    waits = λ child gone. waits_more tie.id tie.away child (fits.waits child (apart.gone child gone));
+    waits = λ child gone. waits_more tie.id tie.away child (fits.waits child (back child gone));
   }
 
   pub standing_more : (tie : Tie) → Apart cluster moved course tie.id → Standing cluster course tie → Standing cluster (moved ∷ course) tie
   standing_more tie apart standing =
-      record { fits = fits_more tie apart standing.fits; not_parked = λ parking. standing.not_parked (apart.parking parking) }
+      record { fits = fits_more tie apart.gone standing.fits; not_parked = λ parking. standing.not_parked (apart.parking parking) }
 
   pub lying_more : (tie : Tie) → Apart cluster moved course tie.id → Lying cluster course tie → Lying cluster (moved ∷ course) tie
-  lying_more tie apart lying = record { fits = fits_more tie apart lying.fits; complete = λ parking. lying.complete (apart.parking parking) }
+  lying_more tie apart lying = record { fits = fits_more tie apart.gone lying.fits; complete = λ parking. lying.complete (apart.parking parking) }
 
   pub waiting_more : (one : Parked) → Apart cluster moved course one.closure.id → Waiting cluster course one.join one.closure → Waiting cluster (moved ∷ course) one.join one.closure
-  waiting_more one apart waiting = record { fits = fits_more (tie_in one.closure) apart waiting.fits; at_join = waiting.at_join }
+  waiting_more one apart waiting = record { fits = fits_more (tie_in one.closure) apart.gone waiting.fits; at_join = waiting.at_join }
 
   pub on_top_more : (life : Life) (below : List Life) → OnTop course life below → OnTop (moved ∷ course) life below
   on_top_more life [] top = tt
