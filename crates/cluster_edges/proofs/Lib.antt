@@ -4,3 +4,4 @@ pub mod Granting
 pub mod Stacks
 pub mod Completing
 pub mod Doing
+pub mod Sending
