@@ -5,3 +5,4 @@ pub mod Stacks
 pub mod Completing
 pub mod Doing
 pub mod Sending
+pub mod Tying
