@@ -4,5 +4,5 @@ pub mod Granting
 pub mod Stacks
 pub mod Completing
 pub mod Doing
-pub mod Sending
+pub mod Leaving
 pub mod Tying

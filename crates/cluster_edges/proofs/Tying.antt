@@ -27,7 +27,7 @@ use Rattle.cluster_edges.proofs.Granting.{granted, named_stays, joins_more}
 use Rattle.cluster_edges.proofs.Stacks.{live_stacked, added_stacked, lying_append, standing_lies}
 use Rattle.cluster_edges.proofs.Completing.{BearsOnce, joined_keeps}
 use Rattle.cluster_edges.proofs.Doing.{item_keeps}
-use Rattle.cluster_edges.proofs.Sending.{NoneLeaves, grant_stands, grant_stacked, park_waits, done_returns, grant_known, park_known}
+use Rattle.cluster_edges.proofs.Leaving.{NoneLeaves, grant_stands, grant_stacked, park_waits, done_returns, grant_known, park_known}
 
 -- ---- the frame that leaves is nowhere else
 
