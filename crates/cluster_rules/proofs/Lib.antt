@@ -15,3 +15,15 @@ pub mod Worked
 pub mod Marks
 pub mod Senders
 pub mod Stepping
+pub mod Summing
+pub mod Letters
+pub mod Passing
+pub mod Holding
+pub mod Advancing
+pub mod Phases
+pub mod UnderWay
+pub mod Asking
+pub mod Claiming
+pub mod Indexing
+pub mod Claimed
+pub mod Places
