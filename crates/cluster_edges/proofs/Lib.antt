@@ -6,3 +6,5 @@ pub mod Completing
 pub mod Doing
 pub mod Leaving
 pub mod Tying
+pub mod Births
+pub mod Alone
