@@ -1,3 +1,4 @@
 pub mod News
 pub mod Through
 pub mod Placed
+pub mod Changing
