@@ -2,3 +2,4 @@ pub mod News
 pub mod Through
 pub mod Placed
 pub mod Changing
+pub mod Counted
