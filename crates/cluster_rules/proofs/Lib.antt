@@ -15,3 +15,8 @@ pub mod Worked
 pub mod Marks
 pub mod Senders
 pub mod Stepping
+pub mod Summing
+pub mod Letters
+pub mod Passing
+pub mod Holding
+pub mod Advancing

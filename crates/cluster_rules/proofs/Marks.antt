@@ -38,79 +38,45 @@ abbrev pub one : Bool → ℕ
 one true = 1
 one false = 0
 
--- how often a frame is among them
-abbrev pub count : FrameId → List Mark → ℕ
-count frame [] = 0
-count frame (mark ∷ marks) = one (same_frame mark.id frame) + count frame marks
+-- how many of them are such
+abbrev pub many : (Mark → Bool) → List Mark → ℕ
+many such [] = 0
+many such (mark ∷ marks) = one (such mark) + many such marks
 
--- each has made so many acts at least
-abbrev pub Used : (FrameId → ℕ) → List Mark → Type 0
-Used used [] = Unit {0}
-Used used (mark ∷ marks) = (used mark.id ≤ mark.acts) × Used used marks
+abbrev pub named : FrameId → Mark → Bool
+named frame mark = same_frame mark.id frame
 
-pub count_append : (frame : FrameId) (front back : List Mark) → count frame (front ++ back) ≡ count frame front + count frame back
-count_append frame [] back = omega arith
-count_append frame (mark ∷ front) back = let before = count_append frame front back in omega (arith, before)
-
-pub used_append : (used : FrameId → ℕ) (front back : List Mark) → Used used front → Used used back → Used used (front ++ back)
-used_append used [] back first second = second
-used_append used (mark ∷ front) back first second = (first.0, used_append used front back first.1 second)
-
-pub used_parts : (used : FrameId → ℕ) (front back : List Mark) → Used used (front ++ back) → Used used front × Used used back
-used_parts used [] back all = (tt, all)
-used_parts used (mark ∷ front) back all = let parts = used_parts used front back all.1 in ((all.0, parts.0), parts.1)
-
--- other numbers, for frames that are not among them
-pub used_change : (used other : FrameId → ℕ) (marks : List Mark) → ((frame : FrameId) → (other frame ≡ used frame) ⊎ (count frame marks ≡ 0)) → Used used marks → Used other marks
-used_change used other [] changed all = tt
-used_change used other (mark ∷ marks) changed all = (
-  elim (changed mark.id) [
-    | inl same ↦ subst (λ it. it ≤ mark.acts) (sym same) all.0
-    | inr none ↦ (let some : one (same_frame mark.id mark.id) ≡ 1 = ap one (same_self mark.id) in absurd (omega (arith, some, none)))
-  ],
-  used_change used other marks (λ frame. elim (changed frame) [ inl same ↦ inl same | inr none ↦ inr (omega (arith, none)) ]) all.1,
-)
+pub many_append : (such : Mark → Bool) (front back : List Mark) → many such (front ++ back) ≡ many such front + many such back
+many_append such [] back = omega arith
+many_append such (mark ∷ front) back = let before = many_append such front back in omega (arith, before)
 
 -- ---- marks within others
 
--- no frame is more often among these, and each number that holds of the others holds of these
-pub record Within (after before : List Mark) : Type 0 where
-  pub count : (frame : FrameId) → count frame after ≤ count frame before
-  pub used : (used : FrameId → ℕ) → Used used before → Used used after
+-- no marks of a kind are more among these
+abbrev pub Within : List Mark → List Mark → Type 0
+Within after before = (such : Mark → Bool) → many such after ≤ many such before
 
 pub within_same : (marks : List Mark) → Within marks marks
-within_same marks = record { count = λ frame. omega arith; used = λ used all. all }
+within_same marks = λ such. omega arith
 
 pub within_equal : (after before : List Mark) → after ≡ before → Within after before
 within_equal after before is = subst (λ it. Within it before) (sym is) (within_same before)
 
 pub within_both : (first second third : List Mark) → Within first second → Within second third → Within first third
-within_both first second third one_within other_within = record {
-  count = λ frame. let a = one_within.count frame in let b = other_within.count frame in omega (arith, a, b);
-  used = λ used all. one_within.used used (other_within.used used all);
-}
+within_both first second third one_within other_within = λ such. let a = one_within such in let b = other_within such in omega (arith, a, b)
 
 pub within_cons : (mark : Mark) (after before : List Mark) → Within after before → Within (mark ∷ after) (mark ∷ before)
-within_cons mark after before within = record {
-  count = λ frame. let a = within.count frame in omega (arith, a);
-  used = λ used all. (all.0, within.used used all.1);
-}
+within_cons mark after before within = λ such. let a = within such in omega (arith, a)
 
 pub within_skip : (mark : Mark) (marks : List Mark) → Within marks (mark ∷ marks)
-within_skip mark marks = record { count = λ frame. omega arith; used = λ used all. all.1 }
+within_skip mark marks = λ such. omega arith
 
 pub within_append : (front one_front back one_back : List Mark) → Within front one_front → Within back one_back → Within (front ++ back) (one_front ++ one_back)
-within_append front one_front back one_back first second = record {
-  count = λ frame.
-      let a = first.count frame in let b = second.count frame in let c = count_append frame front back in let d = count_append frame one_front one_back in omega (arith, a, b, c, d);
-  used = λ used all. let parts = used_parts used one_front one_back all in used_append used front back (first.used used parts.0) (second.used used parts.1);
-}
+within_append front one_front back one_back first second = λ such.
+    let a = first such in let b = second such in let c = many_append such front back in let d = many_append such one_front one_back in omega (arith, a, b, c, d)
 
 pub within_insert : (mark : Mark) (front back : List Mark) → Within (front ++ mark ∷ back) (mark ∷ (front ++ back))
-within_insert mark front back = record {
-  count = λ frame. let a = count_append frame front (mark ∷ back) in let b = count_append frame front back in omega (arith, a, b);
-  used = λ used all. let parts = used_parts used front back all.1 in used_append used front (mark ∷ back) parts.0 (all.0, parts.1);
-}
+within_insert mark front back = λ such. let a = many_append such front (mark ∷ back) in let b = many_append such front back in omega (arith, a, b)
 
 -- ---- the marks of lives
 
@@ -121,15 +87,6 @@ abbrev pub marks : List Life → List Mark
 marks [] = []
 marks (life ∷ lives) = mark_of life ∷ marks lives
 
--- one act more, where the add of the frame is asked for
-abbrev pub with_asked : Bool → ℕ → ℕ
-with_asked true acts = suc acts
-with_asked false acts = acts
-
-abbrev pub stack_marks : Bool → List Life → List Mark
-stack_marks asked [] = []
-stack_marks asked (life ∷ below) = record { id = life.id; acts = with_asked asked life.acts } ∷ marks below
-
 abbrev pub parked_marks : List Parked → List Mark
 parked_marks [] = []
 parked_marks (first ∷ parked) = record { id = first.closure.id; acts = first.closure.acts } ∷ parked_marks parked
@@ -138,12 +95,8 @@ parked_marks (first ∷ parked) = record { id = first.closure.id; acts = first.c
 abbrev pub other_marks : Frames → List Mark
 other_marks frames = marks frames.ready ++ parked_marks frames.parked
 
-abbrev pub marks_of : Bool → Frames → List Mark
-marks_of asked frames = stack_marks asked frames.stack ++ other_marks frames
-
-pub same_marks : (stack : List Life) → stack_marks false stack ≡ marks stack
-same_marks [] = refl
-same_marks (life ∷ below) = refl
+abbrev pub marks_of : Frames → List Mark
+marks_of frames = marks frames.stack ++ other_marks frames
 
 pub marks_append : (front back : List Life) → marks (front ++ back) ≡ marks front ++ marks back
 marks_append [] back = refl
@@ -154,7 +107,7 @@ parked_append [] back = refl
 parked_append (first ∷ front) back = ap (λ it. record { id = first.closure.id; acts = first.closure.acts } ∷ it) (parked_append front back)
 
 live_on : (deposits : List Deposit) (life : Life) (below : List Life) (value : Option ℤ) → ((given : List Deposit) → Within (marks (live_from given below)) (marks below))
-    → Within (marks (elim value [ None ↦ with_kept deposits life ∷ below | Some it ↦ live_from ((life.spawned.target, it) ∷ []) below ])) (marks (life ∷ below))
+    → Within (marks (elim value [ | None ↦ with_kept deposits life ∷ below | Some it ↦ live_from ((life.spawned.target, it) ∷ []) below ])) (marks (life ∷ below))
 live_on deposits life below None before = within_same (marks (life ∷ below))
 live_on deposits life below (Some it) before =
     within_both (marks (live_from ((life.spawned.target, it) ∷ []) below)) (marks below) (marks (life ∷ below)) (before ((life.spawned.target, it) ∷ [])) (within_skip (mark_of life) (marks below))
@@ -185,13 +138,13 @@ joined_within node past [] = within_same []
 joined_within node past (first ∷ parked) = joined_on node past first parked (is_complete past first) refl (joined_within node past parked)
 
 -- frames that come from their complete joins are among those that were there
-pub with_joined_within : (asked : Bool) (node : Node) (past : Past) (frames : Frames) → Within (marks_of asked (with_joined node past frames)) (marks_of asked frames)
-with_joined_within asked node past frames =
+pub with_joined_within : (node : Node) (past : Past) (frames : Frames) → Within (marks_of (with_joined node past frames)) (marks_of frames)
+with_joined_within node past frames =
     let joined = marks (all_joined node past frames.parked) in
     let still = parked_marks (still_parked past frames.parked) in
     let regrouped : other_marks (with_joined node past frames) ≡ marks frames.ready ++ (joined ++ still) =
     ap (λ it. it ++ still) (marks_append frames.ready (all_joined node past frames.parked)) ∙ append_assoc (marks frames.ready) joined still in
-    within_append (stack_marks asked frames.stack) (stack_marks asked frames.stack) (other_marks (with_joined node past frames)) (other_marks frames) (within_same (stack_marks asked frames.stack))
+    within_append (marks frames.stack) (marks frames.stack) (other_marks (with_joined node past frames)) (other_marks frames) (within_same (marks frames.stack))
     (subst (λ it. Within it (other_marks frames)) (sym regrouped)
     (within_append (marks frames.ready) (marks frames.ready) (joined ++ still) (parked_marks frames.parked) (within_same (marks frames.ready)) (joined_within node past frames.parked)))
 
@@ -209,37 +162,36 @@ bottom_gone join (life ∷ above) child parent =
     let rest = not_empty above child parent (above ++ (child ∷ (parent ∷ []))) refl in
     ap (λ it. without_bottom join (life ∷ it)) rest.3 ∙ ap (λ it. life ∷ it) (ap (without_bottom join) (sym rest.3) ∙ bottom_gone join above child parent)
 
-pub bottom_marks : (asked : Bool) (join : Option JoinId) (above : List Life) (child parent : Life)
-    → stack_marks asked (above ++ (child ∷ (parent ∷ []))) ≡ stack_marks asked (above ++ (record child { link = link_to join } ∷ [])) ++ mark_of parent ∷ []
-bottom_marks asked join [] child parent = refl
-bottom_marks asked join (life ∷ above) child parent =
-    ap (λ it. record { id = life.id; acts = with_asked asked life.acts } ∷ it)
-    (marks_append above (child ∷ (parent ∷ [])) ∙ sym (append_assoc (marks above) (mark_of child ∷ []) (mark_of parent ∷ []))
-    ∙ ap (λ it. it ++ mark_of parent ∷ []) (sym (marks_append above (record child { link = link_to join } ∷ []))))
+pub bottom_marks : (join : Option JoinId) (above : List Life) (child parent : Life)
+    → marks (above ++ (child ∷ (parent ∷ []))) ≡ marks (above ++ (record child { link = link_to join } ∷ [])) ++ mark_of parent ∷ []
+bottom_marks join above child parent =
+    marks_append above (child ∷ (parent ∷ [])) ∙ sym (append_assoc (marks above) (mark_of child ∷ []) (mark_of parent ∷ []))
+    ∙ ap (λ it. it ++ mark_of parent ∷ []) (sym (marks_append above (record child { link = link_to join } ∷ [])))
 
 -- ---- a frame whose add is asked for
 
 abbrev pub WantsAdd : Life → Type 0
 WantsAdd life = (word : ℕ) × (addend : ℤ) × (want_of life ≡ Some (Asks (want.Add word addend)))
 
-abbrev pub AddsFirst : List Life → Type 0
-AddsFirst [] = ⊥
-AddsFirst (life ∷ below) = WantsAdd life
+-- the first frame is this one, has made so many acts, and wants an add
+abbrev pub AddsFirst : FrameId → ℕ → List Life → Type 0
+AddsFirst frame acts [] = ⊥
+AddsFirst frame acts (life ∷ below) = (life.id ≡ frame) × (life.acts ≡ acts) × WantsAdd life
 
 live_first_on : (life : Life) (below : List Life) (value : Option ℤ) → value ≡ None
-    → elim value [ None ↦ with_kept [] life ∷ below | Some it ↦ live_from ((life.spawned.target, it) ∷ []) below ] ≡ with_kept [] life ∷ below
-live_first_on life below value is = ap (λ value. elim value [ None ↦ with_kept [] life ∷ below | Some it ↦ live_from ((life.spawned.target, it) ∷ []) below ]) is
+    → elim value [ | None ↦ with_kept [] life ∷ below | Some it ↦ live_from ((life.spawned.target, it) ∷ []) below ] ≡ with_kept [] life ∷ below
+live_first_on life below value is = ap (λ value. elim value [ | None ↦ with_kept [] life ∷ below | Some it ↦ live_from ((life.spawned.target, it) ∷ []) below ]) is
 
 -- it has not returned
-pub live_first : (stack : List Life) → AddsFirst stack → (life : Life) × (below : List Life) × (live stack ≡ life ∷ below) × WantsAdd life
-live_first [] first = absurd first
-live_first (life ∷ below) first = (with_kept [] life, below, live_first_on life below (returned life) (rw first.2 refl), first)
+pub live_first : (frame : FrameId) (acts : ℕ) (stack : List Life) → AddsFirst frame acts stack → (life : Life) × (below : List Life) × (live stack ≡ life ∷ below) × WantsAdd life
+live_first frame acts [] first = absurd first
+live_first frame acts (life ∷ below) first = (with_kept [] life, below, live_first_on life below (returned life) (rw first.2.2 refl), first.2)
 
 pub first_is : (lives : List Life) (life : Life) → first_of lives ≡ Some life → (below : List Life) × (lives ≡ life ∷ below)
 first_is [] life is = absurd (cc)
 first_is (first ∷ below) life is = let one : first ≡ life = cc in (below, ap (λ it. it ∷ below) one)
 
-pub kept_first : (join : Option JoinId) (above : List Life) (child parent : Life) → AddsFirst (above ++ (child ∷ (parent ∷ [])))
-    → AddsFirst (above ++ (record child { link = link_to join } ∷ []))
-kept_first join [] child parent first = first
-kept_first join (life ∷ above) child parent first = first
+pub kept_first : (frame : FrameId) (acts : ℕ) (join : Option JoinId) (above : List Life) (child parent : Life) → AddsFirst frame acts (above ++ (child ∷ (parent ∷ [])))
+    → AddsFirst frame acts (above ++ (record child { link = link_to join } ∷ []))
+kept_first frame acts join [] child parent first = first
+kept_first frame acts join (life ∷ above) child parent first = first
