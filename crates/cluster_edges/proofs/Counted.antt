@@ -10,14 +10,14 @@ use Rattle.cluster_rules.specs.Frames.{Frames, Parked, frames_of}
 use Rattle.cluster_rules.specs.Positions.{Moved, Course, own}
 use Rattle.cluster_rules.specs.Runs.{Cluster, node_at}
 use Rattle.cluster_rules.proofs.Stepping.{WasPosted, takes_place}
-use Rattle.cluster_rules.proofs.Marks.{Mark, one, count, marks, mark_of, stack_marks, parked_marks, marks_of, other_marks, count_append, marks_append, same_marks, same_self, same_name, live_within}
+use Rattle.cluster_rules.proofs.Marks.{Mark, one, many, named, many_append, marks, parked_marks, marks_of, other_marks, marks_append, same_self, same_name, live_within}
 use Rattle.cluster_edges.specs.Stages.{frame_in}
 use Rattle.cluster_edges.proofs.News.{Told, told, news_in, news_on}
-use Rattle.cluster_edges.proofs.Through.{Property, EachLife, EachParked, each_change, each_always, parked_change, parked_always, counted_none, parked_none}
+use Rattle.cluster_edges.proofs.Through.{Property, count, EachLife, EachParked, each_change, each_always, parked_change, parked_always, counted_none, parked_none}
 use Rattle.cluster_edges.proofs.Placed.{OnStack, OnReady, AtJoin, Placed, Untold, Named}
 
 abbrev pub marks_at : Cluster → Course → ℕ → List Mark
-marks_at cluster course number = marks_of false (frames_of (node_at cluster number) (own number course))
+marks_at cluster course number = marks_of (frames_of (node_at cluster number) (own number course))
 
 -- Each frame is in one place: once on a node, on one node, or in one message under way.
 pub record Once (cluster : Cluster) (course : Course) : Type 0 where
@@ -29,22 +29,21 @@ pub record Once (cluster : Cluster) (course : Course) : Type 0 where
 
 -- ---- counts
 
-pub counts : (frame : FrameId) (frames : Frames) → count frame (marks_of false frames) ≡ count frame (marks frames.stack) + (count frame (marks frames.ready) + count frame (parked_marks frames.parked))
+pub counts : (frame : FrameId) (frames : Frames) → count frame (marks_of frames) ≡ count frame (marks frames.stack) + (count frame (marks frames.ready) + count frame (parked_marks frames.parked))
 counts frame frames =
-    let a = count_append frame (stack_marks false frames.stack) (other_marks frames) in
-    let b = count_append frame (marks frames.ready) (parked_marks frames.parked) in
-    let c = ap (count frame) (same_marks frames.stack) in
-    omega (arith, a, b, c)
+    let a = many_append (named frame) (marks frames.stack) (other_marks frames) in
+    let b = many_append (named frame) (marks frames.ready) (parked_marks frames.parked) in
+    omega (arith, a, b)
 
 -- of a stack with its bottom frame
 pub count_bottom : (frame : FrameId) (above : List Life) (child parent : Life) → count frame (marks (above ++ (child ∷ (parent ∷ [])))) ≡ count frame (marks (above ++ (child ∷ []))) + one (same_frame parent.id frame)
 count_bottom frame above child parent =
-    let a = ap (count frame) (marks_append above (child ∷ (parent ∷ []))) ∙ count_append frame (marks above) (marks (child ∷ (parent ∷ []))) in
-    let b = ap (count frame) (marks_append above (child ∷ [])) ∙ count_append frame (marks above) (marks (child ∷ [])) in
+    let a = ap (count frame) (marks_append above (child ∷ (parent ∷ []))) ∙ many_append (named frame) (marks above) (marks (child ∷ (parent ∷ []))) in
+    let b = ap (count frame) (marks_append above (child ∷ [])) ∙ many_append (named frame) (marks above) (marks (child ∷ [])) in
     omega (arith, a, b)
 
 pub count_live : (frame : FrameId) (stack : List Life) → count frame (marks (live stack)) ≤ count frame (marks stack)
-count_live frame stack = (live_within stack).count frame
+count_live frame stack = live_within stack (named frame)
 
 one_self : (frame : FrameId) → one (same_frame frame frame) ≡ 1
 one_self frame = ap one (same_self frame)
@@ -81,7 +80,7 @@ one_of (suc a) b c some = inl (omega arith)
 
 -- each frame of a node is named
 pub counted_named : (cluster : Cluster) (number : ℕ) (course : Course) (frames : Frames) → Placed cluster number course frames → (frame : FrameId)
-    → 1 ≤ count frame (marks_of false frames) → Named cluster course frame
+    → 1 ≤ count frame (marks_of frames) → Named cluster course frame
 counted_named cluster number course frames placed frame some =
     on (one_of (count frame (marks frames.stack)) (count frame (marks frames.ready)) (count frame (parked_marks frames.parked))
     (let total = counts frame frames in omega (arith, some, total)))
@@ -114,7 +113,7 @@ no_news_parked it moved is parked none =
     parked_change (λ id. same_frame id it.frame ≡ false) (λ id. same_frame id it.frame ≡ false) (λ id. news_on id moved ≡ None)
     (λ id other also. no_news it moved id is other) parked others others
 
-pub untold_count : (cluster : Cluster) (node : ℕ) (moved : Moved) (course : Course) (it : Told) → told moved ≡ Some it → (frames : Frames) → count it.frame (marks_of false frames) ≡ 0
+pub untold_count : (cluster : Cluster) (node : ℕ) (moved : Moved) (course : Course) (it : Told) → told moved ≡ Some it → (frames : Frames) → count it.frame (marks_of frames) ≡ 0
     → Untold cluster node moved course frames
 untold_count cluster node moved course it is frames none =
     let total = counts it.frame frames in record {

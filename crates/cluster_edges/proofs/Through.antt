@@ -9,7 +9,7 @@ use Rattle.cluster_rules.specs.Turns.{Past}
 use Rattle.cluster_rules.specs.Node.{Node}
 use Rattle.cluster_rules.specs.Lives.{Life, same_frame, returned, with_kept, live_from, live, added, answered, made}
 use Rattle.cluster_rules.specs.Frames.{Frames, Parked, is_complete, all_joined, still_parked, joined}
-use Rattle.cluster_rules.proofs.Marks.{Mark, one, count, marks, parked_marks, mark_of, marks_append, count_append, same_name}
+use Rattle.cluster_rules.proofs.Marks.{Mark, one, many, named, marks, parked_marks}
 
 abbrev pub Property : Type 1
 Property = FrameId → Option JoinId → Type 0
@@ -101,6 +101,10 @@ each_still Holds past [] all = tt
 each_still Holds past (first ∷ parked) all = still_on Holds past first parked (is_complete past first) all.0 (each_still Holds past parked all.1)
 
 -- ---- counting
+
+-- how often a frame is among them
+abbrev pub count : FrameId → List Mark → ℕ
+count frame marks = many (named frame) marks
 
 one_none : (b : Bool) (rest : ℕ) → one b + rest ≡ 0 → (b ≡ false) × (rest ≡ 0)
 one_none true rest none = absurd (omega (arith, none))
