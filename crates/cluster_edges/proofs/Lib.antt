@@ -3,3 +3,4 @@ pub mod Through
 pub mod Placed
 pub mod Changing
 pub mod Counted
+pub mod Sending
