@@ -4,3 +4,4 @@ pub mod Placed
 pub mod Changing
 pub mod Counted
 pub mod Sending
+pub mod OnePlace
