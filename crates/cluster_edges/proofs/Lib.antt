@@ -5,3 +5,4 @@ pub mod Changing
 pub mod Counted
 pub mod Sending
 pub mod OnePlace
+pub mod Moving
