@@ -6,3 +6,4 @@ pub mod Counted
 pub mod Sending
 pub mod OnePlace
 pub mod Moving
+pub mod Bringing
