@@ -7,3 +7,4 @@ pub mod Sending
 pub mod OnePlace
 pub mod Moving
 pub mod Bringing
+pub mod Firsts
