@@ -8,3 +8,4 @@ pub mod OnePlace
 pub mod Moving
 pub mod Bringing
 pub mod Firsts
+pub mod Saying
