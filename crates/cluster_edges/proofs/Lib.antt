@@ -9,3 +9,4 @@ pub mod Moving
 pub mod Bringing
 pub mod Firsts
 pub mod Saying
+pub mod Staging

@@ -137,7 +137,7 @@ module _ (cluster : Cluster) (course : Course) (number : ℕ) (here : Option Pos
 
   -- ---- Parks
 
-  park_count : (receiver : ℕ) (join : JoinId) (closure : Closure) → MayPark node past receiver join closure → 1 ≤ count closure.id (marks frames.stack)
+  pub park_count : (receiver : ℕ) (join : JoinId) (closure : Closure) → MayPark node past receiver join closure → 1 ≤ count closure.id (marks frames.stack)
   park_count receiver join closure may =
       let alone : count closure.id (marks (live frames.stack)) ≡ one (same_frame may.life.id closure.id) + 0 = ap (λ it. count closure.id (marks it)) may.at_join.alone in
       let less = count_live closure.id frames.stack in
