@@ -8,3 +8,15 @@ pub mod Leaving
 pub mod Tying
 pub mod Births
 pub mod Alone
+pub mod News
+pub mod Through
+pub mod Placed
+pub mod Changing
+pub mod Counted
+pub mod Sending
+pub mod OnePlace
+pub mod Moving
+pub mod Bringing
+pub mod Firsts
+pub mod Saying
+pub mod Staging
