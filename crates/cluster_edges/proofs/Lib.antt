@@ -20,3 +20,4 @@ pub mod Bringing
 pub mod Firsts
 pub mod Saying
 pub mod Staging
+pub mod Joining
