@@ -110,9 +110,6 @@ last_two (life ∷ (second ∷ above)) child parent = last_two (second ∷ above
 
 -- ---- the join of a Grant
 
-pub fresh_join : Node → Past → JoinId
-fresh_join node past = record { node = node.me; number = next_join node past }
-
 join_is : (node : Node) (past : Past) (has : Option JoinId) (join : JoinId) → join_for node past has ≡ Some join → (has ≡ Some join) ⊎ ((has ≡ None) × (join ≡ record { node = node.me; number = next_join node past }))
 join_is node past (Some other) join is = inl is
 join_is node past None join is = inr (refl, cc)

@@ -85,7 +85,7 @@ module _ (cluster : Cluster) (stack : Stacks) (now : ℕ) (course earlier : Cour
   gone_event (Took message) place away = so away
   gone_event (Ended end) place away = so away
 
-away_gone : (cluster : Cluster) (course : Course) (now : ℕ) (frame child : FrameId) → edge.Away (events_of cluster course) (stacks_of cluster course) now frame child
+pub away_gone : (cluster : Cluster) (course : Course) (now : ℕ) (frame child : FrameId) → edge.Away (events_of cluster course) (stacks_of cluster course) now frame child
     → Gone cluster (first now course) frame child
 unfolding edge.Away
 away_gone cluster course zero frame child away = absurd away

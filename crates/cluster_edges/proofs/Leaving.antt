@@ -70,7 +70,7 @@ ids_append : (above : List Life) (child parent : Life) → map (λ (life : Life)
 ids_append [] child parent = refl
 ids_append (life ∷ above) child parent = ap (λ it. life.id ∷ it) (ids_append above child parent)
 
-above_is : (stack above : List Life) (child parent : Life) (frame other : FrameId) → stack ≡ above ++ (child ∷ (parent ∷ [])) → Above stack frame other → child.id ≡ other
+pub above_is : (stack above : List Life) (child parent : Life) (frame other : FrameId) → stack ≡ above ++ (child ∷ (parent ∷ [])) → Above stack frame other → child.id ≡ other
 above_is stack above child parent frame other is (front, bottom) =
     let some : Some child.id ≡ Some other =
     sym (second_is (map (λ (life : Life). life.id) above) child.id parent.id) ∙ ap second_last (sym (ids_append above child parent)) ∙ ap (λ it. second_last (map (λ (life : Life). life.id) it)) (sym is)
@@ -246,24 +246,27 @@ module _ (cluster : Cluster) (moved : Moved) (course : Course) (step : Step clus
 
   -- ---- a Done
 
-  pub done_returns : (join : JoinId) (index : ℕ) (value : ℤ) → message.body ≡ body.Done join index value → Returned cluster (moved ∷ course) join index
-  done_returns join index value says =
+  -- The bottom frame of the node, whose parent waits at that join.
+  pub done_parent : (join : JoinId) (index : ℕ) (value : ℤ) → message.body ≡ body.Done join index value → HasParent course (bottom_of cluster moved.node course) index join
+  done_parent join index value says =
       let node = node_at cluster moved.node in
       let past = own moved.node course in
       let may : MayDone node past message.receiver join index value =
       done_on node past message.receiver join index value (sent_may cluster moved course step message (body.Done join index value) is says) in
       let stands = last_stacked cluster course (stack_of node past) may.life stacked_now may.returned.at_bottom in
-      let has = stands.fits.linked join may.link in
-      let frame : frame_of join course ≡ has.parent = frame_named join has.parent course has.named in
       let bottom : bottom_of cluster moved.node course ≡ may.life.id = ap id_of may.returned.at_bottom in
-      let note : note_of cluster moved.node course message.body ≡ log.Done has.parent may.life.id =
-      ap (note_of cluster moved.node course) says ∙ (λ i. log.Done (frame i) (bottom i)) in
+      subst (λ id. HasParent course id index join) (sym bottom) (subst (λ at. HasParent course may.life.id at join) (sym may.index_is) (stands.fits.linked join may.link))
+
+  pub done_returns : (join : JoinId) (index : ℕ) (value : ℤ) → message.body ≡ body.Done join index value → Returned cluster (moved ∷ course) join index
+  done_returns join index value says =
+      let has = done_parent join index value says in
+      let frame : frame_of join course ≡ has.parent = frame_named join has.parent course has.named in
       record {
         parent = has.parent;
-        child = may.life.id;
+        child = bottom_of cluster moved.node course;
         named = named_stays cluster moved course step tied join has.parent has.named;
-        born = inr (subst (λ at. Born has.parent at may.life.id course) (sym may.index_is) has.born);
-        told = inl (message, is, note);
+        born = inr has.born;
+        told = inl (message, is, ap (note_of cluster moved.node course) says ∙ (λ i. log.Done (frame i) (bottom_of cluster moved.node course)));
       }
 
   -- ---- a frame that leaves is known

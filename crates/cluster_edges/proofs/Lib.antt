@@ -21,3 +21,4 @@ pub mod Firsts
 pub mod Saying
 pub mod Staging
 pub mod Joining
+pub mod Joins

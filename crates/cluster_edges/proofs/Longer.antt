@@ -3,6 +3,8 @@ use Rattle.std.proofs.Common.{◌≡◌, ◌≢◌, ◌⊎◌, inl, inr, ◌<◌
 use Rattle.page_messages.specs.declared.closure.FrameId.{FrameId}
 use Rattle.page_messages.specs.declared.closure.JoinId.{JoinId}
 use Rattle.page_messages.specs.declared.closure.Child.{Child}
+use Rattle.page_messages.specs.declared.closure.Closure.{Closure}
+use Rattle.page_messages.specs.declared.message.Msg.{Msg}
 use Rattle.page_messages.specs.declared.message.Body.{Body}
 use Rattle.page_messages.specs.declared.message.Body.TheVariants as body
 use Rattle.page_messages.specs.declared.log.LoggedAct.{LoggedAct}
@@ -16,7 +18,7 @@ use Rattle.cluster_rules.specs.Frames.{Parked, stack_of, next_frame, next_join, 
 use Rattle.cluster_rules.specs.Positions.{Moved, Course, own}
 use Rattle.cluster_rules.specs.Runs.{Cluster, node_at}
 use Rattle.cluster_edges.specs.Stages.{frame_in}
-use Rattle.cluster_edges.proofs.Ties.{Each, Among, Born, Named, Known, gone_body, gone_act, gone_item, gone_on, Gone, Told, Parks, Parking, Tie, tie_of, tie_in, HasParent, IsNoted, Fits, Standing, Lying, Waiting, OnTop, Stacked, AllLying, AllWaiting, Returned, Saying}
+use Rattle.cluster_edges.proofs.Ties.{Each, Among, Born, Named, Known, Above, gone_body, gone_act, gone_item, gone_on, Gone, Told, Parks, Parking, Tie, tie_of, tie_in, HasParent, IsNoted, Fits, Standing, Lying, Waiting, OnTop, Stacked, AllLying, AllWaiting, Returned, Saying}
 
 -- ---- names
 
@@ -48,20 +50,30 @@ leaves (Sent message) = frame_in message.body
 leaves (Took message) = None
 leaves (Ended end) = None
 
-gone_body_back : (said : Body) (stack : List Life) (IsGone : FrameId → FrameId → Type 0) (frame child : FrameId) → (frame_in said ≡ Some frame → ⊥)
-    → gone_body said stack IsGone frame child → IsGone frame child
-gone_body_back (body.Fetch page) stack IsGone frame child not gone = gone
-gone_body_back (body.Page page words) stack IsGone frame child not gone = gone
-gone_body_back (body.Reconcile parts) stack IsGone frame child not gone = gone
-gone_body_back body.Ack stack IsGone frame child not gone = gone
-gone_body_back body.Ask stack IsGone frame child not gone = gone
-gone_body_back (body.Grant closure) stack IsGone frame child not (inl gone) = gone
-gone_body_back (body.Grant closure) stack IsGone frame child not (inr both) = absurd (not (ap Some both.0))
-gone_body_back body.Refuse stack IsGone frame child not gone = gone
-gone_body_back (body.Done join index value) stack IsGone frame child not gone = gone
-gone_body_back (body.Park join closure) stack IsGone frame child not gone = gone
-gone_body_back (body.Add asker index word addend) stack IsGone frame child not gone = gone
-gone_body_back (body.Added old) stack IsGone frame child not gone = gone
+-- it is the Grant of this frame, from below this child
+pub record Separates (event : Event) (stack : List Life) (frame child : FrameId) : Type 0 where
+  pub message : Msg
+  pub closure : Closure
+  pub is : event ≡ Sent message
+  pub says : message.body ≡ body.Grant closure
+  pub id_is : closure.id ≡ frame
+  pub above : Above stack frame child
+
+gone_body_or : (message : Msg) (said : Body) (stack : List Life) (IsGone : FrameId → FrameId → Type 0) (frame child : FrameId) → message.body ≡ said
+    → gone_body said stack IsGone frame child → IsGone frame child ⊎ Separates (Sent message) stack frame child
+gone_body_or message (body.Fetch page) stack IsGone frame child says gone = inl gone
+gone_body_or message (body.Page page words) stack IsGone frame child says gone = inl gone
+gone_body_or message (body.Reconcile parts) stack IsGone frame child says gone = inl gone
+gone_body_or message body.Ack stack IsGone frame child says gone = inl gone
+gone_body_or message body.Ask stack IsGone frame child says gone = inl gone
+gone_body_or message (body.Grant closure) stack IsGone frame child says (inl gone) = inl gone
+gone_body_or message (body.Grant closure) stack IsGone frame child says (inr both) =
+    inr (record { message = message; closure = closure; is = refl; says = says; id_is = both.0; above = both.1 })
+gone_body_or message body.Refuse stack IsGone frame child says gone = inl gone
+gone_body_or message (body.Done join index value) stack IsGone frame child says gone = inl gone
+gone_body_or message (body.Park join closure) stack IsGone frame child says gone = inl gone
+gone_body_or message (body.Add asker index word addend) stack IsGone frame child says gone = inl gone
+gone_body_or message (body.Added old) stack IsGone frame child says gone = inl gone
 
 gone_act_back : (done : LoggedAct) (actor : FrameId) (IsGone : FrameId → FrameId → Type 0) (frame child : FrameId) → gone_act done actor IsGone frame child → IsGone frame child
 gone_act_back (act.Read word value) actor IsGone frame child gone = gone
@@ -79,12 +91,18 @@ gone_item_back (item.OwnFetch page words) IsGone frame child gone = gone
 gone_item_back (item.OwnReconcile part) IsGone frame child gone = gone
 gone_item_back (item.Served asker index word old addend) IsGone frame child gone = gone
 
-gone_on_back : (event : Event) (stack : List Life) (IsGone : FrameId → FrameId → Type 0) (frame child : FrameId) → (leaves event ≡ Some frame → ⊥)
-    → gone_on event stack IsGone frame child → IsGone frame child
-gone_on_back (Did item) stack IsGone frame child not gone = gone_item_back item IsGone frame child gone
-gone_on_back (Sent message) stack IsGone frame child not gone = gone_body_back message.body stack IsGone frame child not gone
-gone_on_back (Took message) stack IsGone frame child not gone = gone
-gone_on_back (Ended end) stack IsGone frame child not gone = gone
+-- Who is separated behind an event was so before, or is so by this event.
+pub gone_or : (event : Event) (stack : List Life) (IsGone : FrameId → FrameId → Type 0) (frame child : FrameId) → gone_on event stack IsGone frame child
+    → IsGone frame child ⊎ Separates event stack frame child
+gone_or (Did item) stack IsGone frame child gone = inl (gone_item_back item IsGone frame child gone)
+gone_or (Sent message) stack IsGone frame child gone = gone_body_or message message.body stack IsGone frame child refl gone
+gone_or (Took message) stack IsGone frame child gone = inl gone
+gone_or (Ended end) stack IsGone frame child gone = inl gone
+
+gone_back : (event : Event) (stack : List Life) (IsGone : FrameId → FrameId → Type 0) (frame child : FrameId) → (leaves event ≡ Some frame → ⊥)
+    → IsGone frame child ⊎ Separates event stack frame child → IsGone frame child
+gone_back event stack IsGone frame child not (inl gone) = gone
+gone_back event stack IsGone frame child not (inr by) = absurd (not (ap leaves by.is ∙ ap frame_in by.says ∙ ap Some by.id_is))
 
 -- no child of the frame is separated by this event, and it is not parked
 pub record Apart (cluster : Cluster) (moved : Moved) (course : Course) (frame : FrameId) : Type 0 where
@@ -97,7 +115,9 @@ parking_back moved course frame not (inr both) = both.0
 
 pub apart_if : (cluster : Cluster) (moved : Moved) (course : Course) (frame : FrameId) → (leaves moved.event ≡ Some frame → ⊥) → Apart cluster moved course frame
 apart_if cluster moved course frame not = record {
-  gone = λ child gone. gone_on_back moved.event (stack_of (node_at cluster moved.node) (own moved.node course)) (Gone cluster course) frame child not gone;
+  gone = λ child gone.
+      let stack = stack_of (node_at cluster moved.node) (own moved.node course) in
+      gone_back moved.event stack (Gone cluster course) frame child not (gone_or moved.event stack (Gone cluster course) frame child gone);
   parking = parking_back moved course frame not;
 }
 
