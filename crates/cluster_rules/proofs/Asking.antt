@@ -1,12 +1,7 @@
 -- One Add of a node is under way at most, and while one is, the frame that wants it stays the first of the stack.
-use Rattle.std.proofs.Common.{◌≡◌, ◌≢◌, ◌≤◌, ◌<◌, ◌+◌, ◌⊎◌, inl, inr, ℕ, suc, ℤ, List, [], ◌∷◌, ◌++◌, Option, Some, None, Bool, true, false, cond, eqb, ◌&&◌, ◌||◌, refl, sym, ◌∙◌, ap, subst, arith}
-use Rattle.std.proofs.lemmas.Bool.Decides.{nat_tests}
+use Rattle.std.proofs.Common.{◌≡◌, ◌≢◌, ◌≤◌, ◌<◌, ◌+◌, ◌⊎◌, inl, inr, ℕ, ℤ, List, [], ◌∷◌, Option, Bool, true, false, cond, eqb, ◌&&◌, ◌||◌, refl, sym, ◌∙◌, ap, subst, arith}
 use Rattle.cilk_meaning.specs.declared.ends.NodeEnd.{NodeEnd}
-use Rattle.cilk_meaning.specs.Wants as want
-use Rattle.cilk_meaning.specs.Wants.{Asks}
 use Rattle.page_messages.specs.declared.closure.FrameId.{FrameId}
-use Rattle.page_messages.specs.declared.closure.JoinId.{JoinId}
-use Rattle.page_messages.specs.declared.closure.Closure.{Closure}
 use Rattle.page_messages.specs.declared.message.Msg.{Msg}
 use Rattle.page_messages.specs.declared.message.Body.{Body}
 use Rattle.page_messages.specs.declared.message.Body.TheVariants as body
@@ -15,103 +10,24 @@ use Rattle.page_messages.specs.declared.log.Item.TheVariants as item
 use Rattle.page_messages.specs.declared.log.PostAt.{PostAt}
 use Rattle.cluster_rules.specs.Walking.{rest_of}
 use Rattle.cluster_rules.specs.Turns.{Event, Did, Sent, Took, Ended, Past}
-use Rattle.cluster_rules.specs.Node.{Node}
-use Rattle.cluster_rules.specs.Sendings.{ForAdded, adds_in, tells_in, awaits, IsQuiet}
+use Rattle.cluster_rules.specs.Sendings.{ForAdded, adds_in, tells_in, awaits}
 use Rattle.cluster_rules.specs.Home.{replies_in, owed_adds, owed_olds, after_served, told_by}
-use Rattle.cluster_rules.specs.Lives.{Life, same_frame, want_of, live, without_bottom, link_to}
+use Rattle.cluster_rules.specs.Lives.{same_frame, live}
 use Rattle.cluster_rules.specs.Frames.{stack_sent, frames_took, frames_of, stack_of}
-use Rattle.cluster_rules.specs.Acting.{Wants, MayPostAdd, Serves}
-use Rattle.cluster_rules.specs.Edges.{MayGrant, MayDone, MayPark}
+use Rattle.cluster_rules.specs.Acting.{MayPostAdd, Serves}
 use Rattle.cluster_rules.specs.Runs.{Cluster, node_at, IsFree, IsOwed, MayDo, MayPost}
-use Rattle.cluster_rules.specs.Positions.{Moved, Course, own}
-use Rattle.cluster_rules.proofs.Settling.{both_true}
+use Rattle.cluster_rules.specs.Positions.{Course, own}
 use Rattle.cluster_rules.proofs.Stepping.{Posts, Takes, Step, Stepped}
 use Rattle.cluster_rules.proofs.Summing.{sum_none, one_or_two}
-use Rattle.cluster_rules.proofs.Marks.{one, same_self, same_name, WantsAdd, AddsFirst, live_first, first_is, bottom_gone, kept_first}
+use Rattle.cluster_rules.proofs.Marks.{one, same_self, first_is}
 use Rattle.cluster_rules.proofs.Passing.{may_post}
 use Rattle.cluster_rules.proofs.Holding.{own_first, own_other}
-use Rattle.cluster_rules.proofs.Phases.{Phase, Idle, Asked, Told, after_post, after_taking, after_adding, after_item, phase_of, waits_in, is_asked, is_told, IsFirst, idle_is, first_idle, told_waits, awaits_did, awaits_sent, awaits_told, awaits_took}
-use Rattle.cluster_rules.proofs.UnderWay.{adds_body, add_from, under_way, tells_body, old_to, to_tell, amount_in, moved_by, adds_sent, adds_took, adds_ended, adds_kept, adds_served, owed_counts, olds_ended, olds_took, olds_did, olds_posted, olds_told}
-
--- What the phases of all nodes say.
-pub record Phased (cluster : Cluster) (course : Course) : Type 0 where
-  pub within : (number : ℕ) → waits_in (phase_of number course) ≡ true → number < cluster.config.nodes
-  pub waiting : (number : ℕ) → awaits ForAdded (own number course) ≡ waits_in (phase_of number course)
-  pub first : (number : ℕ) → IsFirst (phase_of number course) (stack_of (node_at cluster number) (own number course))
-  pub adds : (number : ℕ) (frame : FrameId) (index : ℕ) → under_way cluster course number frame index ≡ one (is_asked frame index (phase_of number course))
-  pub olds : (number : ℕ) → to_tell cluster course number ≡ one (is_told (phase_of number course))
-
--- ---- small laws
-
-own_number : (number : ℕ) → eqb number number ≡ true
-own_number number = grind (arith, nat_tests)
-
-other_number : (number other : ℕ) → number ≢ other → eqb number other ≡ false
-other_number number other not = grind (arith, nat_tests)
-
-equal_number : (number other : ℕ) → eqb number other ≡ true → number ≡ other
-equal_number number other is = grind (arith, nat_tests)
-
-cond_same : {A : Type 0} (b : Bool) (one other : A) → one ≡ other → cond b one other ≡ other
-cond_same true one other same = same
-cond_same false one other same = refl
-
-is_one : (b : Bool) → 1 ≤ one b → b ≡ true
-is_one true some = refl
-is_one false some = absurd (omega (arith, some))
-
-asked_same : (frame : FrameId) (index : ℕ) (phase : Phase) → is_asked frame index phase ≡ true → phase ≡ Asked frame index
-asked_same frame index Idle is = absurd (cc)
-asked_same frame index (Told other acts) is = absurd (cc)
-asked_same frame index (Asked other acts) is =
-    let both = both_true (same_frame other frame) (eqb acts index) is in
-    let names = same_name other frame both.0 in
-    let numbers = equal_number acts index both.1 in
-    ap (λ it. Asked it acts) names ∙ ap (Asked frame) numbers
-
-told_not_asked : (frame : FrameId) (index : ℕ) (phase : Phase) → is_told phase ≡ true → is_asked frame index phase ≡ false
-told_not_asked frame index Idle is = absurd (cc)
-told_not_asked frame index (Asked other acts) is = absurd (cc)
-told_not_asked frame index (Told other acts) is = refl
-
--- ---- the first frame stays
-
-first_granted : (node : Node) (past : Past) (receiver : ℕ) (closure : Closure) (phase : Phase) → MayGrant node past receiver closure → IsFirst phase (stack_of node past)
-    → IsFirst phase (without_bottom closure.join (stack_of node past))
-first_granted node past receiver closure phase may first =
-    let is : without_bottom closure.join (stack_of node past) ≡ without_bottom closure.join (may.above ++ (may.child ∷ (may.parent ∷ []))) = ap (without_bottom closure.join) may.stack in
-    subst (IsFirst phase) (sym (is ∙ bottom_gone closure.join may.above may.child may.parent)) (on phase (subst (IsFirst phase) may.stack first))
-  where
-    on : (phase : Phase) → IsFirst phase (may.above ++ (may.child ∷ (may.parent ∷ []))) → IsFirst phase (may.above ++ (record may.child { link = link_to closure.join } ∷ []))
-    on Idle first = tt
-    on (Asked frame acts) first = kept_first frame acts closure.join may.above may.child may.parent first
-    on (Told frame acts) first = kept_first frame acts closure.join may.above may.child may.parent first
-
-returned_none : (frame : FrameId) (acts : ℕ) (stack : List Life) → AddsFirst frame acts stack → live stack ≡ [] → ⊥
-returned_none frame acts stack first none =
-    let top = live_first frame acts stack first in
-    let is : top.0 ∷ top.1 ≡ [] = sym top.2 ∙ none in absurd (cc)
-
-wants_no_sync : (life : Life) → WantsAdd life → Wants life want.Sync → ⊥
-wants_no_sync life adds sync =
-    let is : Some (Asks (want.Add adds.0 adds.1)) ≡ Some (Asks want.Sync) = sym adds.2 ∙ sync in absurd (cc)
-
-parked_none : (frame : FrameId) (acts : ℕ) (stack : List Life) (life : Life) → AddsFirst frame acts stack → live stack ≡ life ∷ [] → Wants life want.Sync → ⊥
-parked_none frame acts stack life first alone sync =
-    let top = live_first frame acts stack first in
-    let is : top.0 ∷ top.1 ≡ life ∷ [] = sym top.2 ∙ alone in
-    let same : top.0 ≡ life = cc in
-    wants_no_sync life (subst WantsAdd same top.3) sync
-
-first_done : (phase : Phase) (stack : List Life) → live stack ≡ [] → IsFirst phase stack → IsFirst phase []
-first_done Idle stack none first = tt
-first_done (Asked frame acts) stack none first = absurd (returned_none frame acts stack first none)
-first_done (Told frame acts) stack none first = absurd (returned_none frame acts stack first none)
-
-first_parked : (phase : Phase) (stack : List Life) (life : Life) → live stack ≡ life ∷ [] → Wants life want.Sync → IsFirst phase stack → IsFirst phase []
-first_parked Idle stack life alone sync first = tt
-first_parked (Asked frame acts) stack life alone sync first = absurd (parked_none frame acts stack life first alone sync)
-first_parked (Told frame acts) stack life alone sync first = absurd (parked_none frame acts stack life first alone sync)
+use Rattle.cluster_rules.proofs.Phases.{Phase, Idle, Asked, Told, after_post, after_taking, after_adding, after_item, phase_of, waits_in}
+use Rattle.cluster_rules.proofs.Phases.{is_asked, is_told, IsFirst, first_idle, awaits_told, awaits_took}
+use Rattle.cluster_rules.proofs.UnderWay.{adds_body, add_from, under_way, tells_body, old_to, to_tell, amount_in, moved_by, adds_sent, adds_took, adds_ended}
+use Rattle.cluster_rules.proofs.UnderWay.{adds_kept, adds_served, owed_counts, olds_ended, olds_took, olds_did, olds_posted, olds_told}
+use Rattle.cluster_rules.proofs.Phasing.{Phased, own_number, other_number, equal_number, cond_same, is_one, asked_same, told_not_asked, first_granted, first_done}
+use Rattle.cluster_rules.proofs.Phasing.{first_parked, awaits_more, stack_more, first_more, kept, quiet_idle}
 
 -- ---- one event more
 
@@ -122,57 +38,16 @@ module _ (cluster : Cluster) (course : Course) (node : ℕ) (here : Option PostA
   abbrev more : Event → Course
   more event = moved_by node event here ∷ course
 
-  awaits_more : (event : Event) → awaits ForAdded (event ∷ past) ≡ awaits ForAdded past → (number : ℕ) → awaits ForAdded (own number (more event)) ≡ awaits ForAdded (own number course)
-  awaits_more event same number = on (one_or_two number node)
-    where
-      on : (number ≡ node) ⊎ (number ≢ node) → awaits ForAdded (own number (more event)) ≡ awaits ForAdded (own number course)
-      on (inl is) = subst (λ it. awaits ForAdded (own it (more event)) ≡ awaits ForAdded (own it course)) (sym is) (ap (awaits ForAdded) (own_first (moved_by node event here) course) ∙ same)
-      on (inr not) = ap (awaits ForAdded) (own_other number (moved_by node event here) course not)
-
-  stack_more : (event : Event) → stack_of (node_at cluster node) (event ∷ past) ≡ stack_of (node_at cluster node) past → (number : ℕ)
-      → stack_of (node_at cluster number) (own number (more event)) ≡ stack_of (node_at cluster number) (own number course)
-  stack_more event same number = on (one_or_two number node)
-    where
-      on : (number ≡ node) ⊎ (number ≢ node) → stack_of (node_at cluster number) (own number (more event)) ≡ stack_of (node_at cluster number) (own number course)
-      on (inl is) = subst (λ it. stack_of (node_at cluster it) (own it (more event)) ≡ stack_of (node_at cluster it) (own it course)) (sym is)
-          (ap (stack_of (node_at cluster node)) (own_first (moved_by node event here) course) ∙ same)
-      on (inr not) = ap (stack_of (node_at cluster number)) (own_other number (moved_by node event here) course not)
-
-  first_more : (event : Event) → ((number : ℕ) → number ≢ node → phase_of number (more event) ≡ phase_of number course)
-      → IsFirst (phase_of node (more event)) (stack_of (node_at cluster node) (event ∷ past)) → (number : ℕ) → IsFirst (phase_of number (more event)) (stack_of (node_at cluster number) (own number (more event)))
-  first_more event others first number = on (one_or_two number node)
-    where
-      on : (number ≡ node) ⊎ (number ≢ node) → IsFirst (phase_of number (more event)) (stack_of (node_at cluster number) (own number (more event)))
-      on (inl is) = subst (λ it. IsFirst (phase_of it (more event)) (stack_of (node_at cluster it) (own it (more event)))) (sym is)
-          (subst (λ it. IsFirst (phase_of node (more event)) (stack_of (node_at cluster node) it)) (sym (own_first (moved_by node event here) course)) first)
-      on (inr not) = subst (λ it. IsFirst (phase_of number (more event)) (stack_of (node_at cluster number) it)) (sym (own_other number (moved_by node event here) course not))
-          (subst (λ it. IsFirst it (stack_of (node_at cluster number) (own number course))) (sym (others number not)) (phased.first number))
-
-  -- no phase changes
-  kept : (event : Event) → ((number : ℕ) → phase_of number (more event) ≡ phase_of number course)
-      → ((number : ℕ) (frame : FrameId) (index : ℕ) → under_way cluster (more event) number frame index ≡ under_way cluster course number frame index)
-      → ((number : ℕ) → to_tell cluster (more event) number ≡ to_tell cluster course number)
-      → awaits ForAdded (event ∷ past) ≡ awaits ForAdded past → IsFirst (phase_of node course) (stack_of (node_at cluster node) (event ∷ past)) → Phased cluster (more event)
-  kept event same adds olds waits first = record {
-    within = λ number waits. phased.within number (ap waits_in (sym (same number)) ∙ waits);
-    waiting = λ number. awaits_more event waits number ∙ phased.waiting number ∙ ap waits_in (sym (same number));
-    first = first_more event (λ number other. same number) (subst (λ it. IsFirst it (stack_of (node_at cluster node) (event ∷ past))) (sym (same node)) first);
-    adds = λ number frame index. adds number frame index ∙ phased.adds number frame index ∙ ap (λ it. one (is_asked frame index it)) (sym (same number));
-    olds = λ number. olds number ∙ phased.olds number ∙ ap (λ it. one (is_told it)) (sym (same number));
-  }
-
-  pub quiet_idle : IsQuiet past → phase_of node course ≡ Idle
-  quiet_idle quiet = idle_is (phase_of node course) (sym (phased.waiting node) ∙ quiet ForAdded)
-
   -- ---- items
 
   did_kept : (done : Item) → ((number : ℕ) (phase : Phase) → after_item number done (owed_adds past) phase ≡ phase) → after_served done (owed_adds past) ≡ owed_adds past
       → told_by (node_at cluster node) done (owed_adds past) ≡ [] → IsFree past → Phased cluster (more (Did done))
   did_kept done same served told free =
-      kept (Did done) (λ number. same number (phase_of number course))
+      kept cluster course node here less phased (Did done) (λ number. same number (phase_of number course))
       (λ number frame index. adds_kept cluster course node here less number frame index done served)
-      (λ number. let olds = olds_did cluster course node here less number done in let none : amount_in (old_to number) (told_by (node_at cluster node) done (owed_adds past)) ≡ 0 = ap (amount_in (old_to number)) told in omega (arith, olds, none))
-      refl (first_idle (phase_of node course) (stack_of (node_at cluster node) (Did done ∷ past)) (quiet_idle free.quiet))
+      (λ number. let olds = olds_did cluster course node here less number done in
+      let none : amount_in (old_to number) (told_by (node_at cluster node) done (owed_adds past)) ≡ 0 = ap (amount_in (old_to number)) told in omega (arith, olds, none))
+      refl (first_idle (phase_of node course) (stack_of (node_at cluster node) (Did done ∷ past)) (quiet_idle cluster course node here less phased free.quiet))
 
   module _ (frame : FrameId) (index word : ℕ) (old addend : ℤ) (serves : Serves (node_at cluster node) past frame index word old addend) where
     abbrev served : Event
@@ -228,13 +103,15 @@ module _ (cluster : Cluster) (course : Course) (node : ℕ) (here : Option PostA
         let change = adds_served cluster course node here less number other acts serves.add serves.later frame index word old addend serves.oldest in
         let amount : add_from number other acts serves.add ≡ 0 = add_is number other acts ∙ rw apart refl in
         let before = phased.adds number other acts in
-        let after : one (is_asked other acts (phase_of number (more served))) ≡ one (is_asked other acts (phase_of number course)) = ap (λ it. one (is_asked other acts it)) (phase_others number apart) in
+        let after : one (is_asked other acts (phase_of number (more served))) ≡ one (is_asked other acts (phase_of number course)) =
+        ap (λ it. one (is_asked other acts it)) (phase_others number apart) in
         omega (arith, change, amount, before, after)
 
     olds_asker : to_tell cluster (more served) asker ≡ one (is_told (phase_of asker (more served)))
     olds_asker =
         let change = olds_did cluster course node here less asker (item.Served frame index word old addend) in
-        let amount : amount_in (old_to asker) (told_by (node_at cluster node) (item.Served frame index word old addend) (owed_adds past)) ≡ 1 = told_amount asker ∙ ap (λ it. one it + 0) (own_number asker) in
+        let amount : amount_in (old_to asker) (told_by (node_at cluster node) (item.Served frame index word old addend) (owed_adds past)) ≡ 1 = told_amount asker
+        ∙ ap (λ it. one it + 0) (own_number asker) in
         let before : to_tell cluster course asker ≡ 0 = phased.olds asker ∙ ap (λ it. one (is_told it)) was_asked in
         let after : one (is_told (phase_of asker (more served))) ≡ 1 = ap (λ it. one (is_told it)) phase_asker in
         omega (arith, change, amount, before, after)
@@ -252,24 +129,26 @@ module _ (cluster : Cluster) (course : Course) (node : ℕ) (here : Option PostA
       within = by_number (λ number. waits_in (phase_of number (more served)) ≡ true → number < cluster.config.nodes)
           (λ waits. phased.within asker (ap waits_in was_asked)) (λ number apart waits. phased.within number (ap waits_in (sym (phase_others number apart)) ∙ waits));
       waiting = by_number (λ number. awaits ForAdded (own number (more served)) ≡ waits_in (phase_of number (more served)))
-          (awaits_more served refl asker ∙ phased.waiting asker ∙ ap waits_in was_asked ∙ ap waits_in (sym phase_asker))
-          (λ number apart. awaits_more served refl number ∙ phased.waiting number ∙ ap waits_in (sym (phase_others number apart)));
+          (awaits_more cluster course node here less phased served refl asker ∙ phased.waiting asker ∙ ap waits_in was_asked ∙ ap waits_in (sym phase_asker))
+          (λ number apart. awaits_more cluster course node here less phased served refl number ∙ phased.waiting number ∙ ap waits_in (sym (phase_others number apart)));
       first = by_number (λ number. IsFirst (phase_of number (more served)) (stack_of (node_at cluster number) (own number (more served))))
-          (subst (IsFirst (phase_of asker (more served))) (sym (stack_more served stack_stays asker))
+          (subst (IsFirst (phase_of asker (more served))) (sym (stack_more cluster course node here less phased served stack_stays asker))
           (subst (λ it. IsFirst it (stack_of (node_at cluster asker) (own asker course))) (sym phase_asker)
           (subst (λ it. IsFirst it (stack_of (node_at cluster asker) (own asker course))) was_asked (phased.first asker))))
-          (λ number apart. subst (IsFirst (phase_of number (more served))) (sym (stack_more served stack_stays number))
+          (λ number apart. subst (IsFirst (phase_of number (more served))) (sym (stack_more cluster course node here less phased served stack_stays number))
           (subst (λ it. IsFirst it (stack_of (node_at cluster number) (own number course))) (sym (phase_others number apart)) (phased.first number)));
       adds = λ number other acts. by_number (λ number. under_way cluster (more served) number other acts ≡ one (is_asked other acts (phase_of number (more served))))
           (adds_asker other acts) (λ number apart. adds_others other acts number apart) number;
       olds = by_number (λ number. to_tell cluster (more served) number ≡ one (is_told (phase_of number (more served)))) olds_asker olds_others;
     }
 
-  free_of : (done : Item) (rest : List Item) (posts : List Msg) → (IsOwed (node_at cluster node) past done → ⊥) → IsOwed (node_at cluster node) past done ⊎ (IsFree past × MayDo (node_at cluster node) past done rest posts) → IsFree past
+  free_of : (done : Item) (rest : List Item) (posts : List Msg) → (IsOwed (node_at cluster node) past done → ⊥)
+      → IsOwed (node_at cluster node) past done ⊎ (IsFree past × MayDo (node_at cluster node) past done rest posts) → IsFree past
   free_of done rest posts never (inl owed) = absurd (never owed)
   free_of done rest posts never (inr both) = both.0
 
-  did_phased : (done : Item) (rest : List Item) (posts : List Msg) → IsOwed (node_at cluster node) past done ⊎ (IsFree past × MayDo (node_at cluster node) past done rest posts) → Phased cluster (more (Did done))
+  did_phased : (done : Item) (rest : List Item) (posts : List Msg) → IsOwed (node_at cluster node) past done ⊎ (IsFree past × MayDo (node_at cluster node) past done rest posts)
+      → Phased cluster (more (Did done))
   did_phased (item.Act frame index act) rest posts may = did_kept (item.Act frame index act) (λ number phase. refl) refl refl (free_of (item.Act frame index act) rest posts (λ owed. owed) may)
   did_phased (item.Tick frame) rest posts may = did_kept (item.Tick frame) (λ number phase. refl) refl refl (free_of (item.Tick frame) rest posts (λ owed. owed) may)
   did_phased (item.Drop page) rest posts may = did_kept (item.Drop page) (λ number phase. refl) refl refl (free_of (item.Drop page) rest posts (λ owed. owed) may)
@@ -292,30 +171,36 @@ module _ (cluster : Cluster) (course : Course) (node : ℕ) (here : Option PostA
     phase_posted number said is = ap (λ it. cond (eqb node number) (after_post it (phase_of number course)) (phase_of number course)) is
 
     -- it is neither an Add nor an Added
-    other_post : (said : Body) → message.body ≡ said → ((phase : Phase) → after_post said phase ≡ phase) → ((number : ℕ) (frame : FrameId) (index sender : ℕ) → adds_body number frame index sender said ≡ false)
+    other_post : (said : Body) → message.body ≡ said → ((phase : Phase) → after_post said phase ≡ phase)
+        → ((number : ℕ) (frame : FrameId) (index sender : ℕ) → adds_body number frame index sender said ≡ false)
         → ((number : ℕ) → to_tell cluster (more post) number ≡ to_tell cluster course number) → adds_in said ≡ false
         → IsFirst (phase_of node course) (stack_sent said (stack_of (node_at cluster node) past)) → Phased cluster (more post)
     unfolding frames_of
     other_post said is same adds olds waits first =
-        kept post (λ number. phase_posted number said is ∙ cond_same (eqb node number) (after_post said (phase_of number course)) (phase_of number course) (same (phase_of number course)))
+        kept cluster course node here less phased post
+        (λ number. phase_posted number said is ∙ cond_same (eqb node number) (after_post said (phase_of number course)) (phase_of number course) (same (phase_of number course)))
         (λ number frame index. let sent = adds_sent cluster course node here less number frame index message posts in
-          let none : add_from number frame index message ≡ 0 = ap (λ it. one (adds_body number frame index message.sender it)) is ∙ ap one (adds number frame index message.sender) in omega (arith, sent, none))
+        let none : add_from number frame index message ≡ 0 = ap (λ it. one (adds_body number frame index message.sender it)) is ∙ ap one (adds number frame index message.sender) in
+        omega (arith, sent, none))
         olds (ap (λ it. adds_in it || awaits ForAdded past) is ∙ ap (λ b. b || awaits ForAdded past) waits)
         (subst (λ it. IsFirst (phase_of node course) (stack_sent it (stack_of (node_at cluster node) past))) (sym is) first)
 
-    olds_stay : (said : Body) → message.body ≡ said → tells_in said ≡ false → ((number : ℕ) (receiver : ℕ) → tells_body number receiver said ≡ false) → (number : ℕ) → to_tell cluster (more post) number ≡ to_tell cluster course number
+    olds_stay : (said : Body) → message.body ≡ said → tells_in said ≡ false → ((number : ℕ) (receiver : ℕ) → tells_body number receiver said ≡ false) → (number : ℕ)
+        → to_tell cluster (more post) number ≡ to_tell cluster course number
     olds_stay said is other none number =
         olds_posted cluster course node here less number message posts (ap tells_in is ∙ other) (ap (λ it. one (tells_body number message.receiver it)) is ∙ ap one (none number message.receiver))
 
-    module _ (frame : FrameId) (index word : ℕ) (addend : ℤ) (is : message.body ≡ body.Add frame index word addend) (may : MayPostAdd (node_at cluster node) past message.receiver frame index word addend) where
+    module _ (frame : FrameId) (index word : ℕ) (addend : ℤ) (is : message.body ≡ body.Add frame index word addend)
+        (may : MayPostAdd (node_at cluster node) past message.receiver frame index word addend) where
       pub phase_node : phase_of node (more post) ≡ Asked frame index
       phase_node = phase_posted node (body.Add frame index word addend) is ∙ ap (λ b. cond b (Asked frame index) (phase_of node course)) (own_number node)
 
       pub phase_apart : (number : ℕ) → number ≢ node → phase_of number (more post) ≡ phase_of number course
-      phase_apart number not = phase_posted number (body.Add frame index word addend) is ∙ ap (λ b. cond b (Asked frame index) (phase_of number course)) (other_number node number (λ same. not (sym same)))
+      phase_apart number not = phase_posted number (body.Add frame index word addend) is
+          ∙ ap (λ b. cond b (Asked frame index) (phase_of number course)) (other_number node number (λ same. not (sym same)))
 
       pub was_idle : phase_of node course ≡ Idle
-      was_idle = quiet_idle may.quiet
+      was_idle = quiet_idle cluster course node here less phased may.quiet
 
       add_amount : (number : ℕ) (other : FrameId) (acts : ℕ) → add_from number other acts message ≡ one (eqb node number && (same_frame frame other && eqb index acts))
       add_amount number other acts =
@@ -350,9 +235,11 @@ module _ (cluster : Cluster) (course : Course) (node : ℕ) (here : Option PostA
       adds_apart : (other : FrameId) (acts number : ℕ) → number ≢ node → under_way cluster (more post) number other acts ≡ one (is_asked other acts (phase_of number (more post)))
       adds_apart other acts number not =
           let sent = adds_sent cluster course node here less number other acts message posts in
-          let amount : add_from number other acts message ≡ 0 = add_amount number other acts ∙ ap (λ b. one (b && (same_frame frame other && eqb index acts))) (other_number node number (λ same. not (sym same))) in
+          let amount : add_from number other acts message ≡ 0 = add_amount number other acts
+          ∙ ap (λ b. one (b && (same_frame frame other && eqb index acts))) (other_number node number (λ same. not (sym same))) in
           let before = phased.adds number other acts in
-          let after : one (is_asked other acts (phase_of number (more post))) ≡ one (is_asked other acts (phase_of number course)) = ap (λ it. one (is_asked other acts it)) (phase_apart number not) in
+          let after : one (is_asked other acts (phase_of number (more post))) ≡ one (is_asked other acts (phase_of number course)) =
+          ap (λ it. one (is_asked other acts it)) (phase_apart number not) in
           omega (arith, sent, amount, before, after)
 
       olds_same : (number : ℕ) → to_tell cluster (more post) number ≡ to_tell cluster course number
@@ -365,8 +252,10 @@ module _ (cluster : Cluster) (course : Course) (node : ℕ) (here : Option PostA
         waiting = by_node (λ number. awaits ForAdded (own number (more post)) ≡ waits_in (phase_of number (more post)))
             (ap (awaits ForAdded) (own_first (moved_by node post here) course) ∙ ap (λ it. adds_in it || awaits ForAdded past) is ∙ ap waits_in (sym phase_node))
             (λ number not. ap (awaits ForAdded) (own_other number (moved_by node post here) course not) ∙ phased.waiting number ∙ ap waits_in (sym (phase_apart number not)));
-        first = first_more post phase_apart first_post;
-        adds = λ number other acts. by_node (λ number. under_way cluster (more post) number other acts ≡ one (is_asked other acts (phase_of number (more post)))) (adds_node other acts) (adds_apart other acts) number;
+        first = first_more cluster course node here less phased post phase_apart first_post;
+        adds =
+            λ number other acts. by_node (λ number. under_way cluster (more post) number other acts ≡ one (is_asked other acts (phase_of number (more post))))
+            (adds_node other acts) (adds_apart other acts) number;
         olds = by_node (λ number. to_tell cluster (more post) number ≡ one (is_told (phase_of number (more post))))
             (olds_same node ∙ phased.olds node ∙ ap (λ it. one (is_told it)) was_idle ∙ ap (λ it. one (is_told it)) (sym phase_node))
             (λ number not. olds_same number ∙ phased.olds number ∙ ap (λ it. one (is_told it)) (sym (phase_apart number not)));
@@ -379,9 +268,11 @@ module _ (cluster : Cluster) (course : Course) (node : ℕ) (here : Option PostA
     sent_phased (body.Fetch page) is (inl reply) = absurd (cc)
     sent_phased (body.Fetch page) is (inr may) =
         other_post (body.Fetch page) is (λ phase. refl) (λ number frame index sender. refl) (olds_stay (body.Fetch page) is refl (λ number receiver. refl)) refl
-        (first_idle (phase_of node course) (live (stack_of (node_at cluster node) past)) (quiet_idle may.quiet))
-    sent_phased (body.Page page words) is may = other_post (body.Page page words) is (λ phase. refl) (λ number frame index sender. refl) (olds_stay (body.Page page words) is refl (λ number receiver. refl)) refl first_here
-    sent_phased (body.Reconcile parts) is may = other_post (body.Reconcile parts) is (λ phase. refl) (λ number frame index sender. refl) (olds_stay (body.Reconcile parts) is refl (λ number receiver. refl)) refl first_here
+        (first_idle (phase_of node course) (live (stack_of (node_at cluster node) past)) (quiet_idle cluster course node here less phased may.quiet))
+    sent_phased (body.Page page words) is may =
+        other_post (body.Page page words) is (λ phase. refl) (λ number frame index sender. refl) (olds_stay (body.Page page words) is refl (λ number receiver. refl)) refl first_here
+    sent_phased (body.Reconcile parts) is may =
+        other_post (body.Reconcile parts) is (λ phase. refl) (λ number frame index sender. refl) (olds_stay (body.Reconcile parts) is refl (λ number receiver. refl)) refl first_here
     sent_phased body.Ack is may = other_post body.Ack is (λ phase. refl) (λ number frame index sender. refl) (olds_stay body.Ack is refl (λ number receiver. refl)) refl first_here
     sent_phased body.Ask is may = other_post body.Ask is (λ phase. refl) (λ number frame index sender. refl) (olds_stay body.Ask is refl (λ number receiver. refl)) refl first_here
     sent_phased (body.Grant closure) is (inl reply) = absurd (cc)
@@ -413,13 +304,15 @@ module _ (cluster : Cluster) (course : Course) (node : ℕ) (here : Option PostA
     phase_taken number said is = ap (λ it. cond (eqb node number) (after_taking it (phase_of number course)) (phase_of number course)) is
 
     -- it is no Added
-    other_taking : (said : Body) → message.body ≡ said → ((phase : Phase) → after_taking said phase ≡ phase) → ((number : ℕ) (receiver : ℕ) → tells_body number receiver said ≡ false) → tells_in said ≡ false
+    other_taking : (said : Body) → message.body ≡ said → ((phase : Phase) → after_taking said phase ≡ phase) → ((number : ℕ) (receiver : ℕ) → tells_body number receiver said ≡ false)
+        → tells_in said ≡ false
         → stack_of (node_at cluster node) (taking ∷ past) ≡ stack_of (node_at cluster node) past → Phased cluster (more taking)
     other_taking said is same none other stack =
-        kept taking (λ number. phase_taken number said is ∙ cond_same (eqb node number) (after_taking said (phase_of number course)) (phase_of number course) (same (phase_of number course)))
+        kept cluster course node here less phased taking
+        (λ number. phase_taken number said is ∙ cond_same (eqb node number) (after_taking said (phase_of number course)) (phase_of number course) (same (phase_of number course)))
         (λ number frame index. adds_took cluster course node here less number frame index message stepped takes)
         (λ number. let took = olds_took cluster course node here less number message stepped takes in
-          let zero : old_to number message ≡ 0 = ap (λ it. one (tells_body number message.receiver it)) is ∙ ap one (none number message.receiver) in omega (arith, took, zero))
+        let zero : old_to number message ≡ 0 = ap (λ it. one (tells_body number message.receiver it)) is ∙ ap one (none number message.receiver) in omega (arith, took, zero))
         (awaits_took message past (ap tells_in is ∙ other))
         (subst (IsFirst (phase_of node course)) (sym stack) (phased.first node))
 
@@ -470,14 +363,16 @@ module _ (cluster : Cluster) (course : Course) (node : ℕ) (here : Option PostA
         waiting = by_place (λ number. awaits ForAdded (own number (more taking)) ≡ waits_in (phase_of number (more taking)))
             (ap (awaits ForAdded) (own_first (moved_by node taking here) course) ∙ awaits_told message past (ap tells_in is) ∙ ap waits_in (sym phase_done))
             (λ number not. ap (awaits ForAdded) (own_other number (moved_by node taking here) course not) ∙ phased.waiting number ∙ ap waits_in (sym (phase_far number not)));
-        first = first_more taking phase_far (first_idle (phase_of node (more taking)) (stack_of (node_at cluster node) (taking ∷ past)) phase_done);
-        adds = λ number frame index. adds_took cluster course node here less number frame index message stepped takes ∙ by_place (λ number. under_way cluster course number frame index ≡ one (is_asked frame index (phase_of number (more taking))))
+        first = first_more cluster course node here less phased taking phase_far (first_idle (phase_of node (more taking)) (stack_of (node_at cluster node) (taking ∷ past)) phase_done);
+        adds = λ number frame index. adds_took cluster course node here less number frame index message stepped takes
+            ∙ by_place (λ number. under_way cluster course number frame index ≡ one (is_asked frame index (phase_of number (more taking))))
             (phased.adds node frame index ∙ ap one (told_not_asked frame index (phase_of node course) was_told) ∙ ap (λ it. one (is_asked frame index it)) (sym phase_done))
             (λ number not. phased.adds number frame index ∙ ap (λ it. one (is_asked frame index it)) (sym (phase_far number not))) number;
         olds = by_place (λ number. to_tell cluster (more taking) number ≡ one (is_told (phase_of number (more taking)))) olds_done olds_far;
       }
 
-    stack_taken : (said : Body) → message.body ≡ said → stack_of (node_at cluster node) (taking ∷ past) ≡ (frames_took (node_at cluster node) said (taking ∷ past) (frames_of (node_at cluster node) past)).stack
+    stack_taken : (said : Body) → message.body ≡ said
+        → stack_of (node_at cluster node) (taking ∷ past) ≡ (frames_took (node_at cluster node) said (taking ∷ past) (frames_of (node_at cluster node) past)).stack
     unfolding frames_of
     stack_taken said is = ap (λ it. (frames_took (node_at cluster node) it (taking ∷ past) (frames_of (node_at cluster node) past)).stack) is
 
@@ -491,7 +386,8 @@ module _ (cluster : Cluster) (course : Course) (node : ℕ) (here : Option PostA
     took_phased body.Refuse is = other_taking body.Refuse is (λ phase. refl) (λ number receiver. refl) refl (stack_taken body.Refuse is)
     took_phased (body.Done join index value) is = other_taking (body.Done join index value) is (λ phase. refl) (λ number receiver. refl) refl (stack_taken (body.Done join index value) is)
     took_phased (body.Park join closure) is = other_taking (body.Park join closure) is (λ phase. refl) (λ number receiver. refl) refl (stack_taken (body.Park join closure) is)
-    took_phased (body.Add frame index word addend) is = other_taking (body.Add frame index word addend) is (λ phase. refl) (λ number receiver. refl) refl (stack_taken (body.Add frame index word addend) is)
+    took_phased (body.Add frame index word addend) is =
+        other_taking (body.Add frame index word addend) is (λ phase. refl) (λ number receiver. refl) refl (stack_taken (body.Add frame index word addend) is)
     took_phased (body.Added old) is = added_phased old is
 
   -- ---- ends
@@ -499,11 +395,13 @@ module _ (cluster : Cluster) (course : Course) (node : ℕ) (here : Option PostA
   ended_phased : (end : NodeEnd) → Phased cluster (more (Ended end))
   unfolding frames_of
   ended_phased end =
-      kept (Ended end) (λ number. refl) (λ number frame index. adds_ended cluster course node here less number frame index end) (λ number. olds_ended cluster course node here less number end) refl (phased.first node)
+      kept cluster course node here less phased (Ended end) (λ number. refl) (λ number frame index. adds_ended cluster course node here less number frame index end)
+      (λ number. olds_ended cluster course node here less number end) refl (phased.first node)
 
 -- ---- all events
 
-event_phased : (cluster : Cluster) (course : Course) (node : ℕ) (here : Option PostAt) (event : Event) → Stepped cluster course → Step cluster course (moved_by node event here) → Phased cluster course
+event_phased : (cluster : Cluster) (course : Course) (node : ℕ) (here : Option PostAt) (event : Event) → Stepped cluster course → Step cluster course (moved_by node event here)
+    → Phased cluster course
     → Phased cluster (moved_by node event here ∷ course)
 event_phased cluster course node here (Did done) stepped step phased =
     did_phased cluster course node here step.within phased done step.allowed.rest step.allowed.posts step.allowed.may

@@ -1,17 +1,15 @@
 -- No act is made twice: a frame and an index stand at one position at most.
-use Rattle.std.proofs.Common.{◌≡◌, ◌≤◌, ◌<◌, ◌+◌, ◌⊎◌, inl, inr, ℕ, suc, ℤ, List, [], ◌∷◌, Option, Some, None, Bool, true, false, cond, eqb, length, refl, sym, ◌∙◌, ap, subst, arith}
+use Rattle.std.proofs.Common.{◌≡◌, ◌≤◌, ◌<◌, ◌⊎◌, inl, inr, ℕ, suc, [], ◌∷◌, Some, Bool, true, false, cond, eqb, length, refl, ◌∙◌, ap, subst, arith}
 use Rattle.std.proofs.lemmas.Bool.Decides.{nat_tests}
 use Rattle.page_messages.specs.declared.closure.FrameId.{FrameId}
-use Rattle.page_messages.specs.declared.log.Item.{Item}
 use Rattle.page_messages.specs.declared.log.Item.TheVariants as item
 use Rattle.cluster_rules.specs.Turns.{Event, Did, Sent, Took, Ended}
 use Rattle.cluster_rules.specs.Lives.{same_frame}
-use Rattle.cluster_rules.specs.Runs.{Cluster, node_at}
-use Rattle.cluster_rules.specs.Allowed.{IsAllowed}
-use Rattle.cluster_rules.specs.Positions.{Moved, Course, own, at, before}
+use Rattle.cluster_rules.specs.Runs.{Cluster}
+use Rattle.cluster_rules.specs.Positions.{Moved, Course, at, before}
 use Rattle.cluster_rules.proofs.Stepping.{Step, Stepped, stepped_before}
 use Rattle.cluster_rules.proofs.Marks.{one, same_self}
-use Rattle.cluster_rules.proofs.Claiming.{claims_item, claims_event, acts_before}
+use Rattle.cluster_rules.proofs.Claiming.{claims_event, acts_before}
 use Rattle.cluster_rules.proofs.Indexing.{Claims, index_is_count}
 
 -- the event is this act of this frame
@@ -55,13 +53,15 @@ pub at_within : (course : Course) (position : ℕ) (moved : Moved) → at course
 at_within [] position moved found = absurd (cc)
 at_within (first ∷ course) position moved found = on (eqb position (length course)) refl found (at_within course position moved)
   where
-    on : (b : Bool) → eqb position (length course) ≡ b → cond b (Some first) (at course position) ≡ Some moved → (at course position ≡ Some moved → position < length course) → position < length (first ∷ course)
+    on : (b : Bool) → eqb position (length course) ≡ b → cond b (Some first) (at course position) ≡ Some moved → (at course position ≡ Some moved → position < length course)
+        → position < length (first ∷ course)
     on true is found rest = let same : position ≡ length course = grind (arith, nat_tests) in omega (arith, same)
     on false is found rest = let less = rest found in omega (arith, less)
 
 module _ (frame : FrameId) (index : ℕ) where
   -- the acts before one, with it, are within all
-  acts_within : (course : Course) (position : ℕ) (moved : Moved) → at course position ≡ Some moved → ClaimsEvent frame index moved.event → suc (acts_before frame (before course position)) ≤ acts_before frame course
+  acts_within : (course : Course) (position : ℕ) (moved : Moved) → at course position ≡ Some moved → ClaimsEvent frame index moved.event
+      → suc (acts_before frame (before course position)) ≤ acts_before frame course
   acts_within [] position moved found claims = absurd (cc)
   acts_within (first ∷ course) position moved found claims = on (eqb position (length course)) found (λ older. acts_within course position moved older claims)
     where
@@ -73,20 +73,23 @@ module _ (frame : FrameId) (index : ℕ) where
       on false found rest = let less = rest found in omega (arith, less)
 
   -- so they are fewer than before a later position
-  acts_later : (course : Course) (first second : ℕ) (one_moved other : Moved) → first < second → at course first ≡ Some one_moved → at course second ≡ Some other → ClaimsEvent frame index one_moved.event
+  acts_later : (course : Course) (first second : ℕ) (one_moved other : Moved) → first < second → at course first ≡ Some one_moved → at course second ≡ Some other
+      → ClaimsEvent frame index one_moved.event
       → suc (acts_before frame (before course first)) ≤ acts_before frame (before course second)
   acts_later [] first second one_moved other less found found' claims = absurd (cc)
   acts_later (top ∷ course) first second one_moved other less found found' claims =
       on (eqb first (length course)) refl (eqb second (length course)) refl found found' (at_within course second other) (λ older. acts_within course first one_moved older claims)
       (λ older older'. acts_later course first second one_moved other less older older' claims)
     where
-      on : (a : Bool) → eqb first (length course) ≡ a → (b : Bool) → eqb second (length course) ≡ b → cond a (Some top) (at course first) ≡ Some one_moved → cond b (Some top) (at course second) ≡ Some other
+      on : (a : Bool) → eqb first (length course) ≡ a → (b : Bool) → eqb second (length course) ≡ b → cond a (Some top) (at course first) ≡ Some one_moved
+          → cond b (Some top) (at course second) ≡ Some other
           → (at course second ≡ Some other → second < length course)
           → (at course first ≡ Some one_moved → suc (acts_before frame (before course first)) ≤ acts_before frame course)
           → (at course first ≡ Some one_moved → at course second ≡ Some other → suc (acts_before frame (before course first)) ≤ acts_before frame (before course second))
           → suc (acts_before frame (cond a course (before course first))) ≤ acts_before frame (cond b course (before course second))
       on true is true was found found' bound whole rest =
-          let one_place : first ≡ length course = grind (arith, nat_tests) in let other_place : second ≡ length course = grind (arith, nat_tests) in absurd (omega (arith, less, one_place, other_place))
+          let one_place : first ≡ length course = grind (arith, nat_tests) in let other_place : second ≡ length course = grind (arith, nat_tests) in
+          absurd (omega (arith, less, one_place, other_place))
       on true is false was found found' bound whole rest =
           let place : first ≡ length course = grind (arith, nat_tests) in let within = bound found' in absurd (omega (arith, less, place, within))
       on false is true was found found' bound whole rest = whole found
@@ -94,7 +97,8 @@ module _ (frame : FrameId) (index : ℕ) where
 
 -- ---- once
 
-index_at : (cluster : Cluster) (course : Course) → Stepped cluster course → (position : ℕ) (moved : Moved) → at course position ≡ Some moved → (frame : FrameId) (index : ℕ) → (event : Event) → moved.event ≡ event
+index_at : (cluster : Cluster) (course : Course) → Stepped cluster course → (position : ℕ) (moved : Moved) → at course position ≡ Some moved → (frame : FrameId) (index : ℕ) → (event : Event)
+    → moved.event ≡ event
     → ClaimsEvent frame index event → index ≡ acts_before frame (before course position)
 index_at cluster course stepped position moved found frame index (Did done) is claims =
     index_is_count cluster (before course position) moved (stepped_at cluster course stepped position moved found) done is frame index claims

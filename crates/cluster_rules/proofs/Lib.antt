@@ -22,8 +22,11 @@ pub mod Holding
 pub mod Advancing
 pub mod Phases
 pub mod UnderWay
+pub mod Phasing
 pub mod Asking
 pub mod Claiming
 pub mod Indexing
 pub mod Claimed
 pub mod Places
+pub mod Keeping
+pub mod Posting

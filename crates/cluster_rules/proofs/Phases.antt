@@ -1,5 +1,5 @@
 -- Where a node is with its add: it wants none, it has asked the home, or the home has done it and the node does not know yet.
-use Rattle.std.proofs.Common.{◌≡◌, ◌≤◌, ℕ, ℤ, List, [], ◌∷◌, Option, Some, None, Bool, true, false, cond, eqb, ◌&&◌, ◌||◌, refl, sym, ◌∙◌, ap, subst}
+use Rattle.std.proofs.Common.{◌≡◌, ℕ, List, [], ◌∷◌, Bool, true, false, cond, eqb, ◌&&◌, ◌||◌, refl, sym, subst}
 use Rattle.page_messages.specs.declared.closure.FrameId.{FrameId}
 use Rattle.page_messages.specs.declared.message.Msg.{Msg}
 use Rattle.page_messages.specs.declared.message.Body.{Body}
@@ -7,11 +7,11 @@ use Rattle.page_messages.specs.declared.message.Body.TheVariants as body
 use Rattle.page_messages.specs.declared.log.Item.{Item}
 use Rattle.page_messages.specs.declared.log.Item.TheVariants as item
 use Rattle.cluster_rules.specs.Turns.{Event, Did, Sent, Took, Ended, Past}
-use Rattle.cluster_rules.specs.Sendings.{ForAdded, adds_in, tells_in, awaits, IsQuiet}
+use Rattle.cluster_rules.specs.Sendings.{ForAdded, adds_in, tells_in, awaits}
 use Rattle.cluster_rules.specs.Home.{owed_adds}
 use Rattle.cluster_rules.specs.Lives.{Life, same_frame}
-use Rattle.cluster_rules.specs.Positions.{Moved, Course, own}
-use Rattle.cluster_rules.proofs.Marks.{AddsFirst, same_self}
+use Rattle.cluster_rules.specs.Positions.{Course, own}
+use Rattle.cluster_rules.proofs.Marks.{AddsFirst}
 
 pub data Phase : Type 0 where
   Idle : Phase

@@ -1,5 +1,5 @@
 -- A frame that is somewhere, or has made an act, is `main` or was spawned before. Each is spawned once.
-use Rattle.std.proofs.Common.{◌≡◌, ◌≢◌, ◌≤◌, ◌<◌, ◌+◌, ◌⊎◌, inl, inr, ℕ, suc, ℤ, List, [], ◌∷◌, ◌++◌, Option, Some, None, Bool, true, false, cond, eqb, length, refl, sym, ◌∙◌, ap, subst, arith}
+use Rattle.std.proofs.Common.{◌≡◌, ◌≤◌, ◌<◌, ◌+◌, ◌⊎◌, inl, inr, ℕ, [], ◌∷◌, Some, Bool, true, false, cond, eqb, length, refl, sym, ◌∙◌, ap, subst, arith}
 use Rattle.std.proofs.lemmas.Bool.Decides.{nat_tests}
 use Rattle.page_messages.specs.declared.closure.FrameId.{FrameId}
 use Rattle.page_messages.specs.declared.log.LoggedAct.{LoggedAct}
@@ -11,17 +11,17 @@ use Rattle.cluster_rules.specs.Lives.{same_frame, main_id}
 use Rattle.cluster_rules.specs.Frames.{frames_of, stack_of, next_frame}
 use Rattle.cluster_rules.specs.Runs.{Cluster, node_at}
 use Rattle.cluster_rules.specs.Positions.{Moved, Course, own, at, before}
-use Rattle.cluster_rules.proofs.Stepping.{Step, Stepped, stepped_before}
+use Rattle.cluster_rules.proofs.Stepping.{Step, Stepped}
 use Rattle.cluster_rules.proofs.Summing.{sum_one}
 use Rattle.cluster_rules.proofs.Marks.{Mark, one, many, many_append, named, marks, other_marks, same_self, same_name, AddsFirst}
 use Rattle.cluster_rules.proofs.Passing.{born_act, born_by}
-use Rattle.cluster_rules.proofs.Holding.{at_node, held, held_start, held_more, held_once, main_mark, next_grows, Unknown, unknown_before, IsBorn, births}
-use Rattle.cluster_rules.proofs.Phases.{Phase, Idle, Asked, Told, phase_of, is_told_of, waits_in, IsFirst}
+use Rattle.cluster_rules.proofs.Holding.{at_node, held, held_start, held_more, held_once, main_mark, next_grows, IsBorn, births}
+use Rattle.cluster_rules.proofs.Phases.{is_told_of, waits_in, IsFirst}
 use Rattle.cluster_rules.proofs.UnderWay.{under_way}
 use Rattle.cluster_rules.proofs.Asking.{phased, asked_by}
-use Rattle.cluster_rules.proofs.Claiming.{claims_event, acts_before}
+use Rattle.cluster_rules.proofs.Claiming.{acts_before}
 use Rattle.cluster_rules.proofs.Indexing.{Claims, first_stack_mark, mark_acts, claims_held}
-use Rattle.cluster_rules.proofs.Claimed.{step_at, stepped_at, at_within}
+use Rattle.cluster_rules.proofs.Claimed.{stepped_at, at_within}
 
 -- ---- spawns
 
@@ -134,14 +134,16 @@ held_made cluster course stepped frame some = on (held_or_made cluster course st
     on (inr made) = made
 
 -- A frame that makes an act was made before.
-pub claims_made : (cluster : Cluster) (course : Course) (moved : Moved) → Stepped cluster (moved ∷ course) → (done : Item) → moved.event ≡ Did done → (frame : FrameId) (index : ℕ) → Claims frame index done
+pub claims_made : (cluster : Cluster) (course : Course) (moved : Moved) → Stepped cluster (moved ∷ course) → (done : Item) → moved.event ≡ Did done → (frame : FrameId) (index : ℕ)
+    → Claims frame index done
     → WasMade frame course
 claims_made cluster course moved stepped done is frame index claims = held_made cluster course stepped.0 frame (claims_held cluster course moved stepped done is frame index claims)
 
 -- ---- each is spawned once
 
 -- a spawned frame has a number that was given
-pub spawned_known : (cluster : Cluster) (course : Course) → Stepped cluster course → (frame : FrameId) → WasSpawned frame course → frame.number < next_frame (node_at cluster frame.node) (own frame.node course)
+pub spawned_known : (cluster : Cluster) (course : Course) → Stepped cluster course → (frame : FrameId) → WasSpawned frame course
+    → frame.number < next_frame (node_at cluster frame.node) (own frame.node course)
 spawned_known cluster [] stepped frame was = absurd was
 spawned_known cluster (moved ∷ course) stepped frame (inl spawns) = let now = (spawn_names cluster course moved stepped.1 frame spawns).now in omega (arith, now)
 spawned_known cluster (moved ∷ course) stepped frame (inr was) =
@@ -155,7 +157,8 @@ main_given cluster [] = omega arith
 main_given cluster (moved ∷ course) = let before = main_given cluster course in let grows = next_grows cluster course moved main_id in omega (arith, before, grows)
 
 -- what was made has a number that was given
-pub made_known : (cluster : Cluster) (course : Course) → Stepped cluster course → (frame : FrameId) → WasMade frame course → frame.number < next_frame (node_at cluster frame.node) (own frame.node course)
+pub made_known : (cluster : Cluster) (course : Course) → Stepped cluster course → (frame : FrameId) → WasMade frame course
+    → frame.number < next_frame (node_at cluster frame.node) (own frame.node course)
 made_known cluster course stepped frame (inl main) = subst (λ it. it.number < next_frame (node_at cluster it.node) (own it.node course)) (sym main) (main_given cluster course)
 made_known cluster course stepped frame (inr was) = spawned_known cluster course stepped frame was
 
@@ -173,16 +176,21 @@ spawned_at frame (first ∷ course) position moved found spawns = on (eqb positi
     on true found rest = let same : first ≡ moved = cc in inl (subst (λ (it : Moved). Spawns frame it.event) (sym same) spawns)
     on false found rest = inr (rest found)
 
-earlier_there : (course : Course) (first second : ℕ) (moved other : Moved) → first < second → at course first ≡ Some moved → at course second ≡ Some other → at (before course second) first ≡ Some moved
+earlier_there : (course : Course) (first second : ℕ) (moved other : Moved) → first < second → at course first ≡ Some moved → at course second ≡ Some other
+    → at (before course second) first ≡ Some moved
 earlier_there [] first second moved other less found found' = absurd (cc)
 earlier_there (top ∷ course) first second moved other less found found' =
-    on (eqb first (length course)) refl (eqb second (length course)) refl found found' (at_within course second other) (λ older older'. earlier_there course first second moved other less older older')
+    on (eqb first (length course)) refl (eqb second (length course)) refl found found' (at_within course second other)
+    (λ older older'. earlier_there course first second moved other less older older')
   where
-    on : (a : Bool) → eqb first (length course) ≡ a → (b : Bool) → eqb second (length course) ≡ b → cond a (Some top) (at course first) ≡ Some moved → cond b (Some top) (at course second) ≡ Some other
+    on : (a : Bool) → eqb first (length course) ≡ a → (b : Bool) → eqb second (length course) ≡ b → cond a (Some top) (at course first) ≡ Some moved
+        → cond b (Some top) (at course second) ≡ Some other
         → (at course second ≡ Some other → second < length course)
         → (at course first ≡ Some moved → at course second ≡ Some other → at (before course second) first ≡ Some moved)
         → at (cond b course (before course second)) first ≡ Some moved
-    on true is true was found found' bound rest = let one_place : first ≡ length course = grind (arith, nat_tests) in let other_place : second ≡ length course = grind (arith, nat_tests) in absurd (omega (arith, less, one_place, other_place))
+    on true is true was found found' bound rest =
+        let one_place : first ≡ length course = grind (arith, nat_tests) in
+        let other_place : second ≡ length course = grind (arith, nat_tests) in absurd (omega (arith, less, one_place, other_place))
     on true is false was found found' bound rest = let place : first ≡ length course = grind (arith, nat_tests) in let within = bound found' in absurd (omega (arith, less, place, within))
     on false is true was found found' bound rest = found
     on false is false was found found' bound rest = rest found found'
@@ -223,5 +231,6 @@ pub add_asked : (cluster : Cluster) (course : Course) → Stepped cluster course
 add_asked cluster course stepped number frame index some =
     let known = phased cluster course stepped in
     let asked = asked_by cluster course known number frame index some in
-    let first : AddsFirst frame index (stack_of (node_at cluster number) (own number course)) = subst (λ it. IsFirst it (stack_of (node_at cluster number) (own number course))) asked (known.first number) in
+    let first : AddsFirst frame index (stack_of (node_at cluster number) (own number course)) =
+    subst (λ it. IsFirst it (stack_of (node_at cluster number) (own number course))) asked (known.first number) in
     (first, mark_acts cluster course stepped number (known.within number (ap waits_in asked)) frame index (first_stack_mark cluster course number frame index first) (ap (is_told_of frame) asked))

@@ -1,5 +1,5 @@
 -- The Adds that were posted and not done, and the old values that were not told: how many of them there are of one node.
-use Rattle.std.proofs.Common.{◌≡◌, ◌≢◌, ◌≤◌, ◌<◌, ◌+◌, ◌⊎◌, inl, inr, ℕ, suc, ℤ, List, [], ◌∷◌, ◌++◌, Option, Some, None, Bool, true, false, cond, eqb, ◌&&◌, refl, sym, ◌∙◌, ap, subst, arith}
+use Rattle.std.proofs.Common.{◌≡◌, ◌≤◌, ◌<◌, ◌+◌, ℕ, ℤ, List, [], ◌∷◌, ◌++◌, Option, Bool, false, cond, eqb, ◌&&◌, refl, ◌∙◌, ap, arith}
 use Rattle.cilk_meaning.specs.declared.ends.NodeEnd.{NodeEnd}
 use Rattle.page_messages.specs.declared.closure.FrameId.{FrameId}
 use Rattle.page_messages.specs.declared.message.Msg.{Msg}
@@ -10,15 +10,14 @@ use Rattle.page_messages.specs.declared.log.Item.TheVariants as item
 use Rattle.page_messages.specs.declared.log.PostAt.{PostAt}
 use Rattle.cluster_rules.specs.Walking.{rest_of}
 use Rattle.cluster_rules.specs.Turns.{Event, Did, Sent, Took, Ended, Past}
-use Rattle.cluster_rules.specs.Node.{Node}
 use Rattle.cluster_rules.specs.Sendings.{tells_in}
-use Rattle.cluster_rules.specs.Home.{replies_in, from_me, owed_adds, with_add, after_served, told_by, owed_olds}
+use Rattle.cluster_rules.specs.Home.{owed_adds, with_add, after_served, told_by, owed_olds}
 use Rattle.cluster_rules.specs.Lives.{same_frame}
 use Rattle.cluster_rules.specs.Acting.{Tells}
-use Rattle.cluster_rules.specs.Runs.{Cluster, node_at, MayPost}
+use Rattle.cluster_rules.specs.Runs.{Cluster, node_at}
 use Rattle.cluster_rules.specs.Positions.{Moved, Course, own}
 use Rattle.cluster_rules.proofs.Stepping.{Posts, Takes, Stepped}
-use Rattle.cluster_rules.proofs.Letters.{letters_on, letters_of, amount_of, letter_sent, letter_taken}
+use Rattle.cluster_rules.proofs.Letters.{letters_of, amount_of, letter_sent, letter_taken}
 use Rattle.cluster_rules.proofs.Summing.{sum_below, sum_change, sum_one}
 use Rattle.cluster_rules.proofs.Marks.{one}
 use Rattle.cluster_rules.proofs.Holding.{own_first, own_other}
@@ -89,7 +88,7 @@ moved_by node event here = record { node = node; event = event; message = here }
 
 sum_moved : (count : ℕ) (part : ℕ → Past → ℕ) (node : ℕ) (event : Event) (here : Option PostAt) (course : Course) → node < count
     → sum_below count (λ home. part home (own home (moved_by node event here ∷ course))) + part node (own node course)
-      ≡ sum_below count (λ home. part home (own home course)) + part node (event ∷ own node course)
+    ≡ sum_below count (λ home. part home (own home course)) + part node (event ∷ own node course)
 sum_moved count part node event here course less =
     let moved = moved_by node event here in
     let sum = sum_change count (λ home. part home (own home course)) (λ home. part home (own home (moved ∷ course))) node less
@@ -116,13 +115,15 @@ module _ (cluster : Cluster) (course : Course) (node : ℕ) (here : Option PostA
     abbrev amount : Msg → ℕ
     amount = add_from number frame index
 
-    pub adds_sent : (message : Msg) → Posts course node here message → under_way cluster (moved_by node (Sent message) here ∷ course) number frame index ≡ under_way cluster course number frame index + amount message
+    pub adds_sent : (message : Msg) → Posts course node here message
+        → under_way cluster (moved_by node (Sent message) here ∷ course) number frame index ≡ under_way cluster course number frame index + amount message
     unfolding owed_adds
     adds_sent message posts =
         let sum = adds_sum amount (Sent message) in
         let letters = letter_sent cluster amount course node here message posts in omega (arith, sum, letters)
 
-    with_add_amount : (message : Msg) (adds : List Msg) (said : Body) → message.body ≡ said → amount_in amount (with_add said message adds) ≡ amount_in amount adds + one (adds_body number frame index message.sender said)
+    with_add_amount : (message : Msg) (adds : List Msg) (said : Body) → message.body ≡ said
+        → amount_in amount (with_add said message adds) ≡ amount_in amount adds + one (adds_body number frame index message.sender said)
     with_add_amount message adds (body.Fetch page) is = omega arith
     with_add_amount message adds (body.Page page words) is = omega arith
     with_add_amount message adds (body.Reconcile parts) is = omega arith
@@ -138,7 +139,8 @@ module _ (cluster : Cluster) (course : Course) (node : ℕ) (here : Option PostA
         omega (arith, both, same)
     with_add_amount message adds (body.Added old) is = omega arith
 
-    pub adds_took : (message : Msg) → Stepped cluster course → Takes course node here message → under_way cluster (moved_by node (Took message) here ∷ course) number frame index ≡ under_way cluster course number frame index
+    pub adds_took : (message : Msg) → Stepped cluster course → Takes course node here message
+        → under_way cluster (moved_by node (Took message) here ∷ course) number frame index ≡ under_way cluster course number frame index
     unfolding owed_adds
     adds_took message stepped takes =
         let sum = adds_sum amount (Took message) in
@@ -149,7 +151,8 @@ module _ (cluster : Cluster) (course : Course) (node : ℕ) (here : Option PostA
     unfolding owed_adds
     adds_ended end = let sum = adds_sum amount (Ended end) in omega (arith, sum)
 
-    pub adds_kept : (done : Item) → after_served done (owed_adds past) ≡ owed_adds past → under_way cluster (moved_by node (Did done) here ∷ course) number frame index ≡ under_way cluster course number frame index
+    pub adds_kept : (done : Item) → after_served done (owed_adds past) ≡ owed_adds past
+        → under_way cluster (moved_by node (Did done) here ∷ course) number frame index ≡ under_way cluster course number frame index
     unfolding owed_adds
     adds_kept done same = let sum = adds_sum amount (Did done) in let owed = ap (amount_in amount) same in omega (arith, sum, owed)
 
@@ -179,23 +182,27 @@ module _ (cluster : Cluster) (course : Course) (node : ℕ) (here : Option PostA
     unfolding owed_olds
     olds_ended end = let sum = olds_sum told (Ended end) in omega (arith, sum)
 
-    pub olds_took : (message : Msg) → Stepped cluster course → Takes course node here message → to_tell cluster (moved_by node (Took message) here ∷ course) number + told message ≡ to_tell cluster course number
+    pub olds_took : (message : Msg) → Stepped cluster course → Takes course node here message
+        → to_tell cluster (moved_by node (Took message) here ∷ course) number + told message ≡ to_tell cluster course number
     unfolding owed_olds
     olds_took message stepped takes =
         let sum = olds_sum told (Took message) in
         let letters = letter_taken cluster told course node here message stepped takes in omega (arith, sum, letters)
 
-    pub olds_did : (done : Item) → to_tell cluster (moved_by node (Did done) here ∷ course) number ≡ to_tell cluster course number + amount_in told (told_by (node_at cluster node) done (owed_adds past))
+    pub olds_did : (done : Item)
+        → to_tell cluster (moved_by node (Did done) here ∷ course) number ≡ to_tell cluster course number + amount_in told (told_by (node_at cluster node) done (owed_adds past))
     unfolding owed_olds
     olds_did done =
         let sum = olds_sum told (Did done) in
         let both = amount_append told (owed_olds (node_at cluster node) past) (told_by (node_at cluster node) done (owed_adds past)) in omega (arith, sum, both)
 
-    pub olds_posted : (message : Msg) → Posts course node here message → tells_in message.body ≡ false → told message ≡ 0 → to_tell cluster (moved_by node (Sent message) here ∷ course) number ≡ to_tell cluster course number
+    pub olds_posted : (message : Msg) → Posts course node here message → tells_in message.body ≡ false → told message ≡ 0
+        → to_tell cluster (moved_by node (Sent message) here ∷ course) number ≡ to_tell cluster course number
     unfolding owed_olds
     olds_posted message posts other none =
         let sum = olds_sum told (Sent message) in
-        let owed : amount_in told (cond (tells_in message.body) (rest_of (owed_olds (node_at cluster node) past)) (owed_olds (node_at cluster node) past)) ≡ amount_in told (owed_olds (node_at cluster node) past) =
+        let owed : amount_in told (cond (tells_in message.body) (rest_of (owed_olds (node_at cluster node) past)) (owed_olds (node_at cluster node) past))
+        ≡ amount_in told (owed_olds (node_at cluster node) past) =
         ap (λ b. amount_in told (cond b (rest_of (owed_olds (node_at cluster node) past)) (owed_olds (node_at cluster node) past))) other in
         let letters = letter_sent cluster told course node here message posts in omega (arith, sum, owed, letters, none)
 
