@@ -10,3 +10,4 @@ pub mod Bringing
 pub mod Firsts
 pub mod Saying
 pub mod Staging
+pub mod Rising
