@@ -52,10 +52,10 @@ any_first_on : {A : Type 0} (test : A → Bool) (first : A) (rest : List A) (b :
 any_first_on test first rest true is here = rw is refl
 any_first_on test first rest false is here = absurd (cc)
 
-any_first : {A : Type 0} (test : A → Bool) (first : A) (rest : List A) → test first ≡ true → list_any test (first ∷ rest) ≡ true
+pub any_first : {A : Type 0} (test : A → Bool) (first : A) (rest : List A) → test first ≡ true → list_any test (first ∷ rest) ≡ true
 any_first test first rest here = any_first_on test first rest true here refl
 
-any_rest_on : (b rest : Bool) → rest ≡ true → b || rest ≡ true
+pub any_rest_on : (b rest : Bool) → rest ≡ true → b || rest ≡ true
 any_rest_on true rest is = refl
 any_rest_on false rest is = is
 
@@ -74,7 +74,7 @@ any_life Holds frame (life ∷ lives) all any = on (same_frame life.id frame) re
 
 -- ---- since a position
 
-since_next : (post : ℕ) (moved : Moved) (course : Course) → post < length course → since_position post (moved ∷ course) ≡ moved ∷ since_position post course
+pub since_next : (post : ℕ) (moved : Moved) (course : Course) → post < length course → since_position post (moved ∷ course) ≡ moved ∷ since_position post course
 since_next post moved course less = let not : leb (length course) post ≡ false = grind (arith, nat_tests) in rw (not, since_position) refl
 
 since_none_on : (frame : FrameId) (post : ℕ) (moved : Moved) (course : Course) (b : Bool) → leb (length course) post ≡ b → (post < length course → takes_up frame moved ≡ false)
@@ -84,7 +84,7 @@ since_none_on frame post moved course true is here rest = refl
 since_none_on frame post moved course false is here rest =
     none_on (takes_up frame moved) (list_any (takes_up frame) (since_position post course)) (here (grind (arith, nat_tests))) rest
 
-since_none : (frame : FrameId) (post : ℕ) (course : Course) → ((later : ℕ) (other : Moved) → post < later → at course later ≡ Some other → takes_up frame other ≡ false)
+pub since_none : (frame : FrameId) (post : ℕ) (course : Course) → ((later : ℕ) (other : Moved) → post < later → at course later ≡ Some other → takes_up frame other ≡ false)
     → list_any (takes_up frame) (since_position post course) ≡ false
 since_none frame post [] none = refl
 since_none frame post (moved ∷ course) none =
@@ -112,7 +112,7 @@ untaken_event frame node (Sent message) here none = refl
 untaken_event frame node (Took message) here none = refl
 untaken_event frame node (Ended end) here none = refl
 
-untaken : (frame : FrameId) (moved : Moved) → news_on frame moved ≡ None → takes_up frame moved ≡ false
+pub untaken : (frame : FrameId) (moved : Moved) → news_on frame moved ≡ None → takes_up frame moved ≡ false
 untaken frame moved none = untaken_event frame moved.node moved.event moved.message none
 
 -- ---- the stage of what was sent
