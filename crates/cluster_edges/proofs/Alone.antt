@@ -1,5 +1,5 @@
 -- A frame that leaves its node is nowhere else.
-use Rattle.std.proofs.Common.{◌≡◌, ◌⊎◌, inl, inr, ◌<◌, ◌≤◌, ◌+◌, ℕ, List, [], ◌∷◌, ◌++◌, Option, Some, None, Bool, true, false, refl, sym, ◌∙◌, ap, subst, arith}
+use Rattle.std.proofs.Common.{◌≡◌, ◌<◌, ◌+◌, ℕ, List, [], ◌∷◌, Option, Some, None, false, refl, sym, ◌∙◌, ap, arith}
 use Rattle.std.specs.List.{list_any}
 use Rattle.page_messages.specs.declared.closure.FrameId.{FrameId}
 use Rattle.page_messages.specs.declared.message.Msg.{Msg}
@@ -11,14 +11,13 @@ use Rattle.cluster_rules.specs.Lives.{Life, same_frame}
 use Rattle.cluster_rules.specs.Frames.{Frames, Parked, frames_of}
 use Rattle.cluster_rules.specs.Positions.{Moved, Course, own}
 use Rattle.cluster_rules.specs.Runs.{Cluster, node_at}
-use Rattle.cluster_rules.proofs.Stepping.{WasPosted, takes_place, Carries, Posts, Takes, Step, Stepped}
+use Rattle.cluster_rules.proofs.Stepping.{WasPosted, takes_place, Carries, Takes, Stepped}
 use Rattle.cluster_rules.proofs.Summing.{sum_one}
-use Rattle.cluster_rules.proofs.Marks.{Mark, one, many, named, many_append, marks, parked_marks, other_marks, marks_of, same_self}
-use Rattle.cluster_rules.proofs.Letters.{letters_of, letters_on, amount_of, without_some, letter_sent, letter_taken}
+use Rattle.cluster_rules.proofs.Marks.{one, many, named, many_append, marks, parked_marks, other_marks, marks_of, same_self}
+use Rattle.cluster_rules.proofs.Letters.{letters_of, letters_on, amount_of, letter_sent, letter_taken}
 use Rattle.cluster_rules.proofs.Passing.{closure_marks}
-use Rattle.cluster_rules.proofs.Holding.{at_node, in_message, held, held_once}
+use Rattle.cluster_rules.proofs.Holding.{at_node, in_message, held_once}
 use Rattle.cluster_edges.specs.Stages.{frame_in}
-use Rattle.cluster_edges.proofs.Ties.{Each}
 use Rattle.cluster_edges.proofs.Longer.{leaves, each_all}
 use Rattle.cluster_edges.proofs.Leaving.{NoneLeaves}
 use Rattle.cluster_edges.proofs.Tying.{NoneParkedLeaves, LonelyAt, Lonely}

@@ -1,24 +1,23 @@
 -- Where a join is complete, each child that was separated from its frame has told its return to it.
-use Rattle.std.proofs.Common.{◌≡◌, ◌⊎◌, inl, inr, ℕ, ℤ, List, [], ◌∷◌, ◌++◌, Option, Some, None, Bool, true, false, cond, eqb, ◌&&◌, ◌||◌, refl, sym, ◌∙◌, ap, subst, arith}
+use Rattle.std.proofs.Common.{◌≡◌, ◌⊎◌, inl, inr, ℕ, ℤ, List, [], ◌∷◌, Some, None, Bool, true, false, cond, eqb, ◌&&◌, ◌||◌, refl, sym, ◌∙◌, subst, arith}
 use Rattle.std.proofs.lemmas.Bool.Decides.{nat_tests}
 use Rattle.std.specs.Prelude.{is_some}
 use Rattle.std.specs.List.{list_any, list_all}
 use Rattle.page_messages.specs.declared.closure.FrameId.{FrameId}
 use Rattle.page_messages.specs.declared.closure.JoinId.{JoinId}
 use Rattle.page_messages.specs.declared.closure.Child.{Child}
-use Rattle.page_messages.specs.declared.closure.Closure.{Closure}
 use Rattle.page_messages.specs.declared.message.Msg.{Msg}
 use Rattle.page_messages.specs.declared.message.Body.{Body}
 use Rattle.page_messages.specs.declared.message.Body.TheVariants as body
 use Rattle.page_messages.specs.declared.log.PostAt.{PostAt}
 use Rattle.cluster_rules.specs.Turns.{Event, Did, Sent, Took, Ended, Past}
-use Rattle.cluster_rules.specs.Lives.{Life, same_join}
+use Rattle.cluster_rules.specs.Lives.{same_join}
 use Rattle.cluster_rules.specs.Frames.{Frames, Parked, done_in, done_by, is_done, is_complete, joined, all_joined, still_parked, with_joined}
 use Rattle.cluster_rules.specs.Positions.{Moved, Course, own}
 use Rattle.cluster_rules.specs.Runs.{Cluster, node_at}
 use Rattle.cluster_rules.proofs.Settling.{both_true}
-use Rattle.cluster_rules.proofs.Stepping.{WasPosted, Carries, Step, Stepped}
-use Rattle.cluster_edges.proofs.Ties.{Each, Among, Born, Named, Gone, Told, Tie, tie_of, tie_in, IsNoted, Fits, Lying, Waiting, AllLying, AllWaiting, Keeps, Returned, Saying}
+use Rattle.cluster_rules.proofs.Stepping.{WasPosted, Carries, Stepped}
+use Rattle.cluster_edges.proofs.Ties.{Among, Born, Told, tie_of, IsNoted, Lying, Waiting, AllLying, AllWaiting, Keeps, Returned, Saying}
 use Rattle.cluster_edges.proofs.Granting.{same_join_is}
 use Rattle.cluster_edges.proofs.Stacks.{lying_append}
 

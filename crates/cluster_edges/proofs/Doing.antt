@@ -1,5 +1,5 @@
 -- What frames keep as their node does an item.
-use Rattle.std.proofs.Common.{◌≡◌, ◌≢◌, ◌⊎◌, inl, inr, ◌<◌, ◌+◌, ℕ, ℤ, List, [], ◌∷◌, ◌++◌, Option, Some, None, Bool, true, false, cond, eqb, refl, sym, ◌∙◌, ap, subst, arith}
+use Rattle.std.proofs.Common.{◌≡◌, ◌⊎◌, inl, inr, ◌<◌, ℕ, ℤ, List, ◌∷◌, None, Bool, true, false, cond, refl, sym, ◌∙◌, ap, subst, arith}
 use Rattle.cilk_meaning.specs.Wants.{Done as DoneAnswer}
 use Rattle.page_messages.specs.declared.closure.FrameId.{FrameId}
 use Rattle.page_messages.specs.declared.message.Msg.{Msg}
@@ -13,14 +13,13 @@ use Rattle.cluster_rules.specs.Node.{Node}
 use Rattle.cluster_rules.specs.Home.{owed_adds}
 use Rattle.cluster_rules.specs.Lives.{Life, same_frame, live, added, after_act}
 use Rattle.cluster_rules.specs.Frames.{Frames, Parked, with_stack, taken_up, frames_item, frames_of, stack_of, next_frame, spawns_on}
-use Rattle.cluster_rules.specs.Acting.{Acts, MaySpawn, MayMake, MayAct}
-use Rattle.cluster_rules.specs.Paging.{MayTakeUp}
+use Rattle.cluster_rules.specs.Acting.{MayMake, MayAct}
 use Rattle.cluster_rules.specs.Positions.{Moved, Course, own}
 use Rattle.cluster_rules.specs.Runs.{Cluster, node_at, IsFree, IsOwed, MayDo}
 use Rattle.cluster_rules.proofs.Marks.{same_self, first_is}
 use Rattle.cluster_order.proofs.Between.{own_first}
 use Rattle.cluster_edges.specs.Stages.{takes_up}
-use Rattle.cluster_edges.proofs.Ties.{Born, Known, gone_on, Gone, Parking, Tie, tie_of, Standing, Lying, Stacked, AllLying, AllWaiting, Keeps, Tied}
+use Rattle.cluster_edges.proofs.Ties.{Known, gone_on, Gone, Parking, tie_of, Standing, Lying, Stacked, AllLying, AllWaiting, Keeps, Tied}
 use Rattle.cluster_edges.proofs.Longer.{leaves, Apart, apart_if}
 use Rattle.cluster_edges.proofs.Stacks.{live_stacked, answered_stacked, added_stacked, Acting, acted_stacked}
 

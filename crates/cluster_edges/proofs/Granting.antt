@@ -1,5 +1,5 @@
 -- A Grant names a join for its frame, or goes by the one that the frame has. So each join stays the one of its frame.
-use Rattle.std.proofs.Common.{◌≡◌, ◌≢◌, ◌⊎◌, inl, inr, ◌<◌, ◌≤◌, ◌+◌, ℕ, suc, List, [], ◌∷◌, ◌++◌, Option, Some, None, Bool, true, false, cond, eqb, ◌&&◌, refl, sym, ◌∙◌, ap, subst, arith}
+use Rattle.std.proofs.Common.{◌≡◌, ◌⊎◌, inl, inr, ◌<◌, ℕ, List, [], ◌∷◌, ◌++◌, Option, Some, None, Bool, true, false, cond, eqb, refl, sym, ◌∙◌, ap, subst, arith}
 use Rattle.std.proofs.lemmas.Bool.Decides.{nat_tests}
 use Rattle.page_messages.specs.declared.closure.FrameId.{FrameId}
 use Rattle.page_messages.specs.declared.closure.JoinId.{JoinId}
@@ -13,7 +13,7 @@ use Rattle.cluster_rules.specs.Node.{Node}
 use Rattle.cluster_rules.specs.Home.{replies_in}
 use Rattle.cluster_rules.specs.Lives.{Life, same_join}
 use Rattle.cluster_rules.specs.Frames.{frames_of, stack_of, next_join, needs_join, joins_sent, joins_on}
-use Rattle.cluster_rules.specs.Edges.{join_for, parted, MayGrant}
+use Rattle.cluster_rules.specs.Edges.{join_for, MayGrant}
 use Rattle.cluster_rules.specs.Positions.{Moved, Course, own}
 use Rattle.cluster_rules.specs.Runs.{Cluster, node_at, MayPost, MaySend}
 use Rattle.cluster_rules.specs.Allowed.{IsAllowed}

@@ -1,10 +1,8 @@
 -- A parked frame becomes ready only where each child that was separated from it has told its return to its join.
-use Rattle.std.proofs.Common.{◌≡◌, ◌≢◌, ◌⊎◌, inl, inr, ◌<◌, ◌≤◌, ◌+◌, ℕ, zero, suc, ℤ, List, [], ◌∷◌, ◌++◌, Option, Some, None, Bool, true, false, cond, eqb, leb, ◌||◌, length, refl, sym, ◌∙◌, ap, subst, arith}
+use Rattle.std.proofs.Common.{◌≡◌, ◌≢◌, ◌⊎◌, inl, inr, ◌<◌, ◌≤◌, ℕ, zero, suc, List, [], ◌∷◌, Option, Some, None, Bool, true, false, cond, eqb, leb, ◌||◌, length, refl, sym, ◌∙◌, ap, subst, arith}
 use Rattle.std.proofs.lemmas.Bool.Decides.{nat_tests}
 use Rattle.std.specs.List.{list_any}
 use Rattle.page_messages.specs.declared.closure.FrameId.{FrameId}
-use Rattle.page_messages.specs.declared.closure.JoinId.{JoinId}
-use Rattle.page_messages.specs.declared.closure.Closure.{Closure}
 use Rattle.page_messages.specs.declared.message.Msg.{Msg}
 use Rattle.page_messages.specs.declared.message.Body.{Body}
 use Rattle.page_messages.specs.declared.message.Body.TheVariants as body
@@ -24,15 +22,15 @@ use Rattle.backer_order.specs.Log as log
 use Rattle.backer_order.specs.Log.{Events, Post, Park}
 use Rattle.backer_order.specs.Edges as edge
 use Rattle.backer_order.specs.Edges.{Stacks, away_after, HasDone}
-use Rattle.backer_order.specs.Ready.{Stage, Flying, Ready, Up, Stages}
-use Rattle.cluster_order.specs.Reading.{note_of, item_of, happens_to, event_of, events_of}
+use Rattle.backer_order.specs.Ready.{Stage, Flying, Ready, Stages}
+use Rattle.cluster_order.specs.Reading.{note_of, happens_to, event_of, events_of}
 use Rattle.cluster_order.specs.Standing.{first, stacks_of}
 use Rattle.cluster_order.proofs.Growing.{within, before_grown, before_last, before_behind, at_behind, at_last}
-use Rattle.cluster_order.proofs.Events.{event_at, Found, posted_is, park_is}
+use Rattle.cluster_order.proofs.Events.{event_at, posted_is, park_is}
 use Rattle.cluster_edges.specs.Stages.{frame_in, takes_up, since_position, stage_on, stage_of, stage_sent, stage_by, stages_of}
-use Rattle.cluster_edges.proofs.Firsts.{first_before, first_next, first_stays, first_grown, at_first, at_whole, before_position, stepped_first}
+use Rattle.cluster_edges.proofs.Firsts.{first_next, first_stays, first_grown, at_first, at_whole, before_position, stepped_first}
 use Rattle.cluster_edges.proofs.OnePlace.{no_past, less_or_not}
-use Rattle.cluster_edges.proofs.Ties.{Among, gone_on, gone_item, gone_body, Gone, Tells, Told, Parks, Parking, tie_of, IsNoted, Lying, AllLying, Keeps, Tied}
+use Rattle.cluster_edges.proofs.Ties.{Among, gone_on, gone_item, gone_body, Gone, Tells, Told, Parks, Parking, tie_of, IsNoted, Lying, AllLying, Tied}
 use Rattle.cluster_edges.proofs.Tying.{tied_all}
 use Rattle.cluster_edges.proofs.Births.{bears_once}
 use Rattle.cluster_edges.proofs.Alone.{lonely}

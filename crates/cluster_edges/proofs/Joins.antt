@@ -1,25 +1,23 @@
 -- Laws of joins in every run: the frame that waits at a join stays the same, a child that was separated was spawned by its frame, and so was
 -- one that tells its return to it.
-use Rattle.std.proofs.Common.{◌≡◌, ◌⊎◌, inl, inr, ◌<◌, ℕ, List, [], ◌∷◌, ◌++◌, Option, Some, None, refl, sym, ◌∙◌, ap, subst}
+use Rattle.std.proofs.Common.{◌≡◌, ◌⊎◌, inl, inr, ◌<◌, ℕ, List, [], ◌∷◌, ◌++◌, sym, ◌∙◌, ap, subst}
 use Rattle.page_messages.specs.declared.closure.FrameId.{FrameId}
 use Rattle.page_messages.specs.declared.closure.JoinId.{JoinId}
-use Rattle.page_messages.specs.declared.log.LoggedAct.TheVariants as act
-use Rattle.page_messages.specs.declared.log.Item.TheVariants as item
-use Rattle.cluster_rules.specs.Turns.{WholeTurn, Did, Sent}
+use Rattle.cluster_rules.specs.Turns.{WholeTurn}
 use Rattle.cluster_rules.specs.Frames.{stack_of}
-use Rattle.cluster_rules.specs.Positions.{Moved, Course, course_of, own, at, before}
+use Rattle.cluster_rules.specs.Positions.{Moved, Course, course_of, own, before}
 use Rattle.cluster_rules.specs.Runs.{Cluster, IsLawful, node_at}
 use Rattle.cluster_rules.proofs.Stepping.{Stepped, lawful_stepped}
 use Rattle.backer_order.specs.Log as log
 use Rattle.backer_order.specs.Log.{Events, Acts, Post, Done}
 use Rattle.backer_order.specs.Edges as edge
 use Rattle.backer_order.specs.Edges.{Stacks}
-use Rattle.cluster_order.specs.Reading.{frame_of, bottom_of, note_of, happens_to, events_of}
+use Rattle.cluster_order.specs.Reading.{frame_of, bottom_of, happens_to, events_of}
 use Rattle.cluster_order.specs.Standing.{first, stacks_of}
 use Rattle.cluster_order.proofs.Growing.{Grown}
 use Rattle.cluster_order.proofs.Events.{event_at, posted_is, done_is}
 use Rattle.cluster_edges.proofs.Firsts.{first_before, at_whole, before_position, stepped_first, step_at}
-use Rattle.cluster_edges.proofs.Ties.{Born, Named, Gone, HasParent}
+use Rattle.cluster_edges.proofs.Ties.{Born, Named, Gone}
 use Rattle.cluster_edges.proofs.Longer.{Separates, gone_or}
 use Rattle.cluster_edges.proofs.Granting.{granted, named_stays}
 use Rattle.cluster_edges.proofs.Leaving.{above_is, frame_named, done_parent}

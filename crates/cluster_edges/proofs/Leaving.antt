@@ -1,30 +1,28 @@
 -- What frames keep as one of them leaves its node by a Grant or a Park, and what a Done says.
-use Rattle.std.proofs.Common.{◌≡◌, ◌≢◌, ◌⊎◌, inl, inr, ◌<◌, ◌+◌, ℕ, ℤ, List, [], ◌∷◌, ◌++◌, Option, Some, None, Bool, true, false, cond, eqb, refl, sym, ◌∙◌, ap, subst, arith}
+use Rattle.std.proofs.Common.{◌≡◌, ◌⊎◌, inl, inr, ℕ, ℤ, List, [], ◌∷◌, ◌++◌, Option, Some, None, true, refl, sym, ◌∙◌, ap, subst}
 use Rattle.std.specs.Prelude.{map}
 use Rattle.page_messages.specs.declared.closure.FrameId.{FrameId}
 use Rattle.page_messages.specs.declared.closure.JoinId.{JoinId}
 use Rattle.page_messages.specs.declared.closure.Child.{Child}
-use Rattle.page_messages.specs.declared.closure.Link.{Link}
-use Rattle.page_messages.specs.declared.closure.Link.TheVariants.{Root, Here, Away}
+use Rattle.page_messages.specs.declared.closure.Link.TheVariants.{Away}
 use Rattle.page_messages.specs.declared.closure.Closure.{Closure}
 use Rattle.page_messages.specs.declared.message.Msg.{Msg}
-use Rattle.page_messages.specs.declared.message.Body.{Body}
 use Rattle.page_messages.specs.declared.message.Body.TheVariants as body
-use Rattle.cluster_rules.specs.Walking.{given, or_else, last_of}
-use Rattle.cluster_rules.specs.Turns.{Event, Sent, Past}
+use Rattle.cluster_rules.specs.Walking.{given, or_else}
+use Rattle.cluster_rules.specs.Turns.{Sent, Past}
 use Rattle.cluster_rules.specs.Node.{Node}
 use Rattle.cluster_rules.specs.Home.{replies_in}
-use Rattle.cluster_rules.specs.Lives.{Life, live, without_bottom, link_to, main_id}
+use Rattle.cluster_rules.specs.Lives.{Life, without_bottom, link_to, main_id}
 use Rattle.cluster_rules.specs.Frames.{frames_of, stack_of}
-use Rattle.cluster_rules.specs.Edges.{IsClosure, parted, join_for, MayGrant, MayDone, MayPark}
+use Rattle.cluster_rules.specs.Edges.{IsClosure, parted, MayDone, MayPark}
 use Rattle.cluster_rules.specs.Positions.{Moved, Course, own}
 use Rattle.cluster_rules.specs.Runs.{Cluster, node_at, MayPost}
 use Rattle.cluster_rules.proofs.Marks.{bottom_gone}
 use Rattle.cluster_rules.proofs.Stepping.{Step}
 use Rattle.backer_order.specs.Log as log
 use Rattle.cluster_order.specs.Reading.{granted_for, grants_in, grants_by, note_of, frame_of, id_of, bottom_of}
-use Rattle.cluster_edges.proofs.Ties.{Each, Among, Born, Named, Known, Above, gone_body, gone_on, Gone, Told, Parking, Tie, tie_of, tie_in, HasParent, IsNoted, Fits, Standing, Waiting, OnTop, Stacked, Keeps, Returned, Tied}
-use Rattle.cluster_edges.proofs.Longer.{leaves, known_more, Apart, apart_if, parent_more, waits_more, noted_more, fits_more, standing_more, on_top_more}
+use Rattle.cluster_edges.proofs.Ties.{Each, Among, Born, Named, Known, Above, gone_body, gone_on, Gone, Told, Parking, tie_of, tie_in, HasParent, IsNoted, Fits, Standing, Waiting, OnTop, Stacked, Keeps, Returned, Tied}
+use Rattle.cluster_edges.proofs.Longer.{leaves, known_more, Apart, apart_if, parent_more, fits_more, standing_more}
 use Rattle.cluster_edges.proofs.Granting.{same_join_self, Granted, granted, named_stays, sent_may}
 use Rattle.cluster_edges.proofs.Stacks.{live_stacked, last_stacked}
 

@@ -1,5 +1,5 @@
 -- What is known of frames stays so behind one event more.
-use Rattle.std.proofs.Common.{◌≡◌, ◌≢◌, ◌⊎◌, inl, inr, ◌<◌, ◌≤◌, ◌+◌, ℕ, List, [], ◌∷◌, Option, Some, None, Bool, true, false, cond, eqb, refl, sym, ◌∙◌, ap, subst, arith}
+use Rattle.std.proofs.Common.{◌≡◌, ◌⊎◌, inl, inr, ◌<◌, ◌≤◌, ℕ, List, [], ◌∷◌, Option, Some, None, Bool, true, false, cond, eqb, refl, ◌∙◌, ap, arith}
 use Rattle.page_messages.specs.declared.closure.FrameId.{FrameId}
 use Rattle.page_messages.specs.declared.closure.JoinId.{JoinId}
 use Rattle.page_messages.specs.declared.closure.Child.{Child}
@@ -14,11 +14,11 @@ use Rattle.page_messages.specs.declared.log.Item.TheVariants as item
 use Rattle.cluster_rules.specs.Turns.{Event, Did, Sent, Took, Ended, Past}
 use Rattle.cluster_rules.specs.Node.{Node}
 use Rattle.cluster_rules.specs.Lives.{Life}
-use Rattle.cluster_rules.specs.Frames.{Parked, stack_of, next_frame, next_join, spawns_on, joins_on}
+use Rattle.cluster_rules.specs.Frames.{Parked, stack_of, next_frame, next_join}
 use Rattle.cluster_rules.specs.Positions.{Moved, Course, own}
 use Rattle.cluster_rules.specs.Runs.{Cluster, node_at}
 use Rattle.cluster_edges.specs.Stages.{frame_in}
-use Rattle.cluster_edges.proofs.Ties.{Each, Among, Born, Named, Known, Above, gone_body, gone_act, gone_item, gone_on, Gone, Told, Parks, Parking, Tie, tie_of, tie_in, HasParent, IsNoted, Fits, Standing, Lying, Waiting, OnTop, Stacked, AllLying, AllWaiting, Returned, Saying}
+use Rattle.cluster_edges.proofs.Ties.{Each, Named, Known, Above, gone_body, gone_act, gone_item, gone_on, Gone, Told, Parking, Tie, tie_of, tie_in, HasParent, IsNoted, Fits, Standing, Lying, Waiting, OnTop, Stacked, AllLying, AllWaiting, Returned, Saying}
 
 -- ---- names
 

@@ -1,18 +1,15 @@
 -- What frames keep on a stack and on a ready list, as these change.
-use Rattle.std.proofs.Common.{◌≡◌, ◌⊎◌, inl, inr, ℕ, ℤ, suc, List, [], ◌∷◌, ◌++◌, Option, Some, None, refl, sym, ◌∙◌, ap, subst}
+use Rattle.std.proofs.Common.{◌≡◌, ℕ, ℤ, List, [], ◌∷◌, ◌++◌, Option, Some, None, subst}
 use Rattle.cilk_meaning.specs.Wants.{Deposit, Answer}
 use Rattle.page_messages.specs.declared.closure.FrameId.{FrameId}
-use Rattle.page_messages.specs.declared.closure.JoinId.{JoinId}
-use Rattle.page_messages.specs.declared.closure.Link.{Link}
-use Rattle.page_messages.specs.declared.closure.Link.TheVariants.{Here, Away}
 use Rattle.page_messages.specs.declared.log.LoggedAct.{LoggedAct}
 use Rattle.page_messages.specs.declared.log.LoggedAct.TheVariants as act
 use Rattle.cluster_rules.specs.Walking.{with_first, last_of}
 use Rattle.cluster_rules.specs.Node.{Node}
-use Rattle.cluster_rules.specs.Lives.{Life, returned, with_kept, live_from, live, answered, added, acted, newborn, after_act, link_to}
+use Rattle.cluster_rules.specs.Lives.{Life, returned, with_kept, live_from, live, answered, added, acted, newborn, after_act}
 use Rattle.cluster_rules.specs.Positions.{Course}
 use Rattle.cluster_rules.specs.Runs.{Cluster}
-use Rattle.cluster_edges.proofs.Ties.{Each, Among, Born, Known, Gone, Parking, Tie, tie_of, Fits, Standing, Lying, OnTop, Stacked, AllLying}
+use Rattle.cluster_edges.proofs.Ties.{Born, Known, Gone, Parking, Tie, tie_of, Standing, Lying, Stacked, AllLying}
 
 module _ (cluster : Cluster) (course : Course) where
   -- ---- returned frames go

@@ -1,6 +1,6 @@
 -- What binds frames to each other across nodes: who bore whom, which frame waits at a join, which children were separated from it, which
 -- of them have told their return. What each frame of a cluster keeps of that, wherever it is.
-use Rattle.std.proofs.Common.{◌≡◌, ◌≢◌, ◌⊎◌, ◌<◌, ℕ, ℤ, List, [], ◌∷◌, ◌++◌, Option, Some, None, Bool, false}
+use Rattle.std.proofs.Common.{◌≡◌, ◌≢◌, ◌⊎◌, ◌<◌, ℕ, ℤ, List, [], ◌∷◌, Option, Some, false}
 use Rattle.std.specs.Prelude.{map}
 use Rattle.std.specs.List.{list_any}
 use Rattle.page_messages.specs.declared.closure.FrameId.{FrameId}

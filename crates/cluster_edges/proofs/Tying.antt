@@ -1,28 +1,25 @@
 -- What frames keep of their parents and children, through all events of a cluster.
-use Rattle.std.proofs.Common.{◌≡◌, ◌≢◌, ◌⊎◌, inl, inr, ◌<◌, ◌+◌, ℕ, ℤ, List, [], ◌∷◌, ◌++◌, Option, Some, None, Bool, true, false, cond, eqb, ◌||◌, refl, sym, ◌∙◌, ap, subst, arith}
+use Rattle.std.proofs.Common.{◌≡◌, ◌⊎◌, inl, inr, ◌<◌, ℕ, List, [], ◌∷◌, ◌++◌, Option, Some, None, Bool, true, false, cond, eqb, ◌||◌, refl, sym, ◌∙◌, ap, subst, arith}
 use Rattle.std.proofs.lemmas.Bool.Decides.{nat_tests}
 use Rattle.std.specs.List.{list_any}
 use Rattle.page_messages.specs.declared.closure.FrameId.{FrameId}
-use Rattle.page_messages.specs.declared.closure.JoinId.{JoinId}
-use Rattle.page_messages.specs.declared.closure.Closure.{Closure}
 use Rattle.page_messages.specs.declared.message.Msg.{Msg}
 use Rattle.page_messages.specs.declared.message.Body.{Body}
 use Rattle.page_messages.specs.declared.message.Body.TheVariants as body
-use Rattle.page_messages.specs.declared.log.Item.{Item}
 use Rattle.page_messages.specs.declared.log.PostAt.{PostAt}
 use Rattle.cluster_rules.specs.Turns.{Event, Did, Sent, Took, Ended, Past}
 use Rattle.cluster_rules.specs.Node.{Node}
-use Rattle.cluster_rules.specs.Lives.{Life, same_frame, main_life, main_id, live, without_bottom, carried}
-use Rattle.cluster_rules.specs.Frames.{Frames, Parked, with_stack, stack_sent, with_joined, frames_took, frames_on, frames_of, stack_of, next_frame}
+use Rattle.cluster_rules.specs.Lives.{Life, same_frame, main_life, live, without_bottom, carried}
+use Rattle.cluster_rules.specs.Frames.{Frames, Parked, with_stack, stack_sent, with_joined, frames_took, frames_on, frames_of, next_frame}
 use Rattle.cluster_rules.specs.Positions.{Moved, Course, own}
 use Rattle.cluster_rules.specs.Runs.{Cluster, node_at}
 use Rattle.cluster_rules.specs.Allowed.{IsAllowed, DoesItem}
 use Rattle.cluster_rules.proofs.Marks.{same_self, same_name}
-use Rattle.cluster_rules.proofs.Stepping.{IsPost, WasPosted, takes_place, Carries, Takes, Step, Stepped}
+use Rattle.cluster_rules.proofs.Stepping.{WasPosted, takes_place, Carries, Takes, Stepped}
 use Rattle.cluster_order.proofs.Between.{own_first, own_other}
 use Rattle.cluster_edges.specs.Stages.{frame_in}
-use Rattle.cluster_edges.proofs.Ties.{Each, Born, Known, Gone, Parking, Tie, tie_of, tie_in, Standing, Lying, Waiting, Stacked, AllLying, AllWaiting, Keeps, Carrying, Saying, Tied}
-use Rattle.cluster_edges.proofs.Longer.{leaves, known_more, join_more, Apart, apart_if, StaysNamed, fits_more, standing_more, waiting_more, stacked_more, all_lying_more, all_waiting_more, saying_more, each_all, each_so}
+use Rattle.cluster_edges.proofs.Ties.{Each, Known, Gone, Parking, tie_of, tie_in, Standing, Waiting, Stacked, AllWaiting, Keeps, Carrying, Saying, Tied}
+use Rattle.cluster_edges.proofs.Longer.{leaves, known_more, Apart, apart_if, StaysNamed, standing_more, waiting_more, stacked_more, all_lying_more, all_waiting_more, saying_more, each_all, each_so}
 use Rattle.cluster_edges.proofs.Granting.{granted, named_stays, joins_more}
 use Rattle.cluster_edges.proofs.Stacks.{live_stacked, added_stacked, lying_append, standing_lies}
 use Rattle.cluster_edges.proofs.Completing.{BearsOnce, joined_keeps}
