@@ -79,7 +79,8 @@ done_said join index (body.Park other closure) is = absurd (cc)
 done_said join index (body.Add frame at word addend) is = absurd (cc)
 done_said join index (body.Added old) is = absurd (cc)
 
-done_event : (join : JoinId) (index : ℕ) (event : Event) → is_some (done_by join index event) ≡ true → (message : Msg) × (value : ℤ) × (event ≡ Took message) × (message.body ≡ body.Done join index value)
+done_event : (join : JoinId) (index : ℕ) (event : Event) → is_some (done_by join index event) ≡ true
+    → (message : Msg) × (value : ℤ) × (event ≡ Took message) × (message.body ≡ body.Done join index value)
 done_event join index (Did item) is = absurd (cc)
 done_event join index (Sent message) is = absurd (cc)
 done_event join index (Took message) is = let it = done_said join index message.body is in (message, it.0, refl, it.1)
@@ -92,7 +93,7 @@ abbrev pub BearsOnce : Course → Type 0
 BearsOnce course = (parent : FrameId) (index : ℕ) (child other : FrameId) → Born parent index child course → Born parent index other course → child ≡ other
 
 module _ (cluster : Cluster) (course : Course) (stepped : Stepped cluster course) (once : BearsOnce course)
-  (says : (place : PostAt) (message : Msg) → WasPosted course place message → Saying cluster course message.body) (number : ℕ) where
+    (says : (place : PostAt) (message : Msg) → WasPosted course place message → Saying cluster course message.body) (number : ℕ) where
   done_returned : (join : JoinId) (entry : Child) → is_done join (own number course) entry ≡ true → Returned cluster course join entry.index
   done_returned join entry is =
       let found = among_any (λ event. is_some (done_by join entry.index event)) (own number course) is in

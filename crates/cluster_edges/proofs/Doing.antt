@@ -55,8 +55,7 @@ module _ (cluster : Cluster) (moved : Moved) (course : Course) (tied : Tied clus
   acting (act.Spawn child procedure arguments) life is named counted makes =
       let born : moved.event ≡ Did (item.Act life.id life.acts (act.Spawn child procedure arguments)) =
       is ∙ (λ i. Did (item.Act (named i) (counted i) (act.Spawn child procedure arguments))) in
-      let apart : Apart cluster moved course child = stays_here cluster moved course tied (item.Act frame index (act.Spawn child procedure arguments)) is child in
-      (
+      let apart : Apart cluster moved course child = stays_here cluster moved course tied (item.Act frame index (act.Spawn child procedure arguments)) is child in (
         inl (procedure, arguments, born),
         child_known child procedure arguments is makes.name,
         λ other gone. new_child child makes.name (tied.gone child other (apart.gone other gone)),
@@ -68,7 +67,8 @@ module _ (cluster : Cluster) (moved : Moved) (course : Course) (tied : Tied clus
 -- ---- each item
 
 module _ (cluster : Cluster) (moved : Moved) (course : Course) (tied : Tied cluster course) where
-  stands_up : (frame : FrameId) (life : Life) → moved.event ≡ Did (item.TakeUp frame) → frame ≡ life.id → Lying cluster (moved ∷ course) (tie_of life) → Standing cluster (moved ∷ course) (tie_of life)
+  stands_up : (frame : FrameId) (life : Life) → moved.event ≡ Did (item.TakeUp frame) → frame ≡ life.id
+      → Lying cluster (moved ∷ course) (tie_of life) → Standing cluster (moved ∷ course) (tie_of life)
   stands_up frame life is named lying = record {
     fits = lying.fits;
     not_parked = λ parking. on parking;

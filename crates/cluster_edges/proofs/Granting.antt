@@ -92,7 +92,8 @@ sent_may cluster moved course step message said is says =
     let may : MaySend node past message = subst (λ event. IsAllowed node past event) is step.allowed in
     subst (λ it. (replies_in it ≡ true) ⊎ MayPost node past message.receiver it) says (may_post node past message may)
 
-grant_on : (node : Node) (past : Past) (receiver : ℕ) (closure : Closure) → (replies_in (body.Grant closure) ≡ true) ⊎ MayPost node past receiver (body.Grant closure) → MayGrant node past receiver closure
+grant_on : (node : Node) (past : Past) (receiver : ℕ) (closure : Closure) → (replies_in (body.Grant closure) ≡ true) ⊎ MayPost node past receiver (body.Grant closure)
+    → MayGrant node past receiver closure
 grant_on node past receiver closure (inl reply) = absurd (cc)
 grant_on node past receiver closure (inr may) = may
 
@@ -110,7 +111,8 @@ last_two (life ∷ (second ∷ above)) child parent = last_two (second ∷ above
 
 -- ---- the join of a Grant
 
-join_is : (node : Node) (past : Past) (has : Option JoinId) (join : JoinId) → join_for node past has ≡ Some join → (has ≡ Some join) ⊎ ((has ≡ None) × (join ≡ record { node = node.me; number = next_join node past }))
+join_is : (node : Node) (past : Past) (has : Option JoinId) (join : JoinId) → join_for node past has ≡ Some join
+    → (has ≡ Some join) ⊎ ((has ≡ None) × (join ≡ record { node = node.me; number = next_join node past }))
 join_is node past (Some other) join is = inl is
 join_is node past None join is = inr (refl, cc)
 

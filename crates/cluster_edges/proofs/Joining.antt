@@ -43,7 +43,7 @@ tied cluster course stepped = tied_all cluster (bears_once cluster) (lonely clus
 -- ---- separated children
 
 module _ (cluster : Cluster) (stack : Stacks) (now : ℕ) (course earlier : Course) (node : ℕ) (IsAway IsGone : FrameId → FrameId → Type 0) (frame child : FrameId)
-  (so : IsAway frame child → IsGone frame child) (stack_is : stack now node ≡ stacks_of cluster course now node) where
+    (so : IsAway frame child → IsGone frame child) (stack_is : stack now node ≡ stacks_of cluster course now node) where
   gone_act : (done : LoggedAct) (actor : FrameId) (index : ℕ) → away_after stack now (happens_to cluster earlier node None (Did (item.Act actor index done))) IsAway frame child
       → gone_item (item.Act actor index done) IsGone frame child
   gone_act (act.Read word value) actor index away = so away
@@ -100,7 +100,8 @@ away_gone cluster course (suc now) frame child away = on (at course now) refl (a
         let is = event_at cluster course now moved found in
         let after = subst (λ event. away_after (stacks_of cluster course) now event (edge.Away (events_of cluster course) (stacks_of cluster course) now) frame child) is away in
         subst (λ it. Gone cluster it frame child) (sym (first_next course now moved found))
-        (gone_event cluster (stacks_of cluster course) now course (before course now) moved.node (edge.Away (events_of cluster course) (stacks_of cluster course) now) (Gone cluster (first now course))
+        (gone_event cluster (stacks_of cluster course) now course (before course now) moved.node
+        (edge.Away (events_of cluster course) (stacks_of cluster course) now) (Gone cluster (first now course))
         frame child so refl moved.event moved.message after)
 
 -- ---- told returns

@@ -51,7 +51,8 @@ gone_born_on cluster moved course stepped frame child (inr by) =
     let it = granted cluster moved course stepped.1 (tied cluster course stepped.0) by.message by.closure by.is by.says in
     let child_is = above_is (stack_of (node_at cluster moved.node) (own moved.node course)) it.may.above it.may.child it.may.parent frame child it.may.stack by.above in
     let frame_is : it.may.parent.id ≡ frame = sym it.may.state.id ∙ by.id_is in
-    (it.may.child.spawned.index, inr (subst (λ id. Born id it.may.child.spawned.index child course) frame_is (subst (λ id. Born it.may.parent.id it.may.child.spawned.index id course) child_is it.born)))
+    let born : Born it.may.parent.id it.may.child.spawned.index child course = subst (λ id. Born it.may.parent.id it.may.child.spawned.index id course) child_is it.born in
+    (it.may.child.spawned.index, inr (subst (λ id. Born id it.may.child.spawned.index child course) frame_is born))
 
 gone_born : (cluster : Cluster) (course : Course) → Stepped cluster course → (frame child : FrameId) → Gone cluster course frame child → (index : ℕ) × Born frame index child course
 gone_born cluster [] stepped frame child gone = absurd gone
@@ -111,9 +112,12 @@ module _ (cluster : Cluster) (turns : List WholeTurn) (lawful : IsLawful cluster
       let says = done_is cluster sender (before course post) frame child message.body posted.4 in
       let same = first_before course post found.moved found.is in
       let has =
-      done_parent cluster found.moved (first post course) (step_at cluster course post found.moved (lawful_stepped cluster turns lawful) found.is) (tied cluster (first post course) (stepped_now post))
+      done_parent cluster found.moved (first post course) (step_at cluster course post found.moved (lawful_stepped cluster turns lawful) found.is)
+      (tied cluster (first post course) (stepped_now post))
       message found.event_is says.0 says.1 says.2 says.3 in
       let parent : has.parent ≡ frame = sym (frame_named says.0 has.parent (first post course) has.named) ∙ ap (frame_of says.0) same ∙ says.4 in
-      let bottom : bottom_of cluster found.moved.node (first post course) ≡ child = ap (bottom_of cluster found.moved.node) same ∙ ap (λ number. bottom_of cluster number (before course post)) found.by ∙ says.5 in
-      let born : Born frame says.1 child (first post course) = subst (λ id. Born frame says.1 id (first post course)) bottom (subst (λ id. Born id says.1 (bottom_of cluster found.moved.node (first post course)) (first post course)) parent has.born) in
-      spawned_before post frame child (says.1, born)
+      let bottom : bottom_of cluster found.moved.node (first post course) ≡ child =
+      ap (bottom_of cluster found.moved.node) same ∙ ap (λ number. bottom_of cluster number (before course post)) found.by ∙ says.5 in
+      let at_bottom : FrameId = bottom_of cluster found.moved.node (first post course) in
+      let born : Born frame says.1 at_bottom (first post course) = subst (λ id. Born id says.1 at_bottom (first post course)) parent has.born in
+      spawned_before post frame child (says.1, subst (λ id. Born frame says.1 id (first post course)) bottom born)

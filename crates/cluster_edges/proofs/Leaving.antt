@@ -21,7 +21,8 @@ use Rattle.cluster_rules.proofs.Marks.{bottom_gone}
 use Rattle.cluster_rules.proofs.Stepping.{Step}
 use Rattle.backer_order.specs.Log as log
 use Rattle.cluster_order.specs.Reading.{granted_for, grants_in, grants_by, note_of, frame_of, id_of, bottom_of}
-use Rattle.cluster_edges.proofs.Ties.{Each, Among, Born, Named, Known, Above, gone_body, gone_on, Gone, Told, Parking, tie_of, tie_in, HasParent, IsNoted, Fits, Standing, Waiting, OnTop, Stacked, Keeps, Returned, Tied}
+use Rattle.cluster_edges.proofs.Ties.{Each, Among, Born, Named, Known, Above, gone_body, gone_on, Gone, Told, Parking}
+use Rattle.cluster_edges.proofs.Ties.{tie_of, tie_in, HasParent, IsNoted, Fits, Standing, Waiting, OnTop, Stacked, Keeps, Returned, Tied}
 use Rattle.cluster_edges.proofs.Longer.{leaves, known_more, Apart, apart_if, parent_more, fits_more, standing_more}
 use Rattle.cluster_edges.proofs.Granting.{same_join_self, Granted, granted, named_stays, sent_may}
 use Rattle.cluster_edges.proofs.Stacks.{live_stacked, last_stacked}
@@ -71,7 +72,8 @@ ids_append (life ∷ above) child parent = ap (λ it. life.id ∷ it) (ids_appen
 pub above_is : (stack above : List Life) (child parent : Life) (frame other : FrameId) → stack ≡ above ++ (child ∷ (parent ∷ [])) → Above stack frame other → child.id ≡ other
 above_is stack above child parent frame other is (front, bottom) =
     let some : Some child.id ≡ Some other =
-    sym (second_is (map (λ (life : Life). life.id) above) child.id parent.id) ∙ ap second_last (sym (ids_append above child parent)) ∙ ap (λ it. second_last (map (λ (life : Life). life.id) it)) (sym is)
+    sym (second_is (map (λ (life : Life). life.id) above) child.id parent.id) ∙ ap second_last (sym (ids_append above child parent))
+    ∙ ap (λ it. second_last (map (λ (life : Life). life.id) it)) (sym is)
     ∙ ap second_last bottom ∙ second_is front other frame in
     cc
 
@@ -91,7 +93,7 @@ abbrev pub NoneLeaves : Moved → List Life → Type 0
 NoneLeaves moved lives = Each (λ (life : Life). leaves moved.event ≡ Some life.id → ⊥) lives
 
 module _ (cluster : Cluster) (moved : Moved) (course : Course) (step : Step cluster course moved) (tied : Tied cluster course) (message : Msg) (closure : Closure)
-  (is : moved.event ≡ Sent message) (says : message.body ≡ body.Grant closure) (it : Granted cluster moved course message closure) where
+    (is : moved.event ≡ Sent message) (says : message.body ≡ body.Grant closure) (it : Granted cluster moved course message closure) where
   abbrev child : Life
   child = it.may.child
 
@@ -117,7 +119,9 @@ module _ (cluster : Cluster) (moved : Moved) (course : Course) (step : Step clus
   -- a child of it that was separated is the one directly above, or was separated before
   parted_gone : (other : FrameId) → Gone cluster (moved ∷ course) parent.id other → Gone cluster course parent.id other ⊎ Above (stack_of node past) parent.id other
   parted_gone other gone =
-      on (subst (λ said. gone_body said (stack_of node past) (Gone cluster course) parent.id other) says (subst (λ event. gone_on event (stack_of node past) (Gone cluster course) parent.id other) is gone))
+      on
+      (subst (λ said. gone_body said (stack_of node past) (Gone cluster course) parent.id other) says
+      (subst (λ event. gone_on event (stack_of node past) (Gone cluster course) parent.id other) is gone))
     where
       on : gone_body (body.Grant closure) (stack_of node past) (Gone cluster course) parent.id other → Gone cluster course parent.id other ⊎ Above (stack_of node past) parent.id other
       on (inl old) = inl old
@@ -210,7 +214,8 @@ park_on : (node : Node) (past : Past) (receiver : ℕ) (join : JoinId) (closure 
 park_on node past receiver join closure (inl reply) = absurd (cc)
 park_on node past receiver join closure (inr may) = may
 
-done_on : (node : Node) (past : Past) (receiver : ℕ) (join : JoinId) (index : ℕ) (value : ℤ) → (replies_in (body.Done join index value) ≡ true) ⊎ MayPost node past receiver (body.Done join index value)
+done_on : (node : Node) (past : Past) (receiver : ℕ) (join : JoinId) (index : ℕ) (value : ℤ)
+    → (replies_in (body.Done join index value) ≡ true) ⊎ MayPost node past receiver (body.Done join index value)
     → MayDone node past receiver join index value
 done_on node past receiver join index value (inl reply) = absurd (cc)
 done_on node past receiver join index value (inr may) = may

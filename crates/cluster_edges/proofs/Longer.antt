@@ -18,7 +18,8 @@ use Rattle.cluster_rules.specs.Frames.{Parked, stack_of, next_frame, next_join}
 use Rattle.cluster_rules.specs.Positions.{Moved, Course, own}
 use Rattle.cluster_rules.specs.Runs.{Cluster, node_at}
 use Rattle.cluster_edges.specs.Stages.{frame_in}
-use Rattle.cluster_edges.proofs.Ties.{Each, Named, Known, Above, gone_body, gone_act, gone_item, gone_on, Gone, Told, Parking, Tie, tie_of, tie_in, HasParent, IsNoted, Fits, Standing, Lying, Waiting, OnTop, Stacked, AllLying, AllWaiting, Returned, Saying}
+use Rattle.cluster_edges.proofs.Ties.{Each, Named, Known, Above, gone_body, gone_act, gone_item, gone_on, Gone, Told, Parking, Tie, tie_of}
+use Rattle.cluster_edges.proofs.Ties.{tie_in, HasParent, IsNoted, Fits, Standing, Lying, Waiting, OnTop, Stacked, AllLying, AllWaiting, Returned, Saying}
 
 -- ---- names
 

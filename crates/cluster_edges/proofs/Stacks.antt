@@ -16,7 +16,7 @@ module _ (cluster : Cluster) (course : Course) where
 
   live_on : (deposits : List Deposit) (life : Life) (below : List Life) (value : Option ℤ) → Stacked cluster course (life ∷ below)
       → ((given : List Deposit) → Stacked cluster course below → Stacked cluster course (live_from given below))
-      → Stacked cluster course (elim value [ | None ↦ with_kept deposits life ∷ below | Some it ↦ live_from ((life.spawned.target, it) ∷ []) below ])
+      → Stacked cluster course (elim value [ None ↦ with_kept deposits life ∷ below | Some it ↦ live_from ((life.spawned.target, it) ∷ []) below ])
   live_on deposits life below None stacked rest = stacked
   live_on deposits life below (Some it) stacked rest = rest ((life.spawned.target, it) ∷ []) stacked.2
 

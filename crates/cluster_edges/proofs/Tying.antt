@@ -69,21 +69,21 @@ module _ (cluster : Cluster) (moved : Moved) (course : Course) (stepped : Steppe
   stays : StaysNamed moved course
   stays = named_stays cluster moved course stepped.1 tied
 
+  apart_lives : (lives : List Life) → NoneLeaves moved lives → Each (λ (life : Life). Apart cluster moved course life.id) lives
+  apart_lives lives none =
+      each_so (λ (life : Life). leaves moved.event ≡ Some life.id → ⊥) (λ (life : Life). Apart cluster moved course life.id)
+      (λ life not. apart_if cluster moved course life.id not) lives none
+
+  apart_parked : (parked : List Parked) → NoneParkedLeaves moved parked → Each (λ (one : Parked). Apart cluster moved course one.closure.id) parked
+  apart_parked parked none =
+      each_so (λ (one : Parked). leaves moved.event ≡ Some one.closure.id → ⊥) (λ (one : Parked). Apart cluster moved course one.closure.id)
+      (λ one not. apart_if cluster moved course one.closure.id not) parked none
+
   keeps_more : (any : Frames) → LonelyAt moved any → Keeps cluster course any → Keeps cluster (moved ∷ course) any
   keeps_more any lonely keeps = record {
-    stack =
-        stacked_more cluster moved course stays any.stack
-        (each_so (λ (life : Life). leaves moved.event ≡ Some life.id → ⊥) (λ (life : Life). Apart cluster moved course life.id) (λ life not. apart_if cluster moved course life.id not) any.stack lonely.stack)
-        keeps.stack;
-    ready =
-        all_lying_more cluster moved course stays any.ready
-        (each_so (λ (life : Life). leaves moved.event ≡ Some life.id → ⊥) (λ (life : Life). Apart cluster moved course life.id) (λ life not. apart_if cluster moved course life.id not) any.ready lonely.ready)
-        keeps.ready;
-    parked =
-        all_waiting_more cluster moved course stays any.parked
-        (each_so (λ (one : Parked). leaves moved.event ≡ Some one.closure.id → ⊥) (λ (one : Parked). Apart cluster moved course one.closure.id)
-        (λ one not. apart_if cluster moved course one.closure.id not) any.parked lonely.parked)
-        keeps.parked;
+    stack = stacked_more cluster moved course stays any.stack (apart_lives any.stack lonely.stack) keeps.stack;
+    ready = all_lying_more cluster moved course stays any.ready (apart_lives any.ready lonely.ready) keeps.ready;
+    parked = all_waiting_more cluster moved course stays any.parked (apart_parked any.parked lonely.parked) keeps.parked;
   }
 
   -- where no frame leaves
@@ -240,7 +240,8 @@ module _ (cluster : Cluster) (moved : Moved) (course : Course) (stepped : Steppe
         let keeps = tied.nodes moved.node stepped.1.within in
         keeps_left (without_bottom closure.join frames.stack) lonely stacked keeps
       where
-        keeps_left : (stack : List Life) → LonelyAt moved (with_stack stack frames) → Stacked cluster (moved ∷ course) stack → Keeps cluster course frames → Keeps cluster (moved ∷ course) (with_stack stack frames)
+        keeps_left : (stack : List Life) → LonelyAt moved (with_stack stack frames) → Stacked cluster (moved ∷ course) stack
+            → Keeps cluster course frames → Keeps cluster (moved ∷ course) (with_stack stack frames)
         keeps_left stack lonely stacked keeps =
             let others = keeps_more (with_stack [] frames) (record { stack = tt; ready = lonely.ready; parked = lonely.parked }) (record { stack = tt; ready = keeps.ready; parked = keeps.parked }) in
             record { stack = stacked; ready = others.ready; parked = others.parked }
@@ -334,7 +335,8 @@ tied_first cluster = record {
 }
 
 -- So it is all along, where an act bears one child, and each frame is in one place.
-pub tied_all : (cluster : Cluster) → ((course : Course) → Stepped cluster course → BearsOnce course) → ((moved : Moved) (course : Course) → Stepped cluster (moved ∷ course) → Lonely cluster moved course)
+pub tied_all : (cluster : Cluster) → ((course : Course) → Stepped cluster course → BearsOnce course)
+    → ((moved : Moved) (course : Course) → Stepped cluster (moved ∷ course) → Lonely cluster moved course)
     → (course : Course) → Stepped cluster course → Tied cluster course
 tied_all cluster once lonely [] stepped = tied_first cluster
 tied_all cluster once lonely (moved ∷ course) stepped =
