@@ -11,13 +11,13 @@ use Rattle.page_messages.specs.declared.log.LoggedAct.TheVariants as act
 use Rattle.page_messages.specs.declared.log.Item.{Item}
 use Rattle.page_messages.specs.declared.log.Item.TheVariants as item
 use Rattle.page_messages.specs.declared.log.PostAt.{PostAt}
-use Rattle.cluster_rules.specs.Turns.{WholeTurn, Event, Did, Sent, Took, Ended}
+use Rattle.cluster_rules.specs.Turns.{Event, Did, Sent, Took, Ended}
 use Rattle.cluster_rules.specs.Lives.{Life, same_frame}
 use Rattle.cluster_rules.specs.Frames.{frames_of, stack_of}
-use Rattle.cluster_rules.specs.Positions.{Moved, Course, course_of, own, at, before}
-use Rattle.cluster_rules.specs.Runs.{Cluster, IsLawful, node_at}
+use Rattle.cluster_rules.specs.Positions.{Moved, Course, own, at, before}
+use Rattle.cluster_rules.specs.Runs.{Cluster, node_at}
 use Rattle.cluster_rules.proofs.Marks.{same_name}
-use Rattle.cluster_rules.proofs.Stepping.{Stepped, lawful_stepped}
+use Rattle.cluster_rules.proofs.Stepping.{Stepped}
 use Rattle.backer_order.specs.Log as log
 use Rattle.backer_order.specs.Log.{Events, Post, Park}
 use Rattle.backer_order.specs.Edges as edge
@@ -198,10 +198,7 @@ idle_ready cluster number = refl
 
 -- ---- every run
 
-module _ (cluster : Cluster) (turns : List WholeTurn) (lawful : IsLawful cluster turns) where
-  abbrev course : Course
-  course = course_of turns
-
+module _ (cluster : Cluster) (course : Course) (stepped : Stepped cluster course) where
   abbrev events : Events
   events = events_of cluster course
 
@@ -212,7 +209,7 @@ module _ (cluster : Cluster) (turns : List WholeTurn) (lawful : IsLawful cluster
   stage = stages_of cluster course
 
   stepped_now : (now : ℕ) → Stepped cluster (first now course)
-  stepped_now now = stepped_first cluster course now (lawful_stepped cluster turns lawful)
+  stepped_now now = stepped_first cluster course now stepped
 
   -- a frame on the ready list of a node
   ready_lies : (now node : ℕ) (frame : FrameId)

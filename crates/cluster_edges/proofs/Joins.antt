@@ -5,9 +5,9 @@ use Rattle.page_messages.specs.declared.closure.FrameId.{FrameId}
 use Rattle.page_messages.specs.declared.closure.JoinId.{JoinId}
 use Rattle.cluster_rules.specs.Turns.{WholeTurn}
 use Rattle.cluster_rules.specs.Frames.{stack_of}
-use Rattle.cluster_rules.specs.Positions.{Moved, Course, course_of, own, before}
-use Rattle.cluster_rules.specs.Runs.{Cluster, IsLawful, node_at}
-use Rattle.cluster_rules.proofs.Stepping.{Stepped, lawful_stepped}
+use Rattle.cluster_rules.specs.Positions.{Moved, Course, own, before}
+use Rattle.cluster_rules.specs.Runs.{Cluster, node_at}
+use Rattle.cluster_rules.proofs.Stepping.{Stepped}
 use Rattle.backer_order.specs.Log as log
 use Rattle.backer_order.specs.Log.{Events, Acts, Post, Done}
 use Rattle.backer_order.specs.Edges as edge
@@ -75,10 +75,7 @@ pub record SpawnedBefore (events : Events) (now : ℕ) (frame child : FrameId) :
   pub is : events at ≡ Acts node frame (log.Spawn child)
   pub before : at < now
 
-module _ (cluster : Cluster) (turns : List WholeTurn) (lawful : IsLawful cluster turns) where
-  abbrev course : Course
-  course = course_of turns
-
+module _ (cluster : Cluster) (course : Course) (stepped : Stepped cluster course) where
   abbrev events : Events
   events = events_of cluster course
 
@@ -86,7 +83,7 @@ module _ (cluster : Cluster) (turns : List WholeTurn) (lawful : IsLawful cluster
   stack = stacks_of cluster course
 
   stepped_now : (now : ℕ) → Stepped cluster (first now course)
-  stepped_now now = stepped_first cluster course now (lawful_stepped cluster turns lawful)
+  stepped_now now = stepped_first cluster course now stepped
 
   spawned_before : (now : ℕ) (frame child : FrameId) → (index : ℕ) × Born frame index child (first now course) → SpawnedBefore events now frame child
   spawned_before now frame child born =
@@ -112,7 +109,7 @@ module _ (cluster : Cluster) (turns : List WholeTurn) (lawful : IsLawful cluster
       let says = done_is cluster sender (before course post) frame child message.body posted.4 in
       let same = first_before course post found.moved found.is in
       let has =
-      done_parent cluster found.moved (first post course) (step_at cluster course post found.moved (lawful_stepped cluster turns lawful) found.is)
+      done_parent cluster found.moved (first post course) (step_at cluster course post found.moved stepped found.is)
       (tied cluster (first post course) (stepped_now post))
       message found.event_is says.0 says.1 says.2 says.3 in
       let parent : has.parent ≡ frame = sym (frame_named says.0 has.parent (first post course) has.named) ∙ ap (frame_of says.0) same ∙ says.4 in

@@ -23,3 +23,4 @@ pub mod Births
 pub mod Alone
 pub mod Joining
 pub mod Joins
+pub mod Readying
