@@ -1,9 +1,8 @@
 -- Laws of joins in every run: the frame that waits at a join stays the same, a child that was separated was spawned by its frame, and so was
 -- one that tells its return to it.
-use Rattle.std.proofs.Common.{◌≡◌, ◌⊎◌, inl, inr, ◌<◌, ℕ, List, [], ◌∷◌, ◌++◌, sym, ◌∙◌, ap, subst}
+use Rattle.std.proofs.Common.{◌≡◌, ◌⊎◌, inl, inr, ◌<◌, ℕ, [], ◌∷◌, ◌++◌, sym, ◌∙◌, ap, subst}
 use Rattle.page_messages.specs.declared.closure.FrameId.{FrameId}
 use Rattle.page_messages.specs.declared.closure.JoinId.{JoinId}
-use Rattle.cluster_rules.specs.Turns.{WholeTurn}
 use Rattle.cluster_rules.specs.Frames.{stack_of}
 use Rattle.cluster_rules.specs.Positions.{Moved, Course, own, before}
 use Rattle.cluster_rules.specs.Runs.{Cluster, node_at}
