@@ -1,5 +1,5 @@
 -- A frame that leaves its node is nowhere else.
-use Rattle.std.proofs.Common.{◌≡◌, ◌<◌, ◌+◌, ℕ, List, [], ◌∷◌, Option, Some, None, false, refl, sym, ◌∙◌, ap, arith}
+use Rattle.std.proofs.Common.{◌≡◌, ◌<◌, ◌+◌, ℕ, List, [], ◌∷◌, Option, Some, None, false, refl, sym, ◌∙◌, arith}
 use Rattle.std.specs.List.{list_any}
 use Rattle.page_messages.specs.declared.closure.FrameId.{FrameId}
 use Rattle.page_messages.specs.declared.message.Msg.{Msg}
@@ -13,19 +13,17 @@ use Rattle.cluster_rules.specs.Positions.{Moved, Course, own}
 use Rattle.cluster_rules.specs.Runs.{Cluster, node_at}
 use Rattle.cluster_rules.proofs.Stepping.{WasPosted, takes_place, Carries, Takes, Stepped}
 use Rattle.cluster_rules.proofs.Summing.{sum_one}
-use Rattle.cluster_rules.proofs.Marks.{one, many, named, many_append, marks, parked_marks, other_marks, marks_of, same_self}
+use Rattle.cluster_rules.proofs.Marks.{one, many, named, many_append, marks, parked_marks, other_marks, marks_of}
 use Rattle.cluster_rules.proofs.Letters.{letters_of, letters_on, amount_of, letter_sent, letter_taken}
 use Rattle.cluster_rules.proofs.Passing.{closure_marks}
 use Rattle.cluster_rules.proofs.Holding.{at_node, in_message, held_once}
 use Rattle.cluster_edges.specs.Stages.{frame_in}
+use Rattle.cluster_edges.proofs.Counted.{one_same}
 use Rattle.cluster_edges.proofs.Longer.{leaves, each_all}
 use Rattle.cluster_edges.proofs.Leaving.{NoneLeaves}
 use Rattle.cluster_edges.proofs.Tying.{NoneParkedLeaves, LonelyAt, Lonely}
 
 -- ---- counts
-
-one_same : (frame other : FrameId) → frame ≡ other → one (same_frame frame other) ≡ 1
-one_same frame other same = ap (λ it. one (same_frame it other)) same ∙ ap one (same_self other)
 
 brings_one : (frame : FrameId) (said : Body) → frame_in said ≡ Some frame → many (named frame) (closure_marks said) ≡ 1
 brings_one frame (body.Fetch page) is = absurd (cc)

@@ -18,8 +18,8 @@ use Rattle.cluster_rules.specs.Positions.{Moved, Course, own}
 use Rattle.cluster_rules.specs.Runs.{Cluster, node_at, MayPost, MaySend}
 use Rattle.cluster_rules.specs.Allowed.{IsAllowed}
 use Rattle.cluster_rules.proofs.Settling.{both_true}
-use Rattle.cluster_rules.proofs.Senders.{AreReplies, owed_replies}
 use Rattle.cluster_rules.proofs.Stepping.{Step}
+use Rattle.cluster_rules.proofs.Passing.{may_post}
 use Rattle.cluster_order.specs.Reading.{granted_for, grants_in, grants_by}
 use Rattle.cluster_order.proofs.Between.{own_first}
 use Rattle.cluster_edges.proofs.Ties.{Born, Named, tie_of, Standing, Stacked, Keeps, Tied}
@@ -79,10 +79,6 @@ grants_is join (Took message) frame is = absurd (cc)
 grants_is join (Ended end) frame is = absurd (cc)
 
 -- ---- what may be posted
-
-pub may_post : (node : Node) (past : Past) (message : Msg) → MaySend node past message → (replies_in message.body ≡ true) ⊎ MayPost node past message.receiver message.body
-may_post node past message (inl due) = inl ((subst (AreReplies node.me) due.1 (owed_replies node past)).1)
-may_post node past message (inr sends) = inr sends.may
 
 pub sent_may : (cluster : Cluster) (moved : Moved) (course : Course) → Step cluster course moved → (message : Msg) (said : Body) → moved.event ≡ Sent message → message.body ≡ said
     → (replies_in said ≡ true) ⊎ MayPost (node_at cluster moved.node) (own moved.node course) message.receiver said
