@@ -11,3 +11,4 @@ pub mod Firsts
 pub mod Saying
 pub mod Staging
 pub mod Rising
+pub mod Syncing
