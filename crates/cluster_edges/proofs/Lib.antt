@@ -12,3 +12,4 @@ pub mod Saying
 pub mod Staging
 pub mod Rising
 pub mod Syncing
+pub mod ReadyLists

@@ -183,7 +183,7 @@ module _ (cluster : Cluster) (course : Course) (stepped : Stepped cluster course
     event_at cluster course position moved found ∙ ap (λ event. happens_to cluster (before course position) moved.node moved.message event) syncing.is,
   )
 
-  since_here : (now : ℕ) (frame : FrameId) → GrantedSince events now frame → granted_here frame (first now course) ≡ true
+  pub since_here : (now : ℕ) (frame : FrameId) → GrantedSince events now frame → granted_here frame (first now course) ≡ true
   since_here now frame since =
       let it = posted_is cluster course since.post since.sender since.receiver (Grant frame) since.is in
       let found = it.2 in
