@@ -1,5 +1,5 @@
 -- What lawful turns keep: the rules for the ready list, where each frame that was sent is, and that a granted frame syncs from its join.
-use Rattle.std.proofs.Common.{◌≡◌, ◌≢◌, ◌⊎◌, inl, inr, ℕ, suc, ◌<◌, List, [], ◌∷◌, Option, Some, None, is_some, Bool, true, false, refl, sym, ◌∙◌, ap, subst}
+use Rattle.std.proofs.Common.{◌≡◌, ◌≢◌, ◌⊎◌, inl, inr, ℕ, suc, List, Option, None, is_some, true, false, ap}
 use Rattle.std.specs.List.{list_any}
 use Rattle.page_messages.specs.declared.closure.FrameId.{FrameId}
 use Rattle.page_messages.specs.declared.closure.JoinId.{JoinId}
@@ -13,14 +13,13 @@ use Rattle.cluster_rules.specs.Positions.{Course, course_of, own}
 use Rattle.cluster_rules.specs.Runs.{Cluster, node_at, IsLawful}
 use Rattle.cluster_rules.proofs.Stepping.{WasPosted, takes_place, Stepped, lawful_stepped}
 use Rattle.backer_order.specs.Log.{Events, Acts, Sync, Post, TakeUp, Park}
-use Rattle.backer_order.specs.Edges.{Stacks, Away, FromGrant, FromPark, Joined}
-use Rattle.backer_order.specs.Ready.{Stages, Ready, Up, Rises}
+use Rattle.backer_order.specs.Edges.{Away, FromGrant, FromPark, Joined}
+use Rattle.backer_order.specs.Ready.{Ready, Up, Rises}
 use Rattle.cluster_order.specs.Reading.{events_of}
 use Rattle.cluster_order.specs.Standing.{first, stacks_of}
 use Rattle.cluster_edges.specs.Stages.{stages_of}
-use Rattle.cluster_edges.proofs.News.{granted_here}
 use Rattle.cluster_edges.proofs.Through.{EachLife, EachParked, each_change, parked_change}
-use Rattle.cluster_edges.proofs.Placed.{OnStack, OnReady, AtJoin, Coming, Placed, Brought}
+use Rattle.cluster_edges.proofs.Placed.{OnStack, OnReady, AtJoin, Coming, Brought}
 use Rattle.cluster_edges.proofs.Bringing.{brought}
 use Rattle.cluster_edges.proofs.Firsts.{stepped_first}
 use Rattle.cluster_edges.proofs.Saying.{from_grant, from_park, from_join}

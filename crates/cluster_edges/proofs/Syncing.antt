@@ -1,35 +1,33 @@
 -- A frame that was granted since its last Sync comes to its next one from its join.
-use Rattle.std.proofs.Common.{◌≡◌, ◌≢◌, ◌⊎◌, inl, inr, ℕ, zero, suc, ◌+◌, ◌<◌, ◌≤◌, List, [], ◌∷◌, Option, Some, None, Bool, true, false, cond, eqb, length, refl, sym, ◌∙◌, ap, subst, arith}
+use Rattle.std.proofs.Common.{◌≡◌, ◌≢◌, ◌⊎◌, inl, inr, ℕ, zero, suc, ◌<◌, List, [], ◌∷◌, Some, None, Bool, true, false, cond, eqb, length, refl, sym, ◌∙◌, ap, subst, arith}
 use Rattle.std.proofs.lemmas.Bool.Decides.{nat_tests}
 use Rattle.page_messages.specs.declared.closure.FrameId.{FrameId}
-use Rattle.page_messages.specs.declared.closure.Closure.{Closure}
 use Rattle.page_messages.specs.declared.message.Msg.{Msg}
-use Rattle.page_messages.specs.declared.message.Body.TheVariants as body
 use Rattle.page_messages.specs.declared.log.LoggedAct.{LoggedAct}
 use Rattle.page_messages.specs.declared.log.LoggedAct.TheVariants as act
 use Rattle.page_messages.specs.declared.log.Item.{Item}
 use Rattle.page_messages.specs.declared.log.Item.TheVariants as item
 use Rattle.cluster_rules.specs.Turns.{Event, Did, Sent, Took, Ended, Past}
 use Rattle.cluster_rules.specs.Node.{Node}
-use Rattle.cluster_rules.specs.Lives.{Life, same_frame, live}
-use Rattle.cluster_rules.specs.Frames.{Frames, frames_of}
-use Rattle.cluster_rules.specs.Acting.{MayAct, MayMake, MaySync}
-use Rattle.cluster_rules.specs.Positions.{Moved, Course, own, at, before, Happens}
+use Rattle.cluster_rules.specs.Lives.{same_frame, live}
+use Rattle.cluster_rules.specs.Frames.{frames_of}
+use Rattle.cluster_rules.specs.Acting.{MayAct}
+use Rattle.cluster_rules.specs.Positions.{Moved, Course, own, at, before}
 use Rattle.cluster_rules.specs.Runs.{Cluster, node_at, IsFree, IsOwed, MayDo}
 use Rattle.cluster_rules.specs.Allowed.{IsAllowed, DoesItem}
-use Rattle.cluster_rules.proofs.Stepping.{Step, Stepped}
+use Rattle.cluster_rules.proofs.Stepping.{Stepped}
 use Rattle.cluster_rules.proofs.Marks.{same_self, same_name, first_is}
 use Rattle.backer_order.specs.Log as log
 use Rattle.backer_order.specs.Log.{Events, Acts, Sync, Post, Grant}
 use Rattle.backer_order.specs.Moments.{NoneBetween}
 use Rattle.backer_order.specs.Edges.{Stacks, away_after, Away, Joined}
-use Rattle.cluster_order.specs.Reading.{act_of, happens_to, events_of}
+use Rattle.cluster_order.specs.Reading.{happens_to, events_of}
 use Rattle.cluster_order.specs.Standing.{first}
 use Rattle.cluster_order.proofs.Growing.{within, at_last, at_behind}
 use Rattle.cluster_order.proofs.Events.{event_at, posted_is, grant_is, acted_is, Acted, Served, sync_is}
-use Rattle.cluster_edges.proofs.News.{News, ByGrant, news_in, told_event, told_sent, news_on, is_grant, is_sync, syncs, syncs_item, syncs_event, block_on, granted_here, Risen}
+use Rattle.cluster_edges.proofs.News.{ByGrant, news_in, told_event, told_sent, news_on, is_grant, is_sync, syncs, syncs_event, block_on, granted_here, Risen}
 use Rattle.cluster_edges.proofs.Through.{EachLife, each_live}
-use Rattle.cluster_edges.proofs.Placed.{OnStack, Placed, Brought}
+use Rattle.cluster_edges.proofs.Placed.{OnStack}
 use Rattle.cluster_edges.proofs.Bringing.{brought}
 use Rattle.cluster_edges.proofs.Firsts.{at_first, at_whole, before_position, stepped_first, step_at}
 use Rattle.cluster_edges.proofs.Saying.{from_join}
@@ -219,7 +217,8 @@ module _ (cluster : Cluster) (course : Course) (stepped : Stepped cluster course
   sync_does : (now node : ℕ) (frame : FrameId) → events now ≡ Acts node frame Sync → (index : ℕ) × DoesItem (node_at cluster node) (own node (first now course)) (item.Act frame index act.Sync)
   sync_does now node frame is = on (acted_is cluster course now node frame Sync is)
     where
-      on : Acted cluster course now node frame Sync ⊎ Served cluster course now node frame Sync → (index : ℕ) × DoesItem (node_at cluster node) (own node (first now course)) (item.Act frame index act.Sync)
+      on : Acted cluster course now node frame Sync ⊎ Served cluster course now node frame Sync
+          → (index : ℕ) × DoesItem (node_at cluster node) (own node (first now course)) (item.Act frame index act.Sync)
       on (inl acted) =
           let happens = acted.is in
           let step = step_at cluster course now happens.moved stepped happens.is in

@@ -1,12 +1,12 @@
 -- Where a frame is between the message that brings it and its take-up, read off a course.
-use Rattle.std.specs.Prelude.{◌||◌, leb, if◌then◌else◌, ℕ, Bool, true, false, Option, Some, None, List, [], ◌∷◌, length}
+use Rattle.std.specs.Prelude.{leb, if◌then◌else◌, ℕ, Bool, true, false, Option, Some, None, List, [], ◌∷◌, length}
 use Rattle.std.specs.List.{list_any}
 use Rattle.page_messages.specs.declared.closure.FrameId.{FrameId}
 use Rattle.page_messages.specs.declared.message.Body.{Body}
 use Rattle.page_messages.specs.declared.message.Body.TheVariants as body
 use Rattle.page_messages.specs.declared.log.Item.{Item}
 use Rattle.page_messages.specs.declared.log.Item.TheVariants as item
-use Rattle.cluster_rules.specs.Turns.{Event, Did, Sent, Took, Ended}
+use Rattle.cluster_rules.specs.Turns.{Did, Sent, Took, Ended}
 use Rattle.cluster_rules.specs.Lives.{same_frame}
 use Rattle.cluster_rules.specs.Frames.{frames_of}
 use Rattle.cluster_rules.specs.Positions.{Moved, Course, own, at}
