@@ -18,9 +18,9 @@ use Rattle.cluster_rules.specs.Positions.{Moved, Course, own}
 use Rattle.cluster_rules.proofs.Stepping.{Step, Stepped}
 use Rattle.cluster_rules.proofs.Letters.{Letter, letters_of, amount_of}
 use Rattle.cluster_rules.proofs.Summing.{sum_below, sum_one}
-use Rattle.cluster_rules.proofs.Marks.{Mark, one, many, named, mark_of, marks_of, Within, same_self, same_name}
+use Rattle.cluster_rules.proofs.Marks.{Mark, one, many, named, mark_of, marks_of, same_self, same_name}
 use Rattle.cluster_rules.proofs.Passing.{closure_marks, advanced_item, advanced_body, advanced_by, first_marks, risen, born_by, advanced_within}
-use Rattle.cluster_rules.proofs.Holding.{at_node, in_message, held_by, held, advanced, held_changes, Unknown, unknown_before, IsBorn, births, main_mark, held_start, held_once, held_known, same_risen, born_one}
+use Rattle.cluster_rules.proofs.Holding.{at_node, in_message, held_by, advanced, held_changes, Unknown, unknown_before, IsBorn, births, main_mark, held_start, held_once, held_known, same_risen}
 
 -- How many acts the frame counts.
 abbrev pub counted : Cluster → FrameId → Course → ℕ
@@ -103,7 +103,7 @@ otherwise_named frame acts mark = on (named frame mark) (not (eqb mark.acts acts
     on false b = omega arith
 
 -- a mark of the frame has this number
-otherwise_none : (frame : FrameId) (acts number : ℕ) → one (otherwise frame acts (record { id = frame; acts = number })) ≡ 0 → number ≡ acts
+pub otherwise_none : (frame : FrameId) (acts number : ℕ) → one (otherwise frame acts (record { id = frame; acts = number })) ≡ 0 → number ≡ acts
 otherwise_none frame acts number none = on (eqb number acts) refl
   where
     on : (b : Bool) → eqb number acts ≡ b → number ≡ acts
@@ -170,7 +170,8 @@ module _ (cluster : Cluster) (course : Course) (moved : Moved) (stepped : Steppe
       omega (arith, changes, before, rises, count, born, none)
 
   -- this frame is
-  this_next : (frame : FrameId) (acts : ℕ) → advanced cluster course moved ≡ record { id = frame; acts = acts } ∷ [] → held_by cluster (moved ∷ course) (otherwise frame (counted cluster frame (moved ∷ course))) ≡ 0
+  this_next : (frame : FrameId) (acts : ℕ) → advanced cluster course moved ≡ record { id = frame; acts = acts } ∷ []
+      → held_by cluster (moved ∷ course) (otherwise frame (counted cluster frame (moved ∷ course))) ≡ 0
   this_next frame acts is =
       let old = counted cluster frame course in
       let count : many (named frame) (advanced cluster course moved) ≡ 1 = ap (many (named frame)) is ∙ born_like in

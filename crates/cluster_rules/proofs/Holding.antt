@@ -1,5 +1,5 @@
 -- Each frame is in one place of the cluster at most: on a stack, on a ready list, parked, or in a closure that travels.
-use Rattle.std.proofs.Common.{◌≡◌, ◌≢◌, ◌≤◌, ◌<◌, ◌+◌, ◌⊎◌, inl, inr, ℕ, zero, suc, ℤ, List, [], ◌∷◌, Option, Some, None, Bool, true, false, cond, eqb, ◌&&◌, refl, sym, ◌∙◌, ap, subst, arith}
+use Rattle.std.proofs.Common.{◌≡◌, ◌≢◌, ◌≤◌, ◌<◌, ◌+◌, ◌⊎◌, inl, inr, ℕ, zero, suc, ℤ, List, [], ◌∷◌, Option, Bool, true, false, cond, eqb, ◌&&◌, refl, sym, ◌∙◌, ap, subst, arith}
 use Rattle.std.proofs.lemmas.Bool.Decides.{nat_tests}
 use Rattle.page_messages.specs.declared.closure.FrameId.{FrameId}
 use Rattle.page_messages.specs.declared.message.Msg.{Msg}
@@ -12,13 +12,12 @@ use Rattle.cluster_rules.specs.Turns.{Event, Did, Sent, Took, Ended, Past}
 use Rattle.cluster_rules.specs.Node.{Node}
 use Rattle.cluster_rules.specs.Lives.{same_frame, main_id}
 use Rattle.cluster_rules.specs.Frames.{frames_of, next_frame, spawns_on}
-use Rattle.cluster_rules.specs.Acting.{MayMake}
 use Rattle.cluster_rules.specs.Runs.{Cluster, node_at, IsFree, IsOwed, MayDo}
 use Rattle.cluster_rules.specs.Allowed.{IsAllowed}
 use Rattle.cluster_rules.specs.Positions.{Moved, Course, own}
 use Rattle.cluster_rules.proofs.Stepping.{Carries, Step, Stepped}
 use Rattle.cluster_rules.proofs.Letters.{letters_on, letters_of, amount_of, letter_sent, letter_taken}
-use Rattle.cluster_rules.proofs.Summing.{sum_below, sum_change, sum_one, sum_two, one_or_two}
+use Rattle.cluster_rules.proofs.Summing.{sum_below, sum_change, sum_two, one_or_two}
 use Rattle.cluster_rules.proofs.Marks.{Mark, one, many, named, marks_of, same_self, same_name}
 use Rattle.cluster_rules.proofs.Passing.{closure_marks, gone_by, come_by, advanced_by, risen, born_by, passes}
 
@@ -71,7 +70,7 @@ advanced cluster course moved = advanced_by (node_at cluster moved.node) (own mo
 module _ (cluster : Cluster) (course : Course) (moved : Moved) (stepped : Stepped cluster course) (step : Step cluster course moved) where
   pub held_changes : (such : Mark → Bool)
       → held_by cluster (moved ∷ course) such + many such (advanced cluster course moved)
-        ≤ held_by cluster course such + many such (risen (advanced cluster course moved)) + many such (born_by moved.event)
+      ≤ held_by cluster course such + many such (risen (advanced cluster course moved)) + many such (born_by moved.event)
   held_changes such =
       let here = passes (node_at cluster moved.node) (own moved.node course) moved.event step.allowed such in
       let after : at_node cluster (moved ∷ course) such moved.node ≡ many such (marks_of (frames_of (node_at cluster moved.node) (moved.event ∷ own moved.node course))) =
@@ -94,6 +93,11 @@ next_on node number moved course = on (eqb moved.node number)
     on : (b : Bool) → next_frame node (own number course) ≤ next_frame node (cond b (moved.event ∷ own number course) (own number course))
     on true = omega arith
     on false = omega arith
+
+-- the numbers that are given grow
+pub next_grows : (cluster : Cluster) (course : Course) (moved : Moved) (frame : FrameId)
+    → next_frame (node_at cluster frame.node) (own frame.node course) ≤ next_frame (node_at cluster frame.node) (own frame.node (moved ∷ course))
+next_grows cluster course moved frame = next_on (node_at cluster frame.node) frame.node moved course
 
 -- what is unknown was so before
 pub unknown_before : (cluster : Cluster) (course : Course) (moved : Moved) (frame : FrameId) → Unknown cluster (moved ∷ course) frame → Unknown cluster course frame
@@ -222,7 +226,7 @@ same_risen frame (mark ∷ marks) = ap (λ it. one (named frame mark) + it) (sam
 pub born_one : (frame : FrameId) → many (named frame) (record { id = frame; acts = 0 } ∷ []) ≡ 1
 born_one frame = rw (same_self frame) refl
 
-held_more : (cluster : Cluster) (course : Course) (moved : Moved) → Stepped cluster course → Step cluster course moved → (frame : FrameId)
+pub held_more : (cluster : Cluster) (course : Course) (moved : Moved) → Stepped cluster course → Step cluster course moved → (frame : FrameId)
     → held cluster (moved ∷ course) frame ≤ held cluster course frame + many (named frame) (born_by moved.event)
 held_more cluster course moved stepped step frame =
     let changes = held_changes cluster course moved stepped step (named frame) in

@@ -1,16 +1,14 @@
 -- The messages that were posted and not taken. What they amount to as one more is posted or taken.
-use Rattle.std.proofs.Common.{◌≡◌, ◌⊎◌, inl, inr, ℕ, ◌+◌, List, [], ◌∷◌, Option, Some, None, Bool, true, false, cond, eqb, ◌&&◌, ◌||◌, refl, sym, ◌∙◌, ap, subst, arith, rules}
+use Rattle.std.proofs.Common.{◌≡◌, ◌⊎◌, inl, inr, ℕ, ◌+◌, List, [], ◌∷◌, Option, Some, None, Bool, true, false, cond, eqb, ◌||◌, refl, sym, ◌∙◌, ap, subst, arith}
 use Rattle.std.proofs.lemmas.Bool.Decides.{nat_tests}
 use Rattle.std.specs.List.{list_any}
-use Rattle.cilk_meaning.specs.declared.ends.NodeEnd.{NodeEnd}
 use Rattle.page_messages.specs.declared.message.Msg.{Msg}
-use Rattle.page_messages.specs.declared.log.Item.{Item}
 use Rattle.page_messages.specs.declared.log.PostAt.{PostAt}
 use Rattle.cluster_rules.specs.Turns.{Event, Did, Sent, Took, Ended, same_place, takes_at}
 use Rattle.cluster_rules.specs.Runs.{Cluster}
 use Rattle.cluster_rules.specs.Positions.{Moved, Course}
 use Rattle.cluster_rules.proofs.Settling.{both_true}
-use Rattle.cluster_rules.proofs.Stepping.{IsPost, WasPosted, posts_place, takes_place, Posts, Takes, Carries, Step, Stepped}
+use Rattle.cluster_rules.proofs.Stepping.{IsPost, WasPosted, posts_place, takes_place, Posts, Takes, Carries, Stepped}
 
 pub record Letter : Type 0 where
   pub place : PostAt

@@ -20,3 +20,13 @@ pub mod Letters
 pub mod Passing
 pub mod Holding
 pub mod Advancing
+pub mod Phases
+pub mod UnderWay
+pub mod Phasing
+pub mod Asking
+pub mod Claiming
+pub mod Indexing
+pub mod Claimed
+pub mod Places
+pub mod Keeping
+pub mod Posting

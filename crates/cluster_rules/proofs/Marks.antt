@@ -1,7 +1,6 @@
 -- The frames of a node as marks: their names, and how many acts each has made. What an event leaves of them.
-use Rattle.std.proofs.Common.{◌≡◌, ◌≤◌, ◌<◌, ◌+◌, ◌⊎◌, inl, inr, ℕ, zero, suc, ℤ, List, [], ◌∷◌, ◌++◌, append_assoc, Option, Some, None, Bool, true, false, cond, eqb, ◌&&◌, refl, sym, ◌∙◌, ap, subst, arith}
+use Rattle.std.proofs.Common.{◌≡◌, ◌≤◌, ◌+◌, ℕ, ℤ, List, [], ◌∷◌, ◌++◌, append_assoc, Option, Some, None, Bool, true, false, eqb, refl, sym, ◌∙◌, ap, subst, arith}
 use Rattle.std.proofs.lemmas.Bool.Decides.{nat_tests}
-use Rattle.std.proofs.lemmas.List.{append-nil}
 use Rattle.cilk_meaning.specs.Wants as want
 use Rattle.cilk_meaning.specs.Wants.{Asks, Deposit}
 use Rattle.page_messages.specs.declared.closure.FrameId.{FrameId}
@@ -107,7 +106,7 @@ parked_append [] back = refl
 parked_append (first ∷ front) back = ap (λ it. record { id = first.closure.id; acts = first.closure.acts } ∷ it) (parked_append front back)
 
 live_on : (deposits : List Deposit) (life : Life) (below : List Life) (value : Option ℤ) → ((given : List Deposit) → Within (marks (live_from given below)) (marks below))
-    → Within (marks (elim value [ | None ↦ with_kept deposits life ∷ below | Some it ↦ live_from ((life.spawned.target, it) ∷ []) below ])) (marks (life ∷ below))
+    → Within (marks (elim value [ None ↦ with_kept deposits life ∷ below | Some it ↦ live_from ((life.spawned.target, it) ∷ []) below ])) (marks (life ∷ below))
 live_on deposits life below None before = within_same (marks (life ∷ below))
 live_on deposits life below (Some it) before =
     within_both (marks (live_from ((life.spawned.target, it) ∷ []) below)) (marks below) (marks (life ∷ below)) (before ((life.spawned.target, it) ∷ [])) (within_skip (mark_of life) (marks below))
@@ -179,8 +178,8 @@ AddsFirst frame acts [] = ⊥
 AddsFirst frame acts (life ∷ below) = (life.id ≡ frame) × (life.acts ≡ acts) × WantsAdd life
 
 live_first_on : (life : Life) (below : List Life) (value : Option ℤ) → value ≡ None
-    → elim value [ | None ↦ with_kept [] life ∷ below | Some it ↦ live_from ((life.spawned.target, it) ∷ []) below ] ≡ with_kept [] life ∷ below
-live_first_on life below value is = ap (λ value. elim value [ | None ↦ with_kept [] life ∷ below | Some it ↦ live_from ((life.spawned.target, it) ∷ []) below ]) is
+    → elim value [ None ↦ with_kept [] life ∷ below | Some it ↦ live_from ((life.spawned.target, it) ∷ []) below ] ≡ with_kept [] life ∷ below
+live_first_on life below value is = ap (λ value. elim value [ None ↦ with_kept [] life ∷ below | Some it ↦ live_from ((life.spawned.target, it) ∷ []) below ]) is
 
 -- it has not returned
 pub live_first : (frame : FrameId) (acts : ℕ) (stack : List Life) → AddsFirst frame acts stack → (life : Life) × (below : List Life) × (live stack ≡ life ∷ below) × WantsAdd life

@@ -1,5 +1,5 @@
 -- What one event makes of the marks of its node: which go, which come, which are one act further, and which are new.
-use Rattle.std.proofs.Common.{◌≡◌, ◌≤◌, ◌+◌, ◌⊎◌, inl, inr, ℕ, suc, ℤ, List, [], ◌∷◌, ◌++◌, Option, Some, None, Bool, true, false, cond, refl, sym, ◌∙◌, ap, subst, arith}
+use Rattle.std.proofs.Common.{◌≡◌, ◌≤◌, ◌+◌, ◌⊎◌, inl, inr, ℕ, suc, ℤ, List, [], ◌∷◌, ◌++◌, Bool, true, cond, refl, sym, ◌∙◌, ap, subst, arith}
 use Rattle.cilk_meaning.specs.Wants.{Done as DoneAnswer}
 use Rattle.page_messages.specs.declared.closure.FrameId.{FrameId}
 use Rattle.page_messages.specs.declared.closure.JoinId.{JoinId}
@@ -15,14 +15,15 @@ use Rattle.cluster_rules.specs.Walking.{is_empty, with_first}
 use Rattle.cluster_rules.specs.Turns.{Event, Did, Sent, Took, Ended, Past}
 use Rattle.cluster_rules.specs.Node.{Node}
 use Rattle.cluster_rules.specs.Home.{replies_in, owed_adds}
-use Rattle.cluster_rules.specs.Lives.{Life, live, answered, acted, added, children_of, after_act, without_bottom, link_to, carried}
-use Rattle.cluster_rules.specs.Frames.{Frames, Parked, with_stack, taken_up, with_joined, stack_sent, frames_item, frames_took, frames_on, frames_of, stack_of}
-use Rattle.cluster_rules.specs.Acting.{Acts, MayAct, MayAddHere, Serves}
+use Rattle.cluster_rules.specs.Lives.{Life, live, answered, added, after_act, without_bottom, link_to, carried}
+use Rattle.cluster_rules.specs.Frames.{Frames, Parked, with_stack, taken_up, with_joined, stack_sent, frames_item, frames_took, frames_of, stack_of}
+use Rattle.cluster_rules.specs.Acting.{Acts}
 use Rattle.cluster_rules.specs.Edges.{MayGrant, MayPark}
 use Rattle.cluster_rules.specs.Runs.{IsFree, MayPost, IsOwed, MayDo, MaySend}
-use Rattle.cluster_rules.specs.Allowed.{IsAllowed, DoesItem}
+use Rattle.cluster_rules.specs.Allowed.{IsAllowed}
 use Rattle.cluster_rules.proofs.Senders.{owed_replies, AreReplies}
-use Rattle.cluster_rules.proofs.Marks.{Mark, one, many, many_append, Within, within_same, mark_of, marks, marks_append, parked_marks, parked_append, other_marks, marks_of, live_within, with_joined_within, bottom_gone, bottom_marks, first_is}
+use Rattle.cluster_rules.proofs.Marks.{Mark, one, many, many_append, Within, mark_of, marks, marks_append, parked_marks, parked_append}
+use Rattle.cluster_rules.proofs.Marks.{other_marks, marks_of, live_within, with_joined_within, bottom_gone, bottom_marks, first_is}
 
 -- ---- the marks of an event
 
@@ -175,10 +176,12 @@ module _ (node : Node) (past : Past) (frame : FrameId) (life : Life) (acts : Act
   act_changes done = λ such.
       let among = live_within (stack_of node past) such in
       let first : many such (marks (live (stack_of node past))) ≡ one (such (mark_of life)) + many such (marks first_live.0) = ap (λ it. many such (marks it)) first_live.1 in
-      let after : many such (marks (after_act node done (live (stack_of node past)))) ≡ many such (born_act done) + (one (such (record { id = life.id; acts = suc life.acts })) + many such (marks first_live.0)) =
+      let after : many such (marks (after_act node done (live (stack_of node past))))
+      ≡ many such (born_act done) + (one (such (record { id = life.id; acts = suc life.acts })) + many such (marks first_live.0)) =
       ap (λ it. many such (marks (after_act node done it))) first_live.1 ∙ acted_marks such node done life first_live.0 in
       let same : one (such (record { id = frame; acts = index })) ≡ one (such (mark_of life)) = ap (λ it. one (such it)) its_mark in
-      let rises : one (such (record { id = frame; acts = suc index })) ≡ one (such (record { id = life.id; acts = suc life.acts })) = ap (λ (it : Mark). one (such (record { id = it.id; acts = suc it.acts }))) its_mark in
+      let rises : one (such (record { id = frame; acts = suc index })) ≡ one (such (record { id = life.id; acts = suc life.acts })) =
+      ap (λ (it : Mark). one (such (record { id = it.id; acts = suc it.acts }))) its_mark in
       omega (arith, among, first, after, same, rises)
 
   add_changes : (old : ℤ) → Changes (marks (stack_of node past)) (marks (added old (live (stack_of node past)))) [] [] (record { id = frame; acts = index } ∷ []) []
@@ -188,7 +191,8 @@ module _ (node : Node) (past : Past) (frame : FrameId) (life : Life) (acts : Act
       let after : many such (marks (added old (live (stack_of node past)))) ≡ one (such (record { id = life.id; acts = suc life.acts })) + many such (marks first_live.0) =
       ap (λ it. many such (marks (added old it))) first_live.1 in
       let same : one (such (record { id = frame; acts = index })) ≡ one (such (mark_of life)) = ap (λ it. one (such it)) its_mark in
-      let rises : one (such (record { id = frame; acts = suc index })) ≡ one (such (record { id = life.id; acts = suc life.acts })) = ap (λ (it : Mark). one (such (record { id = it.id; acts = suc it.acts }))) its_mark in
+      let rises : one (such (record { id = frame; acts = suc index })) ≡ one (such (record { id = life.id; acts = suc life.acts })) =
+      ap (λ (it : Mark). one (such (record { id = it.id; acts = suc it.acts }))) its_mark in
       omega (arith, among, first, after, same, rises)
 
 taken_up_changes : (stack ready : List Life) (parked : List Parked) → stack ≡ [] → Same (record { stack = stack; ready = ready; parked = parked }) (taken_up stack ready parked)
@@ -248,7 +252,8 @@ added_changes old (life ∷ below) = λ such. omega arith
 granted_changes : (node : Node) (closure : Closure) (frames : Frames)
     → Changes (marks_of frames) (marks_of (record frames { ready = frames.ready ++ carried node closure ∷ [] })) [] (closure_mark closure ∷ []) [] []
 granted_changes node closure frames = λ such.
-    let ready : many such (marks (frames.ready ++ carried node closure ∷ [])) ≡ many such (marks frames.ready ++ closure_mark closure ∷ []) = ap (many such) (marks_append frames.ready (carried node closure ∷ [])) in
+    let ready : many such (marks (frames.ready ++ carried node closure ∷ [])) ≡ many such (marks frames.ready ++ closure_mark closure ∷ []) =
+    ap (many such) (marks_append frames.ready (carried node closure ∷ [])) in
     let a = many_append such (marks frames.ready) (closure_mark closure ∷ []) in
     let b = many_append such (marks (frames.ready ++ carried node closure ∷ [])) (parked_marks frames.parked) in
     let c = many_append such (marks frames.ready) (parked_marks frames.parked) in
@@ -270,7 +275,8 @@ parked_changes node past join closure frames = λ such.
     let e = many_append such (marks frames.stack) (other_marks frames) in
     omega (arith, joined, parked, a, b, c, d, e)
 
-took_changes : (node : Node) (said : Body) (past : Past) (frames : Frames) → Changes (marks_of frames) (marks_of (frames_took node said past frames)) [] (closure_marks said) (advanced_body said frames.stack) []
+took_changes : (node : Node) (said : Body) (past : Past) (frames : Frames)
+    → Changes (marks_of frames) (marks_of (frames_took node said past frames)) [] (closure_marks said) (advanced_body said frames.stack) []
 took_changes node (body.Fetch page) past frames = λ such. omega arith
 took_changes node (body.Page page words) past frames = λ such. omega arith
 took_changes node (body.Reconcile parts) past frames = λ such. omega arith
@@ -296,7 +302,8 @@ module _ (node : Node) (past : Past) where
   item_changes (item.Act frame index act) rest posts (inl owed) = absurd owed
   item_changes (item.Act frame index act) rest posts (inr both) =
       let may = both.1 in
-      stack_changes frames (after_act node act (live frames.stack)) [] [] (record { id = frame; acts = index } ∷ []) (born_act act) (act_changes node past frame may.life may.acts index may.index_is act)
+      stack_changes frames (after_act node act (live frames.stack)) [] [] (record { id = frame; acts = index } ∷ []) (born_act act)
+      (act_changes node past frame may.life may.acts index may.index_is act)
   item_changes (item.Tick frame) rest posts may = stack_changes frames (with_first (answered DoneAnswer) (live frames.stack)) [] [] [] [] (ticked frames.stack)
   item_changes (item.Drop page) rest posts may = λ such. omega arith
   item_changes (item.TakeUp frame) rest posts (inl owed) = absurd owed
@@ -310,7 +317,8 @@ module _ (node : Node) (past : Past) where
       (stack_changes frames (added old (live frames.stack)) [] [] (record { id = frame; acts = index } ∷ []) [] (add_changes node past frame may.life may.acts index may.index_is old))
 
   -- What an event makes of the marks of its node.
-  pub passes : (event : Event) → IsAllowed node past event → Changes (marks_of (frames_of node past)) (marks_of (frames_of node (event ∷ past))) (gone_by event) (come_by event) (advanced_by node past event) (born_by event)
+  pub passes : (event : Event) → IsAllowed node past event
+      → Changes (marks_of (frames_of node past)) (marks_of (frames_of node (event ∷ past))) (gone_by event) (come_by event) (advanced_by node past event) (born_by event)
   unfolding frames_of
   passes (Did done) does = item_changes done does.rest does.posts does.may
   passes (Sent message) may =

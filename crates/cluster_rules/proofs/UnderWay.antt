@@ -1,0 +1,219 @@
+-- The Adds that were posted and not done, and the old values that were not told: how many of them there are of one node.
+use Rattle.std.proofs.Common.{◌≡◌, ◌≤◌, ◌<◌, ◌+◌, ℕ, ℤ, List, [], ◌∷◌, ◌++◌, Option, Bool, false, cond, eqb, ◌&&◌, refl, ◌∙◌, ap, arith}
+use Rattle.cilk_meaning.specs.declared.ends.NodeEnd.{NodeEnd}
+use Rattle.page_messages.specs.declared.closure.FrameId.{FrameId}
+use Rattle.page_messages.specs.declared.message.Msg.{Msg}
+use Rattle.page_messages.specs.declared.message.Body.{Body}
+use Rattle.page_messages.specs.declared.message.Body.TheVariants as body
+use Rattle.page_messages.specs.declared.log.Item.{Item}
+use Rattle.page_messages.specs.declared.log.Item.TheVariants as item
+use Rattle.page_messages.specs.declared.log.PostAt.{PostAt}
+use Rattle.cluster_rules.specs.Walking.{rest_of}
+use Rattle.cluster_rules.specs.Turns.{Event, Did, Sent, Took, Ended, Past}
+use Rattle.cluster_rules.specs.Sendings.{tells_in}
+use Rattle.cluster_rules.specs.Home.{owed_adds, with_add, after_served, told_by, owed_olds}
+use Rattle.cluster_rules.specs.Lives.{same_frame}
+use Rattle.cluster_rules.specs.Acting.{Tells}
+use Rattle.cluster_rules.specs.Runs.{Cluster, node_at}
+use Rattle.cluster_rules.specs.Positions.{Moved, Course, own}
+use Rattle.cluster_rules.proofs.Stepping.{Posts, Takes, Stepped}
+use Rattle.cluster_rules.proofs.Letters.{letters_of, amount_of, letter_sent, letter_taken}
+use Rattle.cluster_rules.proofs.Summing.{sum_below, sum_change, sum_one}
+use Rattle.cluster_rules.proofs.Marks.{one}
+use Rattle.cluster_rules.proofs.Holding.{own_first, own_other}
+
+abbrev pub amount_in : (Msg → ℕ) → List Msg → ℕ
+amount_in amount [] = 0
+amount_in amount (message ∷ messages) = amount message + amount_in amount messages
+
+amount_append : (amount : Msg → ℕ) (front back : List Msg) → amount_in amount (front ++ back) ≡ amount_in amount front + amount_in amount back
+amount_append amount [] back = omega arith
+amount_append amount (message ∷ front) back = let rest = amount_append amount front back in omega (arith, rest)
+
+-- ---- what is counted
+
+-- it asks for the add of this frame and index, from this node
+abbrev pub adds_body : ℕ → FrameId → ℕ → ℕ → Body → Bool
+adds_body number frame index sender (body.Fetch page) = false
+adds_body number frame index sender (body.Page page words) = false
+adds_body number frame index sender (body.Reconcile parts) = false
+adds_body number frame index sender body.Ack = false
+adds_body number frame index sender body.Ask = false
+adds_body number frame index sender (body.Grant closure) = false
+adds_body number frame index sender body.Refuse = false
+adds_body number frame index sender (body.Done join child value) = false
+adds_body number frame index sender (body.Park join closure) = false
+adds_body number frame index sender (body.Add other acts word addend) = eqb sender number && (same_frame other frame && eqb acts index)
+adds_body number frame index sender (body.Added old) = false
+
+abbrev pub add_from : ℕ → FrameId → ℕ → Msg → ℕ
+add_from number frame index message = one (adds_body number frame index message.sender message.body)
+
+abbrev pub owed_at : Cluster → Course → (Msg → ℕ) → ℕ → ℕ
+owed_at cluster course amount home = amount_in amount (owed_adds (own home course))
+
+-- The Adds of a frame and index, from a node, that were posted and not done.
+abbrev pub under_way : Cluster → Course → ℕ → FrameId → ℕ → ℕ
+under_way cluster course number frame index =
+    sum_below cluster.config.nodes (owed_at cluster course (add_from number frame index)) + amount_of (add_from number frame index) (letters_of course)
+
+-- it tells an old value to this node
+abbrev pub tells_body : ℕ → ℕ → Body → Bool
+tells_body number receiver (body.Fetch page) = false
+tells_body number receiver (body.Page page words) = false
+tells_body number receiver (body.Reconcile parts) = false
+tells_body number receiver body.Ack = false
+tells_body number receiver body.Ask = false
+tells_body number receiver (body.Grant closure) = false
+tells_body number receiver body.Refuse = false
+tells_body number receiver (body.Done join index value) = false
+tells_body number receiver (body.Park join closure) = false
+tells_body number receiver (body.Add frame index word addend) = false
+tells_body number receiver (body.Added old) = eqb receiver number
+
+abbrev pub old_to : ℕ → Msg → ℕ
+old_to number message = one (tells_body number message.receiver message.body)
+
+abbrev pub olds_at : Cluster → Course → (Msg → ℕ) → ℕ → ℕ
+olds_at cluster course amount home = amount_in amount (owed_olds (node_at cluster home) (own home course))
+
+-- The old values for a node that were not told.
+abbrev pub to_tell : Cluster → Course → ℕ → ℕ
+to_tell cluster course number = sum_below cluster.config.nodes (olds_at cluster course (old_to number)) + amount_of (old_to number) (letters_of course)
+
+-- ---- sums over the pasts of nodes
+
+abbrev pub moved_by : ℕ → Event → Option PostAt → Moved
+moved_by node event here = record { node = node; event = event; message = here }
+
+sum_moved : (count : ℕ) (part : ℕ → Past → ℕ) (node : ℕ) (event : Event) (here : Option PostAt) (course : Course) → node < count
+    → sum_below count (λ home. part home (own home (moved_by node event here ∷ course))) + part node (own node course)
+    ≡ sum_below count (λ home. part home (own home course)) + part node (event ∷ own node course)
+sum_moved count part node event here course less =
+    let moved = moved_by node event here in
+    let sum = sum_change count (λ home. part home (own home course)) (λ home. part home (own home (moved ∷ course))) node less
+    (λ home other. ap (part home) (own_other home moved course other)) in
+    let first = ap (part node) (own_first moved course) in
+    omega (arith, sum, first)
+
+module _ (cluster : Cluster) (course : Course) (node : ℕ) (here : Option PostAt) (within : node < cluster.config.nodes) where
+  abbrev past : Past
+  past = own node course
+
+  -- ---- Adds
+
+  module _ (amount : Msg → ℕ) where
+    adds_sum : (event : Event) → sum_below cluster.config.nodes (owed_at cluster (moved_by node event here ∷ course) amount) + amount_in amount (owed_adds past)
+        ≡ sum_below cluster.config.nodes (owed_at cluster course amount) + amount_in amount (owed_adds (event ∷ past))
+    adds_sum event = sum_moved cluster.config.nodes (λ home past. amount_in amount (owed_adds past)) node event here course within
+
+    olds_sum : (event : Event) → sum_below cluster.config.nodes (olds_at cluster (moved_by node event here ∷ course) amount) + amount_in amount (owed_olds (node_at cluster node) past)
+        ≡ sum_below cluster.config.nodes (olds_at cluster course amount) + amount_in amount (owed_olds (node_at cluster node) (event ∷ past))
+    olds_sum event = sum_moved cluster.config.nodes (λ home past. amount_in amount (owed_olds (node_at cluster home) past)) node event here course within
+
+  module _ (number : ℕ) (frame : FrameId) (index : ℕ) where
+    abbrev amount : Msg → ℕ
+    amount = add_from number frame index
+
+    pub adds_sent : (message : Msg) → Posts course node here message
+        → under_way cluster (moved_by node (Sent message) here ∷ course) number frame index ≡ under_way cluster course number frame index + amount message
+    unfolding owed_adds
+    adds_sent message posts =
+        let sum = adds_sum amount (Sent message) in
+        let letters = letter_sent cluster amount course node here message posts in omega (arith, sum, letters)
+
+    with_add_amount : (message : Msg) (adds : List Msg) (said : Body) → message.body ≡ said
+        → amount_in amount (with_add said message adds) ≡ amount_in amount adds + one (adds_body number frame index message.sender said)
+    with_add_amount message adds (body.Fetch page) is = omega arith
+    with_add_amount message adds (body.Page page words) is = omega arith
+    with_add_amount message adds (body.Reconcile parts) is = omega arith
+    with_add_amount message adds body.Ack is = omega arith
+    with_add_amount message adds body.Ask is = omega arith
+    with_add_amount message adds (body.Grant closure) is = omega arith
+    with_add_amount message adds body.Refuse is = omega arith
+    with_add_amount message adds (body.Done join child value) is = omega arith
+    with_add_amount message adds (body.Park join closure) is = omega arith
+    with_add_amount message adds (body.Add other acts word addend) is =
+        let both = amount_append amount adds (message ∷ []) in
+        let same : amount message ≡ one (adds_body number frame index message.sender (body.Add other acts word addend)) = ap (λ it. one (adds_body number frame index message.sender it)) is in
+        omega (arith, both, same)
+    with_add_amount message adds (body.Added old) is = omega arith
+
+    pub adds_took : (message : Msg) → Stepped cluster course → Takes course node here message
+        → under_way cluster (moved_by node (Took message) here ∷ course) number frame index ≡ under_way cluster course number frame index
+    unfolding owed_adds
+    adds_took message stepped takes =
+        let sum = adds_sum amount (Took message) in
+        let owed = with_add_amount message (owed_adds past) message.body refl in
+        let letters = letter_taken cluster amount course node here message stepped takes in omega (arith, sum, owed, letters)
+
+    pub adds_ended : (end : NodeEnd) → under_way cluster (moved_by node (Ended end) here ∷ course) number frame index ≡ under_way cluster course number frame index
+    unfolding owed_adds
+    adds_ended end = let sum = adds_sum amount (Ended end) in omega (arith, sum)
+
+    pub adds_kept : (done : Item) → after_served done (owed_adds past) ≡ owed_adds past
+        → under_way cluster (moved_by node (Did done) here ∷ course) number frame index ≡ under_way cluster course number frame index
+    unfolding owed_adds
+    adds_kept done same = let sum = adds_sum amount (Did done) in let owed = ap (amount_in amount) same in omega (arith, sum, owed)
+
+    -- the oldest that is owed is done
+    pub adds_served : (add : Msg) (later : List Msg) (other : FrameId) (acts word : ℕ) (old addend : ℤ) → owed_adds past ≡ add ∷ later
+        → under_way cluster (moved_by node (Did (item.Served other acts word old addend)) here ∷ course) number frame index + amount add ≡ under_way cluster course number frame index
+    unfolding owed_adds
+    adds_served add later other acts word old addend oldest =
+        let sum = adds_sum amount (Did (item.Served other acts word old addend)) in
+        let before : amount_in amount (owed_adds past) ≡ amount add + amount_in amount later = ap (amount_in amount) oldest in
+        let after : amount_in amount (rest_of (owed_adds past)) ≡ amount_in amount later = ap (λ it. amount_in amount (rest_of it)) oldest in
+        omega (arith, sum, before, after)
+
+    -- such an Add that is owed is under way
+    pub owed_counts : (add : Msg) (later : List Msg) → owed_adds past ≡ add ∷ later → amount add ≤ under_way cluster course number frame index
+    owed_counts add later oldest =
+        let before : amount_in amount (owed_adds past) ≡ amount add + amount_in amount later = ap (amount_in amount) oldest in
+        let whole = sum_one cluster.config.nodes (owed_at cluster course amount) node within in omega (arith, before, whole)
+
+  -- ---- old values
+
+  module _ (number : ℕ) where
+    abbrev told : Msg → ℕ
+    told = old_to number
+
+    pub olds_ended : (end : NodeEnd) → to_tell cluster (moved_by node (Ended end) here ∷ course) number ≡ to_tell cluster course number
+    unfolding owed_olds
+    olds_ended end = let sum = olds_sum told (Ended end) in omega (arith, sum)
+
+    pub olds_took : (message : Msg) → Stepped cluster course → Takes course node here message
+        → to_tell cluster (moved_by node (Took message) here ∷ course) number + told message ≡ to_tell cluster course number
+    unfolding owed_olds
+    olds_took message stepped takes =
+        let sum = olds_sum told (Took message) in
+        let letters = letter_taken cluster told course node here message stepped takes in omega (arith, sum, letters)
+
+    pub olds_did : (done : Item)
+        → to_tell cluster (moved_by node (Did done) here ∷ course) number ≡ to_tell cluster course number + amount_in told (told_by (node_at cluster node) done (owed_adds past))
+    unfolding owed_olds
+    olds_did done =
+        let sum = olds_sum told (Did done) in
+        let both = amount_append told (owed_olds (node_at cluster node) past) (told_by (node_at cluster node) done (owed_adds past)) in omega (arith, sum, both)
+
+    pub olds_posted : (message : Msg) → Posts course node here message → tells_in message.body ≡ false → told message ≡ 0
+        → to_tell cluster (moved_by node (Sent message) here ∷ course) number ≡ to_tell cluster course number
+    unfolding owed_olds
+    olds_posted message posts other none =
+        let sum = olds_sum told (Sent message) in
+        let owed : amount_in told (cond (tells_in message.body) (rest_of (owed_olds (node_at cluster node) past)) (owed_olds (node_at cluster node) past))
+        ≡ amount_in told (owed_olds (node_at cluster node) past) =
+        ap (λ b. amount_in told (cond b (rest_of (owed_olds (node_at cluster node) past)) (owed_olds (node_at cluster node) past))) other in
+        let letters = letter_sent cluster told course node here message posts in omega (arith, sum, owed, letters, none)
+
+    pub olds_told : (message : Msg) (old : ℤ) → Posts course node here message → message.body ≡ body.Added old → Tells (node_at cluster node) past message.receiver old
+        → to_tell cluster (moved_by node (Sent message) here ∷ course) number ≡ to_tell cluster course number
+    unfolding owed_olds
+    olds_told message old posts is tells =
+        let sum = olds_sum told (Sent message) in
+        let owed : amount_in told (cond (tells_in message.body) (rest_of (owed_olds (node_at cluster node) past)) (owed_olds (node_at cluster node) past)) ≡ amount_in told tells.later =
+        ap (λ b. amount_in told (cond b (rest_of (owed_olds (node_at cluster node) past)) (owed_olds (node_at cluster node) past))) (ap tells_in is)
+        ∙ ap (λ it. amount_in told (rest_of it)) tells.oldest in
+        let before : amount_in told (owed_olds (node_at cluster node) past) ≡ one (eqb message.receiver number) + amount_in told tells.later = ap (amount_in told) tells.oldest in
+        let said : told message ≡ one (eqb message.receiver number) = ap (λ it. one (tells_body number message.receiver it)) is in
+        let letters = letter_sent cluster told course node here message posts in omega (arith, sum, owed, before, said, letters)
