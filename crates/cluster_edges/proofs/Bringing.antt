@@ -1,26 +1,25 @@
 -- In every run each frame is where the course says last.
-use Rattle.std.proofs.Common.{◌≡◌, ◌≢◌, ◌⊎◌, inl, inr, ℕ, ◌+◌, ◌<◌, ◌≤◌, List, [], ◌∷◌, ◌++◌, Option, Some, None, is_some, Bool, true, false, cond, eqb, ◌||◌, refl, sym, ◌∙◌, ap, subst, arith}
-use Rattle.std.proofs.lemmas.Bool.Decides.{nat_tests}
+use Rattle.std.proofs.Common.{◌≡◌, ◌≢◌, ◌⊎◌, inl, inr, ℕ, ◌≤◌, List, [], ◌∷◌, Option, Some, None, Bool, true, false, cond, eqb, ◌||◌, refl, sym, ◌∙◌, ap, subst, arith}
 use Rattle.std.specs.List.{list_any}
 use Rattle.page_messages.specs.declared.closure.FrameId.{FrameId}
 use Rattle.page_messages.specs.declared.message.Msg.{Msg}
 use Rattle.page_messages.specs.declared.message.Body.{Body}
 use Rattle.page_messages.specs.declared.message.Body.TheVariants as body
 use Rattle.page_messages.specs.declared.log.PostAt.{PostAt}
-use Rattle.cluster_rules.specs.Turns.{WholeTurn, Event, Did, Sent, Took, Ended, Past}
+use Rattle.cluster_rules.specs.Turns.{WholeTurn, Took}
 use Rattle.cluster_rules.specs.Lives.{main_life, same_frame}
-use Rattle.cluster_rules.specs.Frames.{Frames, frames_of, frames_on, next_frame}
+use Rattle.cluster_rules.specs.Frames.{frames_of, next_frame}
 use Rattle.cluster_rules.specs.Positions.{Moved, Course, own, course_of}
-use Rattle.cluster_rules.specs.Runs.{Cluster, node_at, IsLawful, MaySend}
+use Rattle.cluster_rules.specs.Runs.{Cluster, node_at, IsLawful}
 use Rattle.cluster_rules.specs.Allowed.{IsAllowed}
 use Rattle.cluster_rules.proofs.Stepping.{IsPost, WasPosted, takes_place, Takes, Carries, Step, Stepped, lawful_stepped}
 use Rattle.cluster_rules.proofs.Summing.{one_or_two}
-use Rattle.cluster_rules.proofs.Marks.{marks_of, same_self, same_name}
+use Rattle.cluster_rules.proofs.Marks.{same_name}
 use Rattle.cluster_rules.proofs.Holding.{own_first, own_other}
 use Rattle.cluster_edges.specs.Stages.{frame_in}
-use Rattle.cluster_edges.proofs.News.{Told, told, news_in, news_on, last_news, last_kept}
+use Rattle.cluster_edges.proofs.News.{Told, told, news_on, last_news, last_kept}
 use Rattle.cluster_edges.proofs.Through.{count}
-use Rattle.cluster_edges.proofs.Placed.{Named, OnStack, OnReady, AtJoin, Coming, Placed, Brought, Untold, named_more, placed_kept, ready_kept, join_kept}
+use Rattle.cluster_edges.proofs.Placed.{Named, Coming, Placed, Brought, Untold, named_more, placed_kept, ready_kept, join_kept}
 use Rattle.cluster_edges.proofs.Counted.{Once, marks_at, untold_none, untold_count, no_news, counted_named}
 use Rattle.cluster_edges.proofs.OnePlace.{one_place}
 use Rattle.cluster_edges.proofs.Moving.{own_placed, tells_own, sends_coming}

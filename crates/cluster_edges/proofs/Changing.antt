@@ -1,23 +1,20 @@
 -- The frames of a node behind an event that says nothing of where a frame was sent or taken up.
-use Rattle.std.proofs.Common.{◌≡◌, ◌⊎◌, inl, inr, ℕ, ℤ, List, [], ◌∷◌, ◌++◌, Option, Some, None, is_some, Bool, true, false, cond, refl, sym, ◌∙◌, ap, subst}
+use Rattle.std.proofs.Common.{◌≡◌, inl, ℕ, ℤ, List, [], ◌∷◌, ◌++◌, Some, None, Bool, true, false, cond, refl, sym, subst}
 use Rattle.cilk_meaning.specs.Wants.{Done as DoneAnswer}
 use Rattle.page_messages.specs.declared.closure.FrameId.{FrameId}
-use Rattle.page_messages.specs.declared.closure.JoinId.{JoinId}
-use Rattle.page_messages.specs.declared.closure.Closure.{Closure}
 use Rattle.page_messages.specs.declared.message.Body.{Body}
 use Rattle.page_messages.specs.declared.message.Body.TheVariants as body
 use Rattle.page_messages.specs.declared.log.LoggedAct.{LoggedAct}
 use Rattle.page_messages.specs.declared.log.LoggedAct.TheVariants as act
-use Rattle.cluster_rules.specs.Walking.{first_of, is_empty, with_first}
+use Rattle.cluster_rules.specs.Walking.{first_of, with_first}
 use Rattle.cluster_rules.specs.Turns.{Past}
 use Rattle.cluster_rules.specs.Node.{Node}
-use Rattle.cluster_rules.specs.Home.{owed_adds}
 use Rattle.cluster_rules.specs.Lives.{Life, live, answered, added, after_act}
-use Rattle.cluster_rules.specs.Frames.{Frames, Parked, with_stack, with_joined, all_joined, still_parked, frames_took}
+use Rattle.cluster_rules.specs.Frames.{Frames, Parked, with_stack, with_joined, all_joined, frames_took}
 use Rattle.cluster_rules.specs.Positions.{Course}
 use Rattle.cluster_rules.specs.Runs.{Cluster}
 use Rattle.cluster_rules.proofs.Marks.{first_is}
-use Rattle.cluster_edges.proofs.Through.{Property, EachLife, EachParked, each_append, each_change, each_live, each_answered, each_added, each_joined, each_still, parked_append_each, parked_change}
+use Rattle.cluster_edges.proofs.Through.{Property, EachLife, each_append, each_live, each_answered, each_added, each_joined, each_still, parked_append_each, parked_change}
 use Rattle.cluster_edges.proofs.Placed.{OnStack, OnReady, AtJoin, Coming, Placed}
 
 -- ---- acts

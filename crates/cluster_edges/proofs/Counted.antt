@@ -1,5 +1,5 @@
 -- The frame of which an event speaks is one of its node, and is nowhere else.
-use Rattle.std.proofs.Common.{◌≡◌, ◌≢◌, ◌⊎◌, inl, inr, ℕ, zero, suc, ◌+◌, ◌<◌, ◌≤◌, List, [], ◌∷◌, ◌++◌, Option, Some, None, Bool, true, false, cond, refl, sym, ◌∙◌, ap, subst, arith}
+use Rattle.std.proofs.Common.{◌≡◌, ◌≢◌, ◌⊎◌, inl, inr, ℕ, zero, suc, ◌+◌, ◌<◌, ◌≤◌, List, [], ◌∷◌, ◌++◌, Option, Some, None, Bool, true, false, refl, sym, ◌∙◌, ap, subst, arith}
 use Rattle.std.specs.List.{list_any}
 use Rattle.page_messages.specs.declared.closure.FrameId.{FrameId}
 use Rattle.page_messages.specs.declared.closure.JoinId.{JoinId}
@@ -10,9 +10,9 @@ use Rattle.cluster_rules.specs.Frames.{Frames, Parked, frames_of}
 use Rattle.cluster_rules.specs.Positions.{Moved, Course, own}
 use Rattle.cluster_rules.specs.Runs.{Cluster, node_at}
 use Rattle.cluster_rules.proofs.Stepping.{WasPosted, takes_place}
-use Rattle.cluster_rules.proofs.Marks.{Mark, one, many, named, many_append, marks, parked_marks, marks_of, other_marks, marks_append, same_self, same_name, live_within}
+use Rattle.cluster_rules.proofs.Marks.{Mark, one, named, many_append, marks, parked_marks, marks_of, other_marks, marks_append, same_self, same_name, live_within}
 use Rattle.cluster_edges.specs.Stages.{frame_in}
-use Rattle.cluster_edges.proofs.News.{Told, told, news_in, news_on}
+use Rattle.cluster_edges.proofs.News.{Told, told, news_on}
 use Rattle.cluster_edges.proofs.Through.{Property, count, EachLife, EachParked, each_change, each_always, parked_change, parked_always, counted_none, parked_none}
 use Rattle.cluster_edges.proofs.Placed.{OnStack, OnReady, AtJoin, Placed, Untold, Named}
 
@@ -36,7 +36,8 @@ counts frame frames =
     omega (arith, a, b)
 
 -- of a stack with its bottom frame
-pub count_bottom : (frame : FrameId) (above : List Life) (child parent : Life) → count frame (marks (above ++ (child ∷ (parent ∷ [])))) ≡ count frame (marks (above ++ (child ∷ []))) + one (same_frame parent.id frame)
+pub count_bottom : (frame : FrameId) (above : List Life) (child parent : Life)
+    → count frame (marks (above ++ (child ∷ (parent ∷ [])))) ≡ count frame (marks (above ++ (child ∷ []))) + one (same_frame parent.id frame)
 count_bottom frame above child parent =
     let a = ap (count frame) (marks_append above (child ∷ (parent ∷ []))) ∙ many_append (named frame) (marks above) (marks (child ∷ (parent ∷ []))) in
     let b = ap (count frame) (marks_append above (child ∷ [])) ∙ many_append (named frame) (marks above) (marks (child ∷ [])) in

@@ -35,3 +35,5 @@ pub mod Alone
 pub mod Joining
 pub mod Joins
 pub mod Readying
+pub mod Syncing
+pub mod ReadyLists

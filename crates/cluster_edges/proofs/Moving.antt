@@ -1,8 +1,7 @@
 -- One event more: what was known of the frames of its node is known behind it.
-use Rattle.std.proofs.Common.{◌≡◌, ◌≢◌, ◌⊎◌, inl, inr, ℕ, ℤ, ◌+◌, ◌<◌, ◌≤◌, List, [], ◌∷◌, ◌++◌, Option, Some, None, is_some, Bool, true, false, cond, refl, sym, ◌∙◌, ap, subst, arith}
+use Rattle.std.proofs.Common.{◌≡◌, ◌⊎◌, inl, inr, ℕ, ℤ, ◌+◌, ◌<◌, ◌≤◌, List, [], ◌∷◌, Option, Some, None, is_some, true, false, cond, refl, sym, ◌∙◌, ap, subst, arith}
 use Rattle.page_messages.specs.declared.closure.FrameId.{FrameId}
 use Rattle.page_messages.specs.declared.closure.JoinId.{JoinId}
-use Rattle.page_messages.specs.declared.closure.Closure.{Closure}
 use Rattle.page_messages.specs.declared.message.Msg.{Msg}
 use Rattle.page_messages.specs.declared.message.Body.{Body}
 use Rattle.page_messages.specs.declared.message.Body.TheVariants as body
@@ -18,7 +17,7 @@ use Rattle.cluster_rules.specs.Home.{replies_in, owed_adds}
 use Rattle.cluster_rules.specs.Lives.{Life, same_frame, live, after_act}
 use Rattle.cluster_rules.specs.Frames.{Frames, frames_of, with_stack, frames_item, frames_on, stack_sent, next_frame, spawns_on}
 use Rattle.cluster_rules.specs.Acting.{MayAct, MayMake}
-use Rattle.cluster_rules.specs.Edges.{MayGrant, MayPark, join_for}
+use Rattle.cluster_rules.specs.Edges.{join_for}
 use Rattle.cluster_rules.specs.Paging.{MayTakeUp}
 use Rattle.cluster_rules.specs.Positions.{Moved, Course, own}
 use Rattle.cluster_rules.specs.Runs.{Cluster, node_at, IsFree, IsOwed, MayDo, MayPost, MaySend}
@@ -26,11 +25,11 @@ use Rattle.cluster_rules.specs.Allowed.{IsAllowed}
 use Rattle.cluster_rules.proofs.Marks.{marks_of, same_self, first_is}
 use Rattle.cluster_rules.proofs.Holding.{own_first}
 use Rattle.cluster_order.proofs.Lawful.{Among, owed_is_reply}
-use Rattle.cluster_edges.proofs.News.{News, Told, ByGrant, ByPark, IsUp, told, told_event, told_item, told_sent, last_news, last_kept, syncs, granted_here, granted_synced, untold}
-use Rattle.cluster_edges.proofs.Through.{Property, EachLife, EachParked, count}
-use Rattle.cluster_edges.proofs.Placed.{Named, OnStack, OnReady, AtJoin, Coming, Placed, Brought, Untold, named_more, placed_kept}
+use Rattle.cluster_edges.proofs.News.{Told, ByGrant, ByPark, IsUp, told, told_event, told_item, told_sent, last_news, last_kept, syncs, granted_synced, untold}
+use Rattle.cluster_edges.proofs.Through.{EachLife, count}
+use Rattle.cluster_edges.proofs.Placed.{Named, OnStack, Coming, Placed, named_more, placed_kept}
 use Rattle.cluster_edges.proofs.Changing.{each_acted, placed_stack, placed_live, placed_ticked, placed_served, placed_taking}
-use Rattle.cluster_edges.proofs.Counted.{Once, marks_at, untold_none, counted_named}
+use Rattle.cluster_edges.proofs.Counted.{marks_at, untold_none, counted_named}
 use Rattle.cluster_edges.proofs.Sending.{told_last, up_placed, up_counted, grant_placed, grant_counted, park_placed, park_counted}
 
 -- what is no Page and no Ack may be posted
@@ -46,8 +45,8 @@ join_some node past (Some join) = refl
 join_some node past None = refl
 
 module _ (cluster : Cluster) (course : Course) (number : ℕ) (here : Option PostAt) (placed : Placed cluster number course (frames_of (node_at cluster number) (own number course)))
-         (once : (frame : FrameId) → count frame (marks_at cluster course number) ≤ 1)
-         (told_before : (frame : FrameId) → (last_news frame course ≡ None) ⊎ Named cluster course frame) where
+    (once : (frame : FrameId) → count frame (marks_at cluster course number) ≤ 1)
+    (told_before : (frame : FrameId) → (last_news frame course ≡ None) ⊎ Named cluster course frame) where
   abbrev node : Node
   node = node_at cluster number
 
@@ -107,11 +106,11 @@ module _ (cluster : Cluster) (course : Course) (number : ℕ) (here : Option Pos
       placed_stack cluster number grown (after_act node done (live frames.stack)) frames (still event refl)
       (each_acted (OnStack cluster number grown) node done may.life (live frames.stack) may.acts.is all
       (λ child procedure arguments is.
-          subst (λ it. OnStack cluster number (moving (Did (item.Act frame index it)) ∷ course) child None) (sym is)
-          (spawned frame child index procedure arguments (subst (λ it. MayMake node past it may.life) is may.makes).name))
+      subst (λ it. OnStack cluster number (moving (Did (item.Act frame index it)) ∷ course) child None) (sym is)
+      (spawned frame child index procedure arguments (subst (λ it. MayMake node past it may.life) is may.makes).name))
       (λ is.
-          subst (λ it. OnStack cluster number (moving (Did (item.Act frame index it)) ∷ course) may.life.id None) (sym is)
-          (synced frame index may.life may.acts.named may.life.join (subst (λ it. OnStack cluster number (moving (Did (item.Act frame index it)) ∷ course) may.life.id may.life.join) is top))))
+      subst (λ it. OnStack cluster number (moving (Did (item.Act frame index it)) ∷ course) may.life.id None) (sym is)
+      (synced frame index may.life may.acts.named may.life.join (subst (λ it. OnStack cluster number (moving (Did (item.Act frame index it)) ∷ course) may.life.id may.life.join) is top))))
 
   -- ---- items
 

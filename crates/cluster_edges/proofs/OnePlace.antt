@@ -1,5 +1,5 @@
 -- What a node has is on no other node and in no message under way: from the count of all places of a frame.
-use Rattle.std.proofs.Common.{◌≡◌, ◌≢◌, ◌⊎◌, inl, inr, ℕ, ◌+◌, ◌<◌, ◌≤◌, List, [], ◌∷◌, ◌++◌, Option, Some, None, Bool, true, false, cond, eqb, leb, refl, sym, ◌∙◌, ap, subst, arith}
+use Rattle.std.proofs.Common.{◌≡◌, ◌≢◌, ◌⊎◌, inl, inr, ℕ, ◌<◌, ◌≤◌, [], ◌∷◌, Some, Bool, true, false, eqb, leb, refl, ◌∙◌, ap, arith}
 use Rattle.std.proofs.lemmas.Bool.Decides.{nat_tests}
 use Rattle.std.specs.List.{list_any}
 use Rattle.page_messages.specs.declared.closure.FrameId.{FrameId}
@@ -7,16 +7,15 @@ use Rattle.page_messages.specs.declared.message.Msg.{Msg}
 use Rattle.page_messages.specs.declared.message.Body.{Body}
 use Rattle.page_messages.specs.declared.message.Body.TheVariants as body
 use Rattle.page_messages.specs.declared.log.PostAt.{PostAt}
-use Rattle.cluster_rules.specs.Lives.{same_frame}
 use Rattle.cluster_rules.specs.Frames.{frames_of}
-use Rattle.cluster_rules.specs.Positions.{Moved, Course, own}
+use Rattle.cluster_rules.specs.Positions.{Course, own}
 use Rattle.cluster_rules.specs.Runs.{Cluster, node_at}
 use Rattle.cluster_rules.proofs.Stepping.{WasPosted, takes_place, Takes, Stepped}
-use Rattle.cluster_rules.proofs.Summing.{sum_below, sum_one, sum_two}
-use Rattle.cluster_rules.proofs.Letters.{letters_of, amount_of, without_some, letter_taken}
+use Rattle.cluster_rules.proofs.Summing.{sum_one, sum_two}
+use Rattle.cluster_rules.proofs.Letters.{letter_taken}
 use Rattle.cluster_rules.proofs.Passing.{closure_marks}
-use Rattle.cluster_rules.proofs.Marks.{one, many, named, marks_of}
-use Rattle.cluster_rules.proofs.Holding.{at_node, in_message, flying, held, holds_once, own_other}
+use Rattle.cluster_rules.proofs.Marks.{many, named, marks_of}
+use Rattle.cluster_rules.proofs.Holding.{at_node, in_message, held, holds_once, own_other}
 use Rattle.cluster_edges.specs.Stages.{frame_in}
 use Rattle.cluster_edges.proofs.Through.{count}
 use Rattle.cluster_edges.proofs.Counted.{Once, marks_at, one_same}

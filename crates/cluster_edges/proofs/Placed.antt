@@ -1,7 +1,6 @@
 -- Where a frame that was sent is: what the course said last of each frame that stands on a stack, on a ready list, at its join or in a
 -- message under way.
-use Rattle.std.proofs.Common.{◌≡◌, ◌⊎◌, inl, inr, ℕ, ◌+◌, ◌<◌, ◌≤◌, List, [], ◌∷◌, Option, Some, None, is_some, Bool, true, false, cond, eqb, refl, sym, ◌∙◌, ap, subst, arith}
-use Rattle.std.proofs.lemmas.Bool.Decides.{nat_tests}
+use Rattle.std.proofs.Common.{◌≡◌, ◌⊎◌, inl, inr, ℕ, ◌<◌, ◌≤◌, ◌∷◌, Option, Some, None, is_some, Bool, true, false, cond, eqb, ◌∙◌, arith}
 use Rattle.std.specs.List.{list_any}
 use Rattle.page_messages.specs.declared.closure.FrameId.{FrameId}
 use Rattle.page_messages.specs.declared.closure.JoinId.{JoinId}
@@ -10,12 +9,11 @@ use Rattle.page_messages.specs.declared.message.Body.{Body}
 use Rattle.page_messages.specs.declared.message.Body.TheVariants as body
 use Rattle.page_messages.specs.declared.log.PostAt.{PostAt}
 use Rattle.cluster_rules.specs.Node.{Node}
-use Rattle.cluster_rules.specs.Lives.{main_id}
 use Rattle.cluster_rules.specs.Frames.{Frames, frames_of, next_frame}
 use Rattle.cluster_rules.specs.Positions.{Moved, Course, own}
 use Rattle.cluster_rules.specs.Runs.{Cluster, node_at}
 use Rattle.cluster_rules.proofs.Stepping.{WasPosted, takes_place}
-use Rattle.cluster_edges.proofs.News.{News, ByGrant, ByPark, IsUp, news_on, last_news, last_kept, granted_here, granted_kept, Risen, risen_kept}
+use Rattle.cluster_edges.proofs.News.{ByGrant, ByPark, IsUp, news_on, last_news, last_kept, granted_here, granted_kept, Risen, risen_kept}
 use Rattle.cluster_edges.proofs.Through.{EachLife, EachParked, each_change, parked_change}
 
 -- ---- names
@@ -24,7 +22,8 @@ use Rattle.cluster_edges.proofs.Through.{EachLife, EachParked, each_change, park
 abbrev pub Named : Cluster → Course → FrameId → Type 0
 Named cluster course id = id.number < next_frame (node_at cluster id.node) (own id.node course)
 
-named_on : (node : Node) (moved : Moved) (number : ℕ) (course : Course) (b : Bool) → next_frame node (own number course) ≤ next_frame node (cond b (moved.event ∷ own number course) (own number course))
+named_on : (node : Node) (moved : Moved) (number : ℕ) (course : Course) (b : Bool)
+    → next_frame node (own number course) ≤ next_frame node (cond b (moved.event ∷ own number course) (own number course))
 unfolding next_frame
 named_on node moved number course true = omega arith
 named_on node moved number course false = omega arith

@@ -1,22 +1,18 @@
 -- What a course says of a frame, as positions: where it was sent, and that nothing was said of it since.
-use Rattle.std.proofs.Common.{◌≡◌, ◌≢◌, ◌⊎◌, inl, inr, ℕ, suc, ◌+◌, ◌<◌, ◌≤◌, List, [], ◌∷◌, ◌++◌, Option, Some, None, Bool, true, false, cond, eqb, length, refl, sym, ◌∙◌, ap, subst, arith}
-use Rattle.std.proofs.lemmas.Bool.Decides.{nat_tests}
+use Rattle.std.proofs.Common.{◌≡◌, ◌⊎◌, inl, inr, ℕ, ◌<◌, [], ◌∷◌, Option, Some, None, Bool, true, false, cond, eqb, length, refl, sym, ◌∙◌, ap, subst, arith}
 use Rattle.page_messages.specs.declared.closure.FrameId.{FrameId}
 use Rattle.page_messages.specs.declared.closure.JoinId.{JoinId}
 use Rattle.page_messages.specs.declared.closure.Closure.{Closure}
 use Rattle.page_messages.specs.declared.message.Msg.{Msg}
 use Rattle.page_messages.specs.declared.message.Body.{Body}
 use Rattle.page_messages.specs.declared.message.Body.TheVariants as body
-use Rattle.page_messages.specs.declared.log.Item.{Item}
 use Rattle.page_messages.specs.declared.log.Item.TheVariants as item
-use Rattle.page_messages.specs.declared.log.PostAt.{PostAt}
 use Rattle.cluster_rules.specs.Walking.{or_else}
 use Rattle.cluster_rules.specs.Turns.{Event, Did, Sent, Took, Ended}
 use Rattle.cluster_rules.specs.Lives.{same_frame}
-use Rattle.cluster_rules.specs.Positions.{Moved, Course, at, before, Happens}
+use Rattle.cluster_rules.specs.Positions.{Moved, Course, at, before}
 use Rattle.cluster_rules.specs.Runs.{Cluster}
 use Rattle.cluster_rules.proofs.Marks.{same_self, same_name}
-use Rattle.backer_order.specs.Log as log
 use Rattle.backer_order.specs.Log.{Events, Post, TakeUp, Grant, Park}
 use Rattle.backer_order.specs.Moments.{NoneBetween}
 use Rattle.backer_order.specs.Edges.{TakesUp, FromGrant, FromPark, Joined}
@@ -24,7 +20,7 @@ use Rattle.cluster_order.specs.Reading.{note_of, happens_to, events_of}
 use Rattle.cluster_order.specs.Standing.{first}
 use Rattle.cluster_order.proofs.Growing.{within, at_last, before_last, before_behind, before_grown, at_behind}
 use Rattle.cluster_order.proofs.Events.{event_at, took_up_is}
-use Rattle.cluster_edges.proofs.News.{News, ByGrant, ByPark, IsUp, Told, told, told_event, told_sent, news_in, news_on, last_news, Risen, risen_on}
+use Rattle.cluster_edges.proofs.News.{News, ByGrant, ByPark, IsUp, Told, told_event, told_sent, news_in, news_on, last_news, Risen, risen_on}
 use Rattle.cluster_edges.proofs.Firsts.{first_before, first_grown, at_first, at_whole, before_position}
 
 -- ---- what an event says

@@ -1,27 +1,25 @@
 -- The frames of a node behind an event that takes a frame up, grants or parks it: all others stay as they were.
-use Rattle.std.proofs.Common.{◌≡◌, ◌≢◌, ◌⊎◌, inl, inr, ℕ, ◌+◌, ◌<◌, ◌≤◌, List, [], ◌∷◌, ◌++◌, Option, Some, None, is_some, Bool, true, false, cond, refl, sym, ◌∙◌, ap, subst, arith}
+use Rattle.std.proofs.Common.{◌≡◌, ◌⊎◌, inl, inr, ℕ, ◌+◌, ◌≤◌, List, [], ◌∷◌, ◌++◌, Option, Some, None, is_some, true, false, refl, sym, ◌∙◌, ap, subst, arith}
 use Rattle.page_messages.specs.declared.closure.FrameId.{FrameId}
 use Rattle.page_messages.specs.declared.closure.JoinId.{JoinId}
 use Rattle.page_messages.specs.declared.closure.Closure.{Closure}
 use Rattle.page_messages.specs.declared.message.Msg.{Msg}
-use Rattle.page_messages.specs.declared.message.Body.{Body}
-use Rattle.page_messages.specs.declared.message.Body.TheVariants as body
 use Rattle.page_messages.specs.declared.log.Item.{Item}
 use Rattle.page_messages.specs.declared.log.Item.TheVariants as item
 use Rattle.page_messages.specs.declared.log.PostAt.{PostAt}
-use Rattle.cluster_rules.specs.Turns.{Event, Did, Sent, Took, Ended, Past}
+use Rattle.cluster_rules.specs.Turns.{Did, Sent, Past}
 use Rattle.cluster_rules.specs.Node.{Node}
 use Rattle.cluster_rules.specs.Lives.{Life, same_frame, live, without_bottom, link_to}
-use Rattle.cluster_rules.specs.Frames.{Frames, Parked, frames_of, with_stack, taken_up}
-use Rattle.cluster_rules.specs.Edges.{MayGrant, MayPark, join_for}
+use Rattle.cluster_rules.specs.Frames.{Frames, frames_of, with_stack, taken_up}
+use Rattle.cluster_rules.specs.Edges.{MayGrant, MayPark}
 use Rattle.cluster_rules.specs.Paging.{MayTakeUp}
 use Rattle.cluster_rules.specs.Positions.{Moved, Course, own}
 use Rattle.cluster_rules.specs.Runs.{Cluster, node_at}
 use Rattle.cluster_rules.proofs.Marks.{one, marks, parked_marks, marks_of, same_self, bottom_gone}
-use Rattle.cluster_edges.proofs.News.{Told, ByGrant, ByPark, IsUp, told, news_in, news_on, last_news, granted_here, Risen, risen_on}
-use Rattle.cluster_edges.proofs.Through.{Property, EachLife, EachParked, count, each_append, each_parts, each_change, parked_change}
-use Rattle.cluster_edges.proofs.Placed.{OnStack, OnReady, AtJoin, Placed, Untold, named_more, stack_kept, ready_kept, join_kept, placed_kept}
-use Rattle.cluster_edges.proofs.Counted.{Once, marks_at, counts, count_bottom, count_live, one_same, no_news_lives, no_news_parked}
+use Rattle.cluster_edges.proofs.News.{Told, ByGrant, ByPark, IsUp, told, news_on, last_news, Risen, risen_on}
+use Rattle.cluster_edges.proofs.Through.{EachLife, count, each_append, each_parts, each_change, parked_change}
+use Rattle.cluster_edges.proofs.Placed.{OnStack, OnReady, AtJoin, Placed, named_more, stack_kept, ready_kept, join_kept}
+use Rattle.cluster_edges.proofs.Counted.{marks_at, counts, count_bottom, count_live, one_same, no_news_lives, no_news_parked}
 
 -- what is said of the frame of which the event speaks
 pub told_last : (moved : Moved) (course : Course) (it : Told) → told moved ≡ Some it → last_news it.frame (moved ∷ course) ≡ Some it.news
@@ -33,7 +31,7 @@ left_count frame [] first second is = ap (λ id. one (same_frame id frame) + 0) 
 left_count frame (life ∷ above) first second is = ap (λ it. one (same_frame life.id frame) + it) (left_count frame above first second is)
 
 module _ (cluster : Cluster) (course : Course) (number : ℕ) (here : Option PostAt) (placed : Placed cluster number course (frames_of (node_at cluster number) (own number course)))
-         (once : (frame : FrameId) → count frame (marks_at cluster course number) ≤ 1) where
+    (once : (frame : FrameId) → count frame (marks_at cluster course number) ≤ 1) where
   abbrev node : Node
   node = node_at cluster number
 

@@ -1,59 +1,29 @@
--- The rules for the ready list: what is taken up was ready, and is up from then on; what is parked is not ready at once.
-use Rattle.std.proofs.Common.{◌≡◌, ◌≢◌, ◌⊎◌, inl, inr, ℕ, suc, ◌+◌, ◌<◌, ◌≤◌, List, [], ◌∷◌, ◌++◌, Option, Some, None, Bool, true, false, cond, eqb, leb, ◌||◌, length, refl, sym, ◌∙◌, ap, subst, arith}
+-- The stage of a frame that was sent, by what the course says of it.
+use Rattle.std.proofs.Common.{◌≡◌, ℕ, ◌<◌, List, [], ◌∷◌, Option, Some, None, Bool, true, false, cond, leb, ◌||◌, length, refl, ◌∙◌, ap, subst, arith}
 use Rattle.std.proofs.lemmas.Bool.Decides.{nat_tests}
 use Rattle.std.specs.List.{list_any}
 use Rattle.page_messages.specs.declared.closure.FrameId.{FrameId}
 use Rattle.page_messages.specs.declared.closure.JoinId.{JoinId}
-use Rattle.page_messages.specs.declared.closure.Closure.{Closure}
 use Rattle.page_messages.specs.declared.message.Msg.{Msg}
-use Rattle.page_messages.specs.declared.message.Body.{Body}
-use Rattle.page_messages.specs.declared.message.Body.TheVariants as body
 use Rattle.page_messages.specs.declared.log.Item.{Item}
 use Rattle.page_messages.specs.declared.log.Item.TheVariants as item
 use Rattle.page_messages.specs.declared.log.PostAt.{PostAt}
-use Rattle.cluster_rules.specs.Turns.{WholeTurn, Event, Did, Sent, Took, Ended, Past}
-use Rattle.cluster_rules.specs.Node.{Node}
+use Rattle.cluster_rules.specs.Turns.{Event, Did, Sent, Took, Ended}
 use Rattle.cluster_rules.specs.Lives.{Life, same_frame}
-use Rattle.cluster_rules.specs.Frames.{Frames, frames_of}
-use Rattle.cluster_rules.specs.Edges.{MayPark}
-use Rattle.cluster_rules.specs.Paging.{MayTakeUp}
-use Rattle.cluster_rules.specs.Positions.{Moved, Course, own, at, course_of}
-use Rattle.cluster_rules.specs.Runs.{Cluster, node_at, IsFree, IsOwed, MayDo, IsLawful}
-use Rattle.cluster_rules.specs.Allowed.{IsAllowed}
-use Rattle.cluster_rules.proofs.Stepping.{Step, Stepped, lawful_stepped}
-use Rattle.cluster_rules.proofs.Marks.{marks, same_self, same_name}
-use Rattle.cluster_rules.proofs.Holding.{own_first, own_other}
-use Rattle.cluster_rules.proofs.Summing.{one_or_two}
-use Rattle.backer_order.specs.Log as log
-use Rattle.backer_order.specs.Log.{Events, Post, TakeUp, Grant, Park}
-use Rattle.backer_order.specs.Ready.{Stage, Flying, Ready, Up, Stages, SendsFrame, Rises}
-use Rattle.cluster_order.specs.Reading.{events_of}
+use Rattle.cluster_rules.specs.Positions.{Moved, Course, at}
+use Rattle.cluster_rules.specs.Runs.{Cluster}
+use Rattle.cluster_rules.proofs.Marks.{same_name}
 use Rattle.cluster_order.specs.Standing.{first}
 use Rattle.cluster_order.proofs.Growing.{within, at_last, at_behind}
-use Rattle.cluster_order.proofs.Events.{took_up_is, posted_is, park_is}
-use Rattle.cluster_edges.specs.Stages.{frame_in, takes_up, takes_up_item, since_position, stage_on, stage_of, stage_sent, stage_by, stages_of}
-use Rattle.cluster_edges.proofs.News.{News, ByGrant, ByPark, IsUp, told_event, told_item, news_in, news_on, last_news}
-use Rattle.cluster_edges.proofs.Through.{Property, EachLife, count}
-use Rattle.cluster_edges.proofs.Placed.{OnStack, OnReady, Placed, Brought}
-use Rattle.cluster_edges.proofs.Counted.{counted_some}
-use Rattle.cluster_edges.proofs.Bringing.{brought}
-use Rattle.cluster_edges.proofs.OnePlace.{one_place}
-use Rattle.cluster_edges.proofs.Moving.{may_post}
-use Rattle.cluster_edges.proofs.Sending.{park_count}
-use Rattle.cluster_edges.proofs.Firsts.{first_count, first_next, first_stays, at_whole, before_position, stepped_first, step_at}
-use Rattle.cluster_edges.proofs.Saying.{Says, SaysGrant, SaysPark, SaysUp, says, Said, said, grant_event, park_event, up_says}
+use Rattle.cluster_edges.specs.Stages.{frame_in, takes_up, takes_up_item, since_position, stage_of, stage_sent, stage_by, stages_of}
+use Rattle.cluster_edges.proofs.News.{ByGrant, ByPark, IsUp, told_event, told_item, news_in, news_on}
+use Rattle.cluster_edges.proofs.Through.{Property, EachLife}
+use Rattle.cluster_edges.proofs.Saying.{Says, SaysGrant, SaysPark, SaysUp}
 
 -- ---- tests
 
-is_ready : FrameId → Life → Bool
-is_ready frame life = same_frame life.id frame
-
-any_first_on : {A : Type 0} (test : A → Bool) (first : A) (rest : List A) (b : Bool) → test first ≡ b → b ≡ true → list_any test (first ∷ rest) ≡ true
-any_first_on test first rest true is here = rw is refl
-any_first_on test first rest false is here = absurd (cc)
-
 pub any_first : {A : Type 0} (test : A → Bool) (first : A) (rest : List A) → test first ≡ true → list_any test (first ∷ rest) ≡ true
-any_first test first rest here = any_first_on test first rest true here refl
+any_first test first rest here = rw here refl
 
 pub any_rest_on : (b rest : Bool) → rest ≡ true → b || rest ≡ true
 any_rest_on true rest is = refl

@@ -1,14 +1,13 @@
 -- What holds of each frame of a node, by its name and its join, through what the node's events make of its frames.
-use Rattle.std.proofs.Common.{◌≡◌, ◌⊎◌, inl, inr, ℕ, ℤ, ◌+◌, ◌≤◌, List, [], ◌∷◌, ◌++◌, Option, Some, None, Bool, true, false, cond, refl, sym, ◌∙◌, ap, subst, arith}
+use Rattle.std.proofs.Common.{◌≡◌, ℕ, ℤ, ◌+◌, List, [], ◌∷◌, ◌++◌, Option, Some, None, Bool, true, false, cond, refl, arith}
 use Rattle.cilk_meaning.specs.Wants.{Deposit, Answer}
 use Rattle.page_messages.specs.declared.closure.FrameId.{FrameId}
 use Rattle.page_messages.specs.declared.closure.JoinId.{JoinId}
-use Rattle.page_messages.specs.declared.closure.Link.{Link}
 use Rattle.cluster_rules.specs.Walking.{with_first}
 use Rattle.cluster_rules.specs.Turns.{Past}
 use Rattle.cluster_rules.specs.Node.{Node}
-use Rattle.cluster_rules.specs.Lives.{Life, same_frame, returned, with_kept, live_from, live, added, answered, made}
-use Rattle.cluster_rules.specs.Frames.{Frames, Parked, is_complete, all_joined, still_parked, joined}
+use Rattle.cluster_rules.specs.Lives.{Life, same_frame, returned, with_kept, live_from, live, added, answered}
+use Rattle.cluster_rules.specs.Frames.{Parked, is_complete, all_joined, still_parked, joined}
 use Rattle.cluster_rules.proofs.Marks.{Mark, one, many, named, marks, parked_marks}
 
 abbrev pub Property : Type 1
