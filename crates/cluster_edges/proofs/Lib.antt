@@ -37,3 +37,4 @@ pub mod Joins
 pub mod Readying
 pub mod Syncing
 pub mod ReadyLists
+pub mod Edging
