@@ -13,3 +13,4 @@ pub mod Blocks
 pub mod Joins
 pub mod Settled
 pub mod Dags
+pub mod Ordered
