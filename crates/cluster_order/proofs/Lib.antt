@@ -24,3 +24,4 @@ pub mod Clearing
 pub mod Stacking
 pub mod Following
 pub mod Staying
+pub mod Counting
