@@ -25,3 +25,4 @@ pub mod Stacking
 pub mod Following
 pub mod Staying
 pub mod Counting
+pub mod Ranking
