@@ -26,3 +26,4 @@ pub mod Following
 pub mod Staying
 pub mod Counting
 pub mod Ranking
+pub mod Placing
