@@ -27,3 +27,4 @@ pub mod Staying
 pub mod Counting
 pub mod Ranking
 pub mod Placing
+pub mod Touching
