@@ -28,3 +28,4 @@ pub mod Counting
 pub mod Ranking
 pub mod Placing
 pub mod Touching
+pub mod Sources
