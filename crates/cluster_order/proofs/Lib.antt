@@ -29,3 +29,4 @@ pub mod Ranking
 pub mod Placing
 pub mod Touching
 pub mod Sources
+pub mod Meeting
