@@ -30,3 +30,4 @@ pub mod Placing
 pub mod Touching
 pub mod Sources
 pub mod Meeting
+pub mod HomeOrders
