@@ -166,7 +166,7 @@ module _ (cluster : Cluster) (turns : List WholeTurn) (lawful : IsLawful cluster
   alone_there number position post receiver other note (log.Added old) is alone less posted = absurd alone
 
   -- what an add at a position is: served at the home of its word
-  added_there : (number : ℕ) (frame : FrameId) (word : ℕ) (old addend : ℤ) (position : ℕ) → events position ≡ log.Acts number frame (log.Add word old addend)
+  pub added_there : (number : ℕ) (frame : FrameId) (word : ℕ) (old addend : ℤ) (position : ℕ) → events position ≡ log.Acts number frame (log.Add word old addend)
       → (home index : ℕ) × Happens course home position (Did (item.Served frame index word old addend)) × (served_for home (owed_adds (past home position)) ≡ number)
   added_there number frame word old addend position is = on (acted_is cluster course position number frame (log.Add word old addend) is)
     where

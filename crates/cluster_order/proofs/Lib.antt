@@ -24,3 +24,10 @@ pub mod Clearing
 pub mod Stacking
 pub mod Following
 pub mod Staying
+pub mod Counting
+pub mod Ranking
+pub mod Placing
+pub mod Touching
+pub mod Sources
+pub mod Meeting
+pub mod HomeOrders

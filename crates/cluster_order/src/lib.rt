@@ -2,12 +2,14 @@
 //! of such lines of events holds of clusters.
 #![tactic(auto)]
 
-ghost use Rattle.std.specs.Prelude.{ℕ, List};
+ghost use Rattle.std.specs.Prelude.{◌≡◌, ℕ, List, length, map};
 ghost use Rattle.backer_order.specs.Edges.{Frames};
+ghost use Rattle.backer_order.specs.HomeList.{HomeList};
 ghost use Rattle.backer_order.specs.HomeOrder.{ReadsLast};
 ghost use Rattle.backer_order.specs.Rules.{Caching};
 ghost use Rattle.cluster_order.specs.Reading.{events_of, memory_of};
 ghost use Rattle.cluster_order.specs.Standing.{returns_of, stacks_of};
+ghost use Rattle.cluster_rules.specs.Moments.{Listed, IsHomeOrder};
 ghost use Rattle.cluster_rules.specs.Positions.{course_of};
 ghost use Rattle.cluster_rules.specs.Runs.{Cluster, IsLawful};
 ghost use Rattle.cluster_rules.specs.Turns.{WholeTurn};
@@ -27,4 +29,10 @@ pub fn keeps_frame_rules()
 /// order of its word left. Programs with races are meant too.
 pub fn reads_last_in_home_order()
     ensures { (cluster : Cluster) (turns : List WholeTurn) (now : ℕ) → IsLawful cluster turns → ReadsLast (events_of cluster (course_of turns)) (memory_of cluster) now }
+{}
+
+/// A law, nothing is done: the home order of a word in lawful turns, which the moments at its home give, is the order of its accesses in which
+/// each reads the last before it. The list has each access once.
+pub fn home_order_is_list()
+    ensures { (cluster : Cluster) (turns : List WholeTurn) (word : ℕ) (order : List Listed) → IsLawful cluster turns → IsHomeOrder cluster (course_of turns) word order → (home : HomeList (events_of cluster (course_of turns)) (memory_of cluster) (length (course_of turns)) word) × (map (λ entry. entry.at) (home.list) ≡ map (λ one. one.position) order) }
 {}
