@@ -119,9 +119,9 @@ module _ (cluster : Cluster) (turns : List WholeTurn) (lawful : IsLawful cluster
         smaller = elim (compare arrival access) [
           | Less3 less ↦ less
           | Same3 same ↦ (let one = same_happening course node node access (last.event) (here.0) (subst (λ i. Happens course node i (last.event)) same (last.is)) (here.1) in
-            let not : arrives (its_page word) (last.event) ≡ false = ap (arrives (its_page word)) (one.1) ∙ no_arrival word (its_page word) (here.0) (here.2) in
-            let is = last.such_is in
-            absurd (cc))
+              let not : arrives (its_page word) (last.event) ≡ false = ap (arrives (its_page word)) (one.1) ∙ no_arrival word (its_page word) (here.0) (here.2) in
+              let is = last.such_is in
+              absurd (cc))
           | More3 more ↦ (let within = last.within in absurd (omega (arith, more, within)))
         ]
 
