@@ -131,14 +131,15 @@ fn the_next_block_has_a_join_of_its_own(rt: HostRuntime) -> Result<(), Fail> {
 // The frame 1, from join 0, where the child 2 has come.
 fn joined(alloc: Global, code: &Code, joins: &mut Joins) -> Result<Closure, Fail> {
     let closure = closure(alloc, code, 1, &[child(2)])?;
-    if !joins.waits(join_of(0)) {
+    let join = join_of(0);
+    if !joins.waits(join) {
         return Err("it does not wait")?;
     }
-    if joins.park(join_of(0), closure)?.is_some() {
+    if joins.park(join, closure)?.is_some() {
         return Err("given back too early")?;
     }
-    if !joins.waits(join_of(0)) {
+    if !joins.waits(join) {
         return Err("it is over too early")?;
     }
-    Ok(joins.done(join_of(0), 2, 20)?.ok_or("not given back")?)
+    Ok(joins.done(join, 2, 20)?.ok_or("not given back")?)
 }
