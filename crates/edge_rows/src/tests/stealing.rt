@@ -118,12 +118,16 @@ fn assert_links(rt: &impl Abort, closure: &Closure, number: u32, link: Link) {
 #[test]
 fn the_oldest_frames_are_stolen(rt: HostRuntime) -> Result<(), Fail> {
     let mut node = node_of(rt.alloc(), 0, &[1, 2, 3], 4)?;
-    assert_steals(&rt, &mut node, 1, Link::Here, join_of(0), &[child(2)])?;
+    assert_oldest(&rt, &mut node)
+}
+
+fn assert_oldest(rt: &impl Abort, node: &mut Node) -> Result<(), Fail> {
+    assert_steals(rt, node, 1, Link::Here, join_of(0), &[child(2)])?;
     let away = Link::Away { join: join_of(0) };
-    assert_steals(&rt, &mut node, 2, away, join_of(1), &[child(3)])?;
-    assert_links(&rt, &node.running, 4, Link::Here);
+    assert_steals(rt, node, 2, away, join_of(1), &[child(3)])?;
+    assert_links(rt, &node.running, 4, Link::Here);
     let away = Link::Away { join: join_of(1) };
-    assert_pops(&rt, &mut node.deque, 3, away)?;
+    assert_pops(rt, &mut node.deque, 3, away)?;
     assert!(rt; node.deque.is_empty());
     assert_eq!(rt; node.joins.started(), 2);
     Ok(())
@@ -166,10 +170,14 @@ fn push_stolen(
 #[test]
 fn the_next_block_has_a_join_of_its_own(rt: HostRuntime) -> Result<(), Fail> {
     let mut node = node_of(rt.alloc(), 0, &[1], 2)?;
-    assert_steals(&rt, &mut node, 1, Link::Here, join_of(0), &[child(2)])?;
-    push_joined(rt.alloc(), &node.code, &mut node.deque, &mut node.joins)?;
-    node.running = closure(rt.alloc(), &node.code, 3, &[])?;
-    assert_steals(&rt, &mut node, 1, Link::Here, join_of(1), &[child(3)])?;
+    assert_next_block(&rt, rt.alloc(), &mut node)
+}
+
+fn assert_next_block(rt: &impl Abort, alloc: Global, node: &mut Node) -> Result<(), Fail> {
+    assert_steals(rt, node, 1, Link::Here, join_of(0), &[child(2)])?;
+    push_joined(alloc, &node.code, &mut node.deque, &mut node.joins)?;
+    node.running = closure(alloc, &node.code, 3, &[])?;
+    assert_steals(rt, node, 1, Link::Here, join_of(1), &[child(3)])?;
     assert!(rt; node.joins.waits(join_of(1)));
     assert!(rt; !node.joins.waits(join_of(0)));
     Ok(())
