@@ -29,7 +29,8 @@ less : (a b : ℕ) → nat_lt a b ≡ true → a < b
 less a b e = grind (arith, nat_tests)
 
 -- Children whose targets are below the number of the locals.
-pub among : (locals : List ℤ) (number : ℕ) → length locals ≡ number → (children : List Child) → list_all (λ child. option_map_or (λ target. nat_lt target number) child.target true) children ≡ true → AreAmong locals children
+pub among : (locals : List ℤ) (number : ℕ) → length locals ≡ number → (children : List Child) →
+    list_all (λ child. option_map_or (λ target. nat_lt target number) child.target true) children ≡ true → AreAmong locals children
 among locals number whole [] below = tt
 among locals number whole (child ∷ children) below =
     let parts = both _ _ below in
