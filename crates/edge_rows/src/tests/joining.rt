@@ -36,9 +36,9 @@ fn join_of(number: u32) -> JoinId
 
 // Both joins of the node are started, and then this comes.
 fn assert_row(rt: &impl Abort, alloc: Global, code: &Code, row: Row) -> Result<(), Fail> {
-    let mut joins = Joins::new(alloc, NODE);
-    start(rt, &mut joins, 0)?;
-    start(rt, &mut joins, 1)?;
+    let mut joins = none_started(alloc, code);
+    start(rt, code, &mut joins, 0)?;
+    start(rt, code, &mut joins, 1)?;
     for &(comes, shown) in row {
         let given = come(rt, alloc, code, &mut joins, comes)?;
         assert_shows(rt, code, given, shown)?;
@@ -46,9 +46,18 @@ fn assert_row(rt: &impl Abort, alloc: Global, code: &Code, row: Row) -> Result<(
     Ok(())
 }
 
+// The joins of the node before any is started.
+fn none_started(alloc: Global, code: &Code) -> Joins
+    ensures { AllStand code.now result }
+{
+    Joins::new(alloc, NODE)
+}
+
 // The next join has this number.
-fn start(rt: &impl Abort, joins: &mut Joins, number: u32) -> Result<(), Fail>
-    requires { number < 4294967295 }
+fn start(rt: &impl Abort, code: &Code, joins: &mut Joins, number: u32) -> Result<(), Fail>
+    requires number { number < 4294967295 }
+    requires joins { AllStand code.now joins.old }
+    ensures { OnOk result (AllStand code.now joins.new) }
 {
     if joins.started() != number {
         return Err("another number was started")?;
@@ -263,10 +272,10 @@ fn joins_give_back_once_all_have_come(rt: HostRuntime) -> Result<(), Fail> {
 #[test]
 fn a_join_waits_until_it_is_over(rt: HostRuntime) -> Result<(), Fail> {
     let code = code(rt.alloc())?;
-    let mut joins = Joins::new(rt.alloc(), NODE);
+    let mut joins = none_started(rt.alloc(), &code);
     may_move(&joins);
     assert!(rt; !joins.waits(join_of(0)));
-    start(&rt, &mut joins, 0)?;
+    start(&rt, &code, &mut joins, 0)?;
     assert!(rt; joins.waits(join_of(0)));
     assert!(rt; !joins.waits(join_of(1)));
     let elsewhere = JoinId { node: 2, number: 0 };

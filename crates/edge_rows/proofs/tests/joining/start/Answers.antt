@@ -5,5 +5,5 @@ pub start-requires : goal.start-requires
 start-requires g c =
     let started = c.started.ensures.started in
     let same = c.if-started-number.false in
-    let small = c.requires in
+    let small = c.requires.number in
     omega (arith, started, same, small)
