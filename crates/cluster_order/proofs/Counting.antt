@@ -76,7 +76,11 @@ module _ (push pop : ℕ → Bool) (apart : (at : ℕ) → pop at ≡ true → p
       on true popped c pushed before =
           let head = owed now popped in
           let none = apart now popped in
-          rw (popped, none) (ranked_pop push (count pop now) (head.0) (line now) (head.1.rest) (head.1.is) (before.0), total_pop (count pop now) (head.0) (count push now) (line now) (head.1.rest) (head.1.is) (before.1))
+          rw (popped, none) (
+            ranked_pop push (count pop now) (head.0) (line now) (head.1.rest) (head.1.is) (before.0),
+            total_pop (count pop now) (head.0) (count push now) (line now) (head.1.rest)
+                (head.1.is) (before.1),
+          )
       on false kept true pushed before =
           rw (kept, pushed) (ranked_push push (count pop now) now (line now) (before.0) (before.1), total_push (count pop now) now (count push now) (line now) (before.1))
       on false kept false none before = rw (kept, none) before

@@ -1,8 +1,8 @@
 -- The home order of a word is the list of its accesses over positions: each once, in the order of which consistency is proved.
-use Rattle.std.proofs.Common.{◌≡◌, ◌⊎◌, inl, inr, ℕ, ℤ, zero, suc, ◌<◌, List, [], ◌∷◌, Option, Some, None, Bool, true, false, ◌||◌, ◌↔◌, length, map, refl, sym, ◌∙◌, ap, subst, arith}
+use Rattle.std.proofs.Common.{◌≡◌, ◌⊎◌, inl, inr, ℕ, zero, suc, ◌<◌, List, [], ◌∷◌, Option, Some, None, Bool, true, false, ◌||◌, length, map, refl, sym, ◌∙◌, ap, subst, arith}
 use Rattle.std.specs.List.{Contains}
 use Rattle.cluster_rules.specs.Turns.{WholeTurn, Event}
-use Rattle.cluster_rules.specs.Positions.{Moved, Course, course_of, Happens}
+use Rattle.cluster_rules.specs.Positions.{Course, course_of, Happens}
 use Rattle.cluster_rules.specs.Moments.{touches, adds, IsMoment, IsReceipt, Taken, AtOnce, IsSource, Answered, Loaded, Listed, EarlierBy, IsEarlier, IsListed, InOrder, IsHomeOrder}
 use Rattle.cluster_rules.specs.Runs.{Cluster, IsLawful, node_at}
 use Rattle.backer_order.specs.Log as log
@@ -85,7 +85,8 @@ module _ (cluster : Cluster) (turns : List WholeTurn) (lawful : IsLawful cluster
   entry_of one it = record { node = owner_of one it; at = one.position; inside = happens_within (one.node) (one.position) (it.event) (it.is); is = (access_of one it).is }
 
   -- one that has a moment has it over positions too, before the end
-  has_moment : (one : Listed) (it : IsListed cluster course word one) (moment : ℕ) → one.moment ≡ Some moment → Moment events (memory_of cluster) (owner_of one it) word (one.position) moment × (moment < now)
+  has_moment : (one : Listed) (it : IsListed cluster course word one) (moment : ℕ) → one.moment ≡ Some moment → Moment events (memory_of cluster) (owner_of one it) word (one.position) moment ×
+      (moment < now)
   has_moment one it moment is =
       let there = (it.moments moment).1 is in (
         moment_at cluster turns lawful (owner_of one it) (one.node) word (one.position) (it.event) (it.is) ((access_of one it).is) moment there,
@@ -112,7 +113,8 @@ module _ (cluster : Cluster) (turns : List WholeTurn) (lawful : IsLawful cluster
 
   -- ---- the order
 
-  earlier_on : (first second : Listed) (one : IsListed cluster course word first) (other : IsListed cluster course word second) → (m n : Option ℕ) → first.moment ≡ m → second.moment ≡ n → EarlierBy m n first second
+  earlier_on : (first second : Listed) (one : IsListed cluster course word first) (other : IsListed cluster course word second) → (m n : Option ℕ) → first.moment ≡ m → second.moment ≡ n
+      → EarlierBy m n first second
       → Earlier (owner_of first one) (first.position) (owner_of second other) (second.position)
   earlier_on first second one other (Some m) (Some n) is is' order =
       let here = has_moment first one m is in

@@ -1,15 +1,13 @@
 -- The moment of an access by the rules of the cluster is the one by the rules over positions.
-use Rattle.std.proofs.Common.{◌≡◌, ◌⊎◌, inl, inr, ℕ, ℤ, suc, ◌<◌, ◌≤◌, List, Option, Some, None, Bool, true, false, ◌↔◌, refl, sym, ◌∙◌, ap, subst, arith}
+use Rattle.std.proofs.Common.{◌≡◌, inl, inr, ℕ, ℤ, suc, ◌<◌, ◌≤◌, List, Some, Bool, true, false, ◌↔◌, refl, sym, ◌∙◌, ap, subst, arith}
 use Rattle.page_messages.specs.declared.closure.FrameId.{FrameId}
-use Rattle.page_messages.specs.declared.log.LoggedAct.TheVariants as act
-use Rattle.page_messages.specs.declared.log.Item.TheVariants as item
-use Rattle.cluster_rules.specs.Turns.{WholeTurn, Event, Did}
+use Rattle.cluster_rules.specs.Turns.{WholeTurn, Event}
 use Rattle.cluster_rules.specs.Node.{page_of}
 use Rattle.cluster_rules.specs.Cache.{arrives, writes}
 use Rattle.cluster_rules.specs.Sendings.{sends}
 use Rattle.cluster_rules.specs.Positions.{Moved, Course, course_of, at, Happens}
 use Rattle.cluster_rules.specs.Positions as positions
-use Rattle.cluster_rules.specs.Moments.{touches, adds, NoneUpTo, IsLast, IsFirst, IsTouch, IsSentMoment, IsArrivedMoment, IsAddMoment, IsMoment}
+use Rattle.cluster_rules.specs.Moments.{touches, NoneUpTo, IsLast, IsFirst, IsTouch, IsSentMoment, IsArrivedMoment, IsMoment}
 use Rattle.cluster_rules.specs.Runs.{Cluster, IsLawful, node_at}
 use Rattle.backer_order.specs.Log as log
 use Rattle.backer_order.specs.Moments.{NoneBetween, IsWrite, IsArrival, Resident, LastWrite, NoWrite, Sends, FirstSending, Stay, ByWrite, ByArrival, Moment, IsAccess}
@@ -143,12 +141,14 @@ module _ (cluster : Cluster) (turns : List WholeTurn) (lawful : IsLawful cluster
         }
       where
         earlier : positions.NoneBetween course node (arrives (its_page word)) arrival access
-        earlier = between_none course node (arrives (its_page word)) (IsArrival events node (its_page word)) arrival access (λ i event happens is. arrival_at cluster turns lawful node (its_page word) i event happens is) (resident.last)
+        earlier = between_none course node (arrives (its_page word)) (IsArrival events node (its_page word)) arrival access
+            (λ i event happens is. arrival_at cluster turns lawful node (its_page word) i event happens is) (resident.last)
 
         none : (i : ℕ) (moved : Moved) → arrival < i → at course i ≡ Some moved → moved.node ≡ node → Order3 i access → i ≤ access → arrives (its_page word) moved.event ≡ false
         none i moved behind found by (Less3 smaller) less = earlier i moved behind smaller found by
         none i moved behind found by (Same3 same) less =
-            let one = same_happening course node node access moved.event (here.0) (subst (λ k. Happens course node k moved.event) same (record { moved = moved; is = found; by = by; event_is = refl })) (here.1) in
+            let one = same_happening course node node access moved.event (here.0)
+            (subst (λ k. Happens course node k moved.event) same (record { moved = moved; is = found; by = by; event_is = refl })) (here.1) in
             ap (arrives (its_page word)) (one.1) ∙ no_arrival word (its_page word) (here.0) (here.2)
         none i moved behind found by (More3 more) less = absurd (omega (arith, more, less))
 
@@ -197,7 +197,8 @@ module _ (cluster : Cluster) (turns : List WholeTurn) (lawful : IsLawful cluster
           is = it.1;
           such_is = it.2;
           behind = first.after;
-          none = between_none course node (sends (its_page word)) (Sends events node (its_page word)) write sending (λ i event happens is. sends_at cluster turns lawful node (its_page word) i event happens is) (first.none);
+          none = between_none course node (sends (its_page word)) (Sends events node (its_page word)) write sending
+              (λ i event happens is. sends_at cluster turns lawful node (its_page word) i event happens is) (first.none);
         }
 
     -- ---- the moment of a read or a write
@@ -261,7 +262,8 @@ module _ (cluster : Cluster) (turns : List WholeTurn) (lawful : IsLawful cluster
     own_access other there touched =
         one_owner events access word node owner (inl (touch_at cluster turns lawful node word access other there touched)) is
 
-    touched_moment : (moment : ℕ) (other : Event) → Happens course node access other → touches word other ≡ true → Stay events (memory_of cluster) node word access moment → Moment events (memory_of cluster) owner word access moment
+    touched_moment : (moment : ℕ) (other : Event) → Happens course node access other → touches word other ≡ true → Stay events (memory_of cluster) node word access moment
+        → Moment events (memory_of cluster) owner word access moment
     touched_moment moment other there touched stay =
         let mine = own_access other there touched in
         subst (λ it. Moment events (memory_of cluster) it word access moment) mine (inl (touch_at cluster turns lawful node word access other there touched, stay))

@@ -1,16 +1,15 @@
 -- Each place of a message is that of one post, so what is posted at a position and taken at another is told by the place.
-use Rattle.std.proofs.Common.{◌≡◌, ◌⊎◌, inl, inr, ℕ, suc, ◌+◌, ◌<◌, List, [], ◌∷◌, Option, Some, None, Bool, true, false, cond, ◌&&◌, eqb, length, refl, sym, ◌∙◌, ap, subst, arith}
+use Rattle.std.proofs.Common.{◌≡◌, ◌⊎◌, inl, inr, ℕ, ◌+◌, ◌<◌, List, [], ◌∷◌, Option, Some, None, Bool, true, false, cond, ◌&&◌, eqb, length, refl, sym, ◌∙◌, ap, subst, arith}
 use Rattle.std.proofs.lemmas.Bool.Decides.{nat_tests}
 use Rattle.cilk_meaning.specs.declared.ends.NodeEnd.{NodeEnd}
 use Rattle.page_messages.specs.declared.message.Msg.{Msg}
 use Rattle.page_messages.specs.declared.log.Item.{Item}
 use Rattle.page_messages.specs.declared.log.PostAt.{PostAt}
-use Rattle.cluster_rules.specs.Turns.{WholeTurn, Event, Did, Sent, Took, Ended, same_place, posted_at}
-use Rattle.cluster_rules.specs.Positions.{Moved, Course, with_items, with_posts, with_taking, with_end, with_turn, course_of, at, before}
+use Rattle.cluster_rules.specs.Turns.{WholeTurn, Did, Sent, Took, Ended, same_place, posted_at}
+use Rattle.cluster_rules.specs.Positions.{Moved, Course, with_items, with_posts, with_taking, with_end, course_of, at, before}
 use Rattle.cluster_rules.specs.Moments.{IsTakenAt}
 use Rattle.cluster_rules.specs.Runs.{Cluster, IsLawful}
 use Rattle.cluster_order.specs.Reading.{posts_at, post_position, taken_from}
-use Rattle.cluster_order.proofs.Growing.{within}
 use Rattle.cluster_order.proofs.Messages.{Taking, taking_found}
 
 -- ---- the places of posts go up
@@ -48,7 +47,8 @@ earlier_turn place here turn less (inr both) = let same = both.0 in inl (omega (
 -- ---- one more
 
 -- what is no post leaves the places as they are
-no_post : (course : Course) (here : PostAt) (first : Moved) → ((message : Msg) → first.event ≡ Sent message → ⊥) → ((place : PostAt) → posts_at place first ≡ false) → Placed course here → Placed (first ∷ course) here
+no_post : (course : Course) (here : PostAt) (first : Moved) → ((message : Msg) → first.event ≡ Sent message → ⊥) → ((place : PostAt) → posts_at place first ≡ false) → Placed course here
+    → Placed (first ∷ course) here
 no_post course here first none passes placed = λ place position posted. on place position posted (eqb position (length course)) refl (posted.2)
   where
     on : (place : PostAt) (position : ℕ) (posted : PostedAt (first ∷ course) place position) (b : Bool) → eqb position (length course) ≡ b → cond b (Some first) (at course position) ≡ Some (posted.0)
@@ -132,7 +132,8 @@ module _ (cluster : Cluster) (turns : List WholeTurn) (lawful : IsLawful cluster
       let found = taking_found cluster turns lawful (it.receiver.node) taking (Some (it.place)) (it.message)
       (record { moved = it.receiver; is = it.taken; by = refl; place_is = it.took_place; event_is = it.took }) in
       let from = taken_from (before (course_of turns) taking) (Some (it.place)) in
-      let some : Some (found.place) ≡ Some (it.place) = sym (found.taken.place_is) ∙ ap (λ one. one.message) (same_moved (found.taken.moved) (it.receiver) (sym (found.taken.is) ∙ it.taken)) ∙ it.took_place in
+      let some : Some (found.place) ≡ Some (it.place) = sym (found.taken.place_is) ∙ ap (λ one. one.message) (same_moved (found.taken.moved) (it.receiver) (sym (found.taken.is) ∙ it.taken))
+      ∙ it.took_place in
       let place_is : found.place ≡ it.place = cc in
       let first : PostedAt (course_of turns) (it.place) from = (found.posted.moved, it.message, found.posted.is, found.posted.event_is, found.posted.place_is ∙ ap Some place_is) in
       let second : PostedAt (course_of turns) (it.place) post = (it.sender, it.message, it.posted, it.sent, it.sent_place) in

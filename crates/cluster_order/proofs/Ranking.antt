@@ -1,5 +1,5 @@
 -- A reply of a home is for what it took where as many replies were made before as requests were taken before.
-use Rattle.std.proofs.Common.{◌≡◌, ◌⊎◌, inl, inr, ℕ, zero, suc, ◌+◌, List, [], ◌∷◌, Option, Some, None, Bool, true, false, cond, ◌&&◌, ◌||◌, eqb, refl, sym, ◌∙◌, ap, subst, arith}
+use Rattle.std.proofs.Common.{◌≡◌, ℕ, zero, suc, List, ◌∷◌, Option, Some, None, Bool, true, false, cond, ◌&&◌, ◌||◌, eqb, refl, sym, ◌∙◌, ap, subst, arith}
 use Rattle.std.proofs.lemmas.Bool.Decides.{nat_tests}
 use Rattle.std.proofs.lemmas.List.Sums.{sum_by-cons}
 use Rattle.std.specs.List.{count_by}
@@ -13,11 +13,11 @@ use Rattle.cluster_rules.specs.Positions.{Moved, Course, course_of, own, at, bef
 use Rattle.cluster_rules.specs.Moments.{is_fetch, asks_home, answers_home, IsAnswerTo}
 use Rattle.cluster_rules.specs.Runs.{Cluster, IsLawful}
 use Rattle.backer_order.specs.Log as log
-use Rattle.backer_order.specs.Moments.{Head, Answers, takes_request, gives_reply}
+use Rattle.backer_order.specs.Moments.{Answers, takes_request, gives_reply}
 use Rattle.backer_order.proofs.Owed as owed
-use Rattle.cluster_order.specs.Reading.{note_of, taken_from, happens_to, events_of}
+use Rattle.cluster_order.specs.Reading.{taken_from, happens_to}
 use Rattle.cluster_order.specs.Standing.{first}
-use Rattle.cluster_order.proofs.Messages.{Taking, posted_event}
+use Rattle.cluster_order.proofs.Messages.{posted_event}
 use Rattle.cluster_order.proofs.Accesses.{ev}
 use Rattle.cluster_order.proofs.Fronts.{first_none, first_at}
 use Rattle.cluster_order.proofs.Counting.{count, same_count, head_count}

@@ -1,5 +1,5 @@
 -- From where an arrival had its words, and where a sending is received: by places and counts as by the queues of positions.
-use Rattle.std.proofs.Common.{◌≡◌, ◌⊎◌, inl, inr, ℕ, ℤ, List, [], ◌∷◌, Option, Some, None, Bool, true, false, refl, sym, ◌∙◌, ap, subst}
+use Rattle.std.proofs.Common.{◌≡◌, ◌⊎◌, inl, inr, ℕ, ℤ, List, Some, true, refl, sym, ◌∙◌, ap, subst}
 use Rattle.page_messages.specs.declared.message.Msg.{Msg}
 use Rattle.page_messages.specs.declared.message.Body.TheVariants as body
 use Rattle.page_messages.specs.declared.parts.Part as page
@@ -9,7 +9,7 @@ use Rattle.cluster_rules.specs.Turns.{WholeTurn, Event, Did, Sent, Took}
 use Rattle.cluster_rules.specs.Cache.{brings, arrives}
 use Rattle.cluster_rules.specs.Sendings.{sends}
 use Rattle.cluster_rules.specs.Home.{replies_in}
-use Rattle.cluster_rules.specs.Positions.{Moved, Course, course_of, before, Happens}
+use Rattle.cluster_rules.specs.Positions.{Course, course_of, before, Happens}
 use Rattle.cluster_rules.specs.Moments.{IsAnswerTo, IsTakenAt, IsSource, Answered, Loaded, IsReceipt, Taken, AtOnce}
 use Rattle.cluster_rules.specs.Runs.{Cluster, IsLawful}
 use Rattle.cluster_rules.proofs.Backward.{gives_some}
@@ -56,7 +56,8 @@ module _ (cluster : Cluster) (turns : List WholeTurn) (lawful : IsLawful cluster
   abbrev Brought : ℕ → Event → List ℤ → Type 0
   Brought its_page event list = ((message : Msg) × (event ≡ Took message) × (message.body ≡ body.Page its_page list)) ⊎ (event ≡ Did (item.OwnFetch its_page list))
 
-  taken_source : (node its_page arrival moment home reply : ℕ) (event : Event) (list : List ℤ) → Happens course node arrival event → Brought its_page event list → (taken : IsTakenAt course reply arrival)
+  taken_source : (node its_page arrival moment home reply : ℕ) (event : Event) (list : List ℤ) → Happens course node arrival event → Brought its_page event list →
+      (taken : IsTakenAt course reply arrival)
       → IsAnswerTo course home reply moment → Source events node its_page arrival moment
   taken_source node its_page arrival moment home reply event list happened brought taken answer = on brought
     where
@@ -64,7 +65,8 @@ module _ (cluster : Cluster) (turns : List WholeTurn) (lawful : IsLawful cluster
       it = taking_of cluster turns lawful reply arrival taken
 
       same : (node ≡ taken.receiver.node) × (event ≡ Took (taken.message))
-      same = same_happening course node (taken.receiver.node) arrival event (Took (taken.message)) happened (happens cluster course arrival (taken.receiver.node) (Some (it.place)) (Took (taken.message)) (it.taken))
+      same = same_happening course node (taken.receiver.node) arrival event (Took (taken.message)) happened
+          (happens cluster course arrival (taken.receiver.node) (Some (it.place)) (Took (taken.message)) (it.taken))
 
       on : Brought its_page event list → Source events node its_page arrival moment
       on (inl page) =
@@ -86,7 +88,8 @@ module _ (cluster : Cluster) (turns : List WholeTurn) (lawful : IsLawful cluster
       on (inr own) =
           FromOwn (words_of cluster list) (event_there cluster turns lawful node arrival (Did (item.OwnFetch its_page list)) (subst (λ one. Happens course node arrival one) own happened)) refl
 
-  pub source_at : (node its_page arrival moment : ℕ) (event : Event) → Happens course node arrival event → arrives its_page event ≡ true → IsSource course arrival moment → Source events node its_page arrival moment
+  pub source_at : (node its_page arrival moment : ℕ) (event : Event) → Happens course node arrival event → arrives its_page event ≡ true → IsSource course arrival moment
+      → Source events node its_page arrival moment
   source_at node its_page arrival moment event happened arrived (Answered home reply taking taken answer) =
       let some = gives_some (brings its_page event) arrived in
       taken_source node its_page arrival moment home reply event (some.0) happened (bring_in its_page (some.0) event (some.1)) taken answer
@@ -107,13 +110,15 @@ module _ (cluster : Cluster) (turns : List WholeTurn) (lawful : IsLawful cluster
 
   -- ---- where a sending is received
 
-  pub receipt_at : (node its_page sending moment : ℕ) (event : Event) → Happens course node sending event → sends its_page event ≡ true → IsReceipt course sending moment → Received events sending moment
+  pub receipt_at : (node its_page sending moment : ℕ) (event : Event) → Happens course node sending event → sends its_page event ≡ true → IsReceipt course sending moment
+      → Received events sending moment
   receipt_at node its_page sending moment event happened sent (Taken taking taken) =
       ByTaking (record { taker = taken.receiver.node; is = (taking_of cluster turns lawful sending taking taken).event })
   receipt_at node its_page sending moment event happened sent (AtOnce other done there) =
       let same = same_happening course node other sending event (Did done) happened there in
       let own = own_sending its_page done (ap (sends its_page) (sym (same.1)) ∙ sent) in
-      AtItem other (part_of cluster (own.0)) (event_there cluster turns lawful other sending (Did (item.OwnReconcile (own.0))) (subst (λ one. Happens course other sending (Did one)) (own.1) there)) refl
+      AtItem other (part_of cluster (own.0))
+      (event_there cluster turns lawful other sending (Did (item.OwnReconcile (own.0))) (subst (λ one. Happens course other sending (Did one)) (own.1) there)) refl
 
   pub receipt_there : (sending moment : ℕ) → Received events sending moment → IsReceipt course sending moment
   receipt_there sending moment (ByTaking it) =

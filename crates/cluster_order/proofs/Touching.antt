@@ -1,12 +1,12 @@
 -- The accesses of a word in a course are those among its events. An add happens at the home, and is the access of the node that it serves.
-use Rattle.std.proofs.Common.{◌≡◌, ◌⊎◌, inl, inr, ℕ, ℤ, List, Option, Some, None, Bool, true, false, ◌||◌, eqb, refl, sym, ◌∙◌, ap, subst, arith}
+use Rattle.std.proofs.Common.{◌≡◌, inl, inr, ℕ, ℤ, List, Some, Bool, true, false, ◌||◌, eqb, refl, sym, ◌∙◌, ap, subst, arith}
 use Rattle.std.proofs.lemmas.Bool.Decides.{nat_tests}
 use Rattle.page_messages.specs.declared.closure.FrameId.{FrameId}
 use Rattle.page_messages.specs.declared.log.LoggedAct.TheVariants as act
 use Rattle.page_messages.specs.declared.log.Item.TheVariants as item
 use Rattle.cluster_rules.specs.Turns.{WholeTurn, Event, Did, Sent, Took, Ended}
 use Rattle.cluster_rules.specs.Home.{owed_adds}
-use Rattle.cluster_rules.specs.Positions.{Moved, course_of, Course, own, at, before, Happens}
+use Rattle.cluster_rules.specs.Positions.{course_of, Course, own, before, Happens}
 use Rattle.cluster_rules.specs.Moments.{touches, adds}
 use Rattle.cluster_rules.specs.Runs.{Cluster, IsLawful}
 use Rattle.backer_order.specs.Log as log
@@ -99,9 +99,23 @@ module _ (cluster : Cluster) (turns : List WholeTurn) (lawful : IsLawful cluster
     where
       on : Touch word event → IsTouch events node word position
       on (Writes frame index value same) =
-          inl (value, record { frame = frame; is = event_there cluster turns lawful node position (Did (item.Act frame index (act.Write word value))) (subst (λ it. Happens course node position it) same happens) })
+          inl (
+            value,
+            record {
+              frame = frame;
+              is = event_there cluster turns lawful node position (Did (item.Act frame index (act.Write word value)))
+                  (subst (λ it. Happens course node position it) same happens);
+            },
+          )
       on (Reads frame index value same) =
-          inr (value, record { frame = frame; is = event_there cluster turns lawful node position (Did (item.Act frame index (act.Read word value))) (subst (λ it. Happens course node position it) same happens) })
+          inr (
+            value,
+            record {
+              frame = frame;
+              is = event_there cluster turns lawful node position (Did (item.Act frame index (act.Read word value)))
+                  (subst (λ it. Happens course node position it) same happens);
+            },
+          )
 
   pub touch_there : (node word position : ℕ) → IsTouch events node word position → (event : Event) × Happens course node position event × (touches word event ≡ true)
   touch_there node word position (inl (value, wrote)) =
@@ -128,7 +142,8 @@ module _ (cluster : Cluster) (turns : List WholeTurn) (lawful : IsLawful cluster
         },
       )
 
-  pub add_there : (owner word position : ℕ) → IsAdd events owner word position → (home : ℕ) × (event : Event) × Happens course home position event × (adds word event ≡ true) × (served_at home position ≡ owner)
+  pub add_there : (owner word position : ℕ) → IsAdd events owner word position → (home : ℕ) × (event : Event) × Happens course home position event × (adds word event ≡ true) ×
+      (served_at home position ≡ owner)
   add_there owner word position add =
       let it = added_there cluster turns lawful owner (add.1.frame) word (add.0) (add.1.addend) position (add.1.is) in
       (it.0, Did (item.Served (add.1.frame) (it.1) word (add.0) (add.1.addend)), it.2, itself word, it.3)
