@@ -28,3 +28,8 @@ pub fn runs_are_consistent()
 pub fn home_orders_are_consistent()
     ensures { (cluster : Cluster) (program : Program) (turns : List WholeTurn) (frames : List FrameId) (history : History) (orders : ℕ → List Listed) → IsValid cluster.code → StandsFor cluster.code program → IsParted program → IsLawful cluster turns → ((word : ℕ) → IsHomeOrder cluster (course_of turns) word (orders word)) → IsHistoryOf cluster.code.main (map logged (reverse turns)) frames history → IsLocationConsistent (start_words_of cluster.code) history (orders_by cluster turns frames orders) }
 {}
+
+/// A law, nothing is done: and there is one for each word, in whatever lawful turns.
+pub fn each_word_has_a_home_order()
+    ensures { (cluster : Cluster) (turns : List WholeTurn) (word : ℕ) → IsLawful cluster turns → (order : List Listed) × IsHomeOrder cluster (course_of turns) word order }
+{}
