@@ -1,14 +1,12 @@
 -- The place of an access is that of the act at its position in the course.
-use Rattle.std.proofs.Common.{◌≡◌, ℕ, ℤ, ◌+◌, ◌<◌, List, [], ◌∷◌, ◌++◌, Option, Some, None, Bool, true, false, cond, eqb, length, map, refl, sym, ◌∙◌, ap, subst, length-append, arith}
+use Rattle.std.proofs.Common.{◌≡◌, ℕ, ◌+◌, ◌<◌, List, [], ◌∷◌, Option, Some, None, Bool, true, false, cond, eqb, length, map, refl, sym, ◌∙◌, ap, length-append, arith}
 use Rattle.std.proofs.lemmas.Bool.Decides.{nat_tests}
 use Rattle.std.proofs.lemmas.List.Elements.{filter_map-append}
 use Rattle.std.specs.List.{filter_map, cons_option}
 use Rattle.page_messages.specs.declared.closure.FrameId.{FrameId}
-use Rattle.page_messages.specs.declared.log.Item.{Item}
 use Rattle.page_messages.specs.declared.log.Item.TheVariants as item
 use Rattle.page_messages.specs.declared.log.PostAt.{PostAt}
 use Rattle.span_tree.specs.declared.act.Act.TheVariants as row
-use Rattle.span_tree.specs.declared.act.Place.{Place}
 use Rattle.span_tree.specs.History.{History}
 use Rattle.cluster_rules.specs.Lives.{same_frame}
 use Rattle.cluster_rules.specs.Turns.{Event, Did, Sent, Took, Ended}
@@ -25,7 +23,7 @@ use Rattle.word_order.specs.Consistency as def
 use Rattle.word_order.specs.Consistency.{acts_of, place_behind, place_of, place_of_event, places_by}
 use Rattle.word_order.proofs.Rows.{acts_before, place_in}
 use Rattle.word_order.proofs.Items.{done_by, done_in, same_before, acts_are_done}
-use Rattle.word_order.proofs.Places.{AreRows, place_for}
+use Rattle.word_order.proofs.Places.{AreRows}
 use Rattle.word_order.proofs.Entries as entries
 use Rattle.word_order.proofs.Lists.{places_of}
 

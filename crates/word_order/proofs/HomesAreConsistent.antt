@@ -4,7 +4,6 @@ use Rattle.std.specs.List.{range_with_len}
 use Rattle.machine_code.specs.StandsFor.{StandsFor, start_words_of}
 use Rattle.machine_code.specs.Valid.{AreInOrder, words_in}
 use Rattle.page_messages.specs.declared.closure.FrameId.{FrameId}
-use Rattle.span_tree.specs.declared.act.Place.{Place}
 use Rattle.span_tree.specs.History.{History}
 use Rattle.span_tree.specs.Memory.{IsLocationConsistent}
 use Rattle.cilk_meaning.specs.Parted.{IsParted}
@@ -15,7 +14,6 @@ use Rattle.cluster_rules.specs.Moments.{Listed, IsHomeOrder}
 use Rattle.cluster_rules.specs.Runs.{Cluster, IsLawful, logged}
 use Rattle.cluster_rules.specs.Histories.{IsHistoryOf}
 use Rattle.backer_order.specs.Dag.{Consistent}
-use Rattle.backer_order.specs.HomeList.{HomeList}
 use Rattle.cluster_order.specs.Reading.{events_of, memory_of}
 use Rattle.cluster_order.proofs.Caching.{keeps_the_page_rules}
 use Rattle.cluster_order.proofs.HomeOrders.{IsHomeList, home_order_is_list}
@@ -46,7 +44,8 @@ module _ (cluster : Cluster) (turns : List WholeTurn) (lawful : IsLawful cluster
       let any = consistent_of cluster turns lawful program stands parted in
       record { lists = λ word. (home_of word).home; dag = any.dag; reads = any.reads }
 
-  same_orders : orders cluster turns lawful main frames history is_history made consistent (words_in cluster.code.shared) (each_is_shared cluster turns lawful in_order) ≡ orders_by cluster turns frames homes
+  same_orders : orders cluster turns lawful main frames history is_history made consistent (words_in cluster.code.shared) (each_is_shared cluster turns lawful in_order)
+      ≡ orders_by cluster turns frames homes
   same_orders =
       same_map
       (order_of (events_of cluster (course_of turns)) (memory_of cluster) (keeps_the_page_rules cluster turns lawful) (λ old addend. refl) (length (course_of turns)) frames history

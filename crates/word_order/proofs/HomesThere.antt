@@ -1,5 +1,5 @@
 -- Each word has a home order in lawful turns: the list of its accesses over positions, each with its moment in the course.
-use Rattle.std.proofs.Common.{◌≡◌, ◌⊎◌, inl, inr, ℕ, zero, suc, ◌<◌, List, [], ◌∷◌, Option, Some, None, ◌↔◌, length, refl, sym, ◌∙◌, ap, subst, arith}
+use Rattle.std.proofs.Common.{◌≡◌, ◌⊎◌, inl, inr, ℕ, zero, suc, ◌<◌, List, [], ◌∷◌, Option, Some, None, length, refl, sym, ◌∙◌, ap, subst, arith}
 use Rattle.std.specs.List.{Contains}
 use Rattle.cluster_rules.specs.Turns.{WholeTurn}
 use Rattle.cluster_rules.specs.Positions.{course_of, Happens}
@@ -7,7 +7,6 @@ use Rattle.cluster_rules.specs.Moments.{IsMoment, Listed, EarlierBy, IsEarlier, 
 use Rattle.cluster_rules.specs.Runs.{Cluster, IsLawful, node_at}
 use Rattle.backer_order.specs.Log.{Events}
 use Rattle.backer_order.specs.Moments.{Moment, IsAccess}
-use Rattle.backer_order.specs.Rules.{Caching}
 use Rattle.backer_order.specs.HomeOrder.{HasNone, Before}
 use Rattle.backer_order.specs.HomeList.{Entry, Has, Sorted, HomeList}
 use Rattle.backer_order.proofs.HomeLists.{home_list}
@@ -142,12 +141,14 @@ module _ (cluster : Cluster) (turns : List WholeTurn) (lawful : IsLawful cluster
 
   pub each_word_has_a_home_order : (order : List Listed) × IsHomeOrder cluster (course_of turns) word order
   each_word_has_a_home_order =
-      let home = home_list events (memory_of cluster) (keeps_the_page_rules cluster turns lawful) now word in
-      (listed home.list, record {
-        listed = each_known home.list;
-        all = λ one it. each_there home.list one it (all_has home one it);
-        in_order = in_order_of home.list home.sorted;
-      })
+      let home = home_list events (memory_of cluster) (keeps_the_page_rules cluster turns lawful) now word in (
+        listed home.list,
+        record {
+          listed = each_known home.list;
+          all = λ one it. each_there home.list one it (all_has home one it);
+          in_order = in_order_of home.list home.sorted;
+        },
+      )
     where
       all_has : (home : HomeList events (memory_of cluster) now word) (one : Listed) → Known one → Has one.position home.list
       all_has home one it = home.all (owner one it) one.position (within (course_of turns) one.position it.is.moved it.is.is) (access_of cluster turns lawful word one it).is

@@ -1,19 +1,14 @@
 -- Each history of a run of the cluster is location consistent.
-use Rattle.std.proofs.Common.{◌≡◌, ℕ, List, length, map, reverse, sym, ◌∙◌, ap, subst}
+use Rattle.std.proofs.Common.{ℕ, List, length, map, reverse, sym, ◌∙◌, ap, subst}
 use Rattle.std.proofs.lemmas.List.{reverse-reverse}
-use Rattle.machine_code.specs.StandsFor.{start_words_of}
 use Rattle.machine_code.specs.Valid.{AreInOrder, words_in}
 use Rattle.page_messages.specs.declared.closure.FrameId.{FrameId}
 use Rattle.page_messages.specs.declared.log.Turn.{Turn}
-use Rattle.span_tree.specs.declared.act.Place.{Place}
 use Rattle.span_tree.specs.History.{History}
-use Rattle.span_tree.specs.Memory.{IsLocationConsistent}
 use Rattle.cluster_rules.specs.Turns.{WholeTurn}
 use Rattle.cluster_rules.specs.Positions.{course_of}
 use Rattle.cluster_rules.specs.Runs.{Cluster, IsLawful, IsRun, logged}
 use Rattle.cluster_rules.specs.Histories.{IsHistoryOf}
-use Rattle.backer_order.specs.Edges.{Stacks, Returns, Edges}
-use Rattle.backer_order.specs.Ready.{Stages, ReadyRules}
 use Rattle.backer_order.specs.Dag.{Consistent}
 use Rattle.backer_order.proofs.Ordered.{location_consistent}
 use Rattle.backer_order.proofs.Tokens.{taken}

@@ -1,4 +1,4 @@
--- What location consistency of a run is: each history of it has an order for each shared word. And which orders these are: the home orders.
+-- What location consistency of a run is: each history of it has an order for each shared word. And the home orders, as such orders.
 use Rattle.std.specs.Prelude.{◌≡◌, ◌+◌, if◌then◌else◌, ℕ, Bool, false, Option, Some, None, List, [], ◌∷◌, length, map}
 use Rattle.std.specs.List.{range_with_len}
 use Rattle.machine_code.specs.StandsFor.{start_words_of}
@@ -56,7 +56,8 @@ abbrev pub place_of : List FrameId → Course → Option Moved → Place
 place_of frames course None = record { row = 0; act = 0 }
 place_of frames course (Some moved) = place_of_event frames course moved.event
 
--- The place in the history of the act at a position, where these are the frames of the rows. What is no act has none, for which this place stands: the first.
+-- The place in the history of the act at a position, where these are the frames of the rows. Asked of what is no act, which has none, it is
+-- that of the first act of all.
 abbrev pub place_at : List FrameId → Course → ℕ → Place
 place_at frames course position = place_of frames (before course position) (at course position)
 
