@@ -47,7 +47,8 @@ module _ (cluster : Cluster) (turns : List WholeTurn) (lawful : IsLawful cluster
       (keeps_the_page_rules cluster turns lawful) (keeps_edges cluster program turns stands parted lawful) (keeps_ready_rules cluster turns lawful)
 
 -- of turns, the latest first
-pub turns_are_consistent : (cluster : Cluster) (turns : List WholeTurn) → IsLawful cluster turns → AreInOrder 0 cluster.code.shared → (program : Program) → StandsFor cluster.code program → IsParted program
+pub turns_are_consistent : (cluster : Cluster) (turns : List WholeTurn) → IsLawful cluster turns → AreInOrder 0 cluster.code.shared
+    → (program : Program) → StandsFor cluster.code program → IsParted program
     → (main : ℕ) (frames : List FrameId) (history : History) → IsHistoryOf main (map logged (reverse turns)) frames history → HasOrders cluster history
 turns_are_consistent cluster turns lawful order program stands parted main frames history is_history =
     let made = made_of cluster turns lawful program stands parted in
