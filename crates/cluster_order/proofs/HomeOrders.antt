@@ -68,7 +68,7 @@ module _ (cluster : Cluster) (turns : List WholeTurn) (lawful : IsLawful cluster
   source_within arrival moment (Answered home reply taking taken answer) = happens_within home taking (answer.taken) (answer.taking_is)
   source_within arrival moment (Loaded node page words it) = happens_within node arrival _ it
 
-  moment_within : (node access moment : ℕ) → IsMoment (node_at cluster node) course word access moment → moment < now
+  pub moment_within : (node access moment : ℕ) → IsMoment (node_at cluster node) course word access moment → moment < now
   moment_within node access moment (inl it) = receipt_within (it.sending) moment (it.received)
   moment_within node access moment (inr (inl it)) = source_within (it.arrival) moment (it.source)
   moment_within node access moment (inr (inr it)) = let less = happens_within node access (it.event) (it.is) in let same = it.at_once in omega (arith, less, same)
@@ -101,7 +101,7 @@ module _ (cluster : Cluster) (turns : List WholeTurn) (lawful : IsLawful cluster
       absurd (cc)
 
   -- and is a read or a write, since an add is at its own moment
-  own_of_none : (one : Listed) (it : IsListed cluster course word one) → one.moment ≡ None → owner_of one it ≡ one.node
+  pub own_of_none : (one : Listed) (it : IsListed cluster course word one) → one.moment ≡ None → owner_of one it ≡ one.node
   own_of_none one it none = on (touches word (it.event)) refl (it.accesses)
     where
       on : (b : Bool) → touches word (it.event) ≡ b → b || adds word (it.event) ≡ true → owner_of one it ≡ one.node

@@ -126,7 +126,7 @@ module _ (cluster : Cluster) (frames : List FrameId) (frame : FrameId) where
   same_by course node place (Took message) = refl
   same_by course node place (Ended end) = refl
 
-  same_before : (first second : Events) (now : ℕ) → ((position : ℕ) → position < now → first position ≡ second position) → acts_before frames first frame now ≡ acts_before frames second frame now
+  pub same_before : (first second : Events) (now : ℕ) → ((position : ℕ) → position < now → first position ≡ second position) → acts_before frames first frame now ≡ acts_before frames second frame now
   unfolding acts_before
   same_before first second zero same = refl
   same_before first second (suc now) same =

@@ -1,19 +1,14 @@
 -- Each history of a run of the cluster is location consistent.
-use Rattle.std.proofs.Common.{◌≡◌, ℕ, List, length, map, reverse, sym, ◌∙◌, ap, subst}
+use Rattle.std.proofs.Common.{ℕ, List, length, map, reverse, sym, ◌∙◌, ap, subst}
 use Rattle.std.proofs.lemmas.List.{reverse-reverse}
-use Rattle.machine_code.specs.StandsFor.{start_words_of}
 use Rattle.machine_code.specs.Valid.{AreInOrder, words_in}
 use Rattle.page_messages.specs.declared.closure.FrameId.{FrameId}
 use Rattle.page_messages.specs.declared.log.Turn.{Turn}
-use Rattle.span_tree.specs.declared.act.Place.{Place}
 use Rattle.span_tree.specs.History.{History}
-use Rattle.span_tree.specs.Memory.{IsLocationConsistent}
 use Rattle.cluster_rules.specs.Turns.{WholeTurn}
 use Rattle.cluster_rules.specs.Positions.{course_of}
 use Rattle.cluster_rules.specs.Runs.{Cluster, IsLawful, IsRun, logged}
 use Rattle.cluster_rules.specs.Histories.{IsHistoryOf}
-use Rattle.backer_order.specs.Edges.{Stacks, Returns, Edges}
-use Rattle.backer_order.specs.Ready.{Stages, ReadyRules}
 use Rattle.backer_order.specs.Dag.{Consistent}
 use Rattle.backer_order.proofs.Ordered.{location_consistent}
 use Rattle.backer_order.proofs.Tokens.{taken}
@@ -32,23 +27,33 @@ use Rattle.word_order.proofs.Made.{EachIsMade}
 use Rattle.word_order.proofs.Ordered.{EachIsShared, orders, history_is_consistent, as_many}
 use Rattle.word_order.proofs.Sharing.{each_is_shared}
 
+module _ (cluster : Cluster) (turns : List WholeTurn) (lawful : IsLawful cluster turns) (program : Program) (stands : StandsFor cluster.code program) (parted : IsParted program) where
+  -- each frame that acts was made before
+  pub made_of : EachIsMade (events_of cluster (course_of turns))
+  made_of =
+      let events = events_of cluster (course_of turns) in
+      let memory = memory_of cluster in
+      let returns = returns_of cluster (course_of turns) in
+      let stacks = stacks_of cluster (course_of turns) in
+      let edges = keeps_edges cluster program turns stands parted lawful in
+      each_is_made events memory (keeps_the_page_rules cluster turns lawful) returns stacks edges.frames
+      (taken events memory returns stacks edges.frames (stages_of cluster (course_of turns)) (keeps_ready_rules cluster turns lawful))
+
+  -- what was done is consistent, by some lists
+  pub consistent_of : Consistent (events_of cluster (course_of turns)) (memory_of cluster) (length (course_of turns))
+  consistent_of =
+      location_consistent (events_of cluster (course_of turns)) (memory_of cluster) (returns_of cluster (course_of turns)) (stacks_of cluster (course_of turns))
+      (stages_of cluster (course_of turns)) (length (course_of turns))
+      (keeps_the_page_rules cluster turns lawful) (keeps_edges cluster program turns stands parted lawful) (keeps_ready_rules cluster turns lawful)
+
 -- of turns, the latest first
-pub turns_are_consistent : (cluster : Cluster) (turns : List WholeTurn) → IsLawful cluster turns → AreInOrder 0 cluster.code.shared → (program : Program) → StandsFor cluster.code program → IsParted program
+pub turns_are_consistent : (cluster : Cluster) (turns : List WholeTurn) → IsLawful cluster turns → AreInOrder 0 cluster.code.shared
+    → (program : Program) → StandsFor cluster.code program → IsParted program
     → (main : ℕ) (frames : List FrameId) (history : History) → IsHistoryOf main (map logged (reverse turns)) frames history → HasOrders cluster history
 turns_are_consistent cluster turns lawful order program stands parted main frames history is_history =
-    let events = events_of cluster (course_of turns) in
-    let memory = memory_of cluster in
-    let returns = returns_of cluster (course_of turns) in
-    let stacks = stacks_of cluster (course_of turns) in
-    let stages = stages_of cluster (course_of turns) in
-    let caching = keeps_the_page_rules cluster turns lawful in
-    let edges = keeps_edges cluster program turns stands parted lawful in
-    let ready = keeps_ready_rules cluster turns lawful in
-    let made : EachIsMade events =
-    each_is_made events memory caching returns stacks edges.frames
-    (taken events memory returns stacks edges.frames stages ready) in
-    let consistent : Consistent events memory (length (course_of turns)) = location_consistent events memory returns stacks stages (length (course_of turns)) caching edges ready in
-    let shared : EachIsShared events (length (course_of turns)) (words_in cluster.code.shared) = each_is_shared cluster turns lawful order in
+    let made = made_of cluster turns lawful program stands parted in
+    let consistent = consistent_of cluster turns lawful program stands parted in
+    let shared : EachIsShared (events_of cluster (course_of turns)) (length (course_of turns)) (words_in cluster.code.shared) = each_is_shared cluster turns lawful order in
     record {
       orders = orders cluster turns lawful main frames history is_history made consistent (words_in cluster.code.shared) shared;
       is_consistent = history_is_consistent cluster turns lawful main frames history is_history made consistent (words_in cluster.code.shared) shared;
