@@ -1,3 +1,6 @@
 pub mod Rows
 pub mod Told
 pub mod Matches
+pub mod Twins
+pub mod Blocks
+pub mod Steps

@@ -2,4 +2,5 @@ pub mod Replies
 pub mod Following
 pub mod Serial
 pub mod Ending
+pub mod Deep
 pub mod Determinate
