@@ -4,3 +4,4 @@ pub mod Matches
 pub mod Twins
 pub mod Blocks
 pub mod Steps
+pub mod Following
