@@ -5,3 +5,5 @@ pub mod Twins
 pub mod Blocks
 pub mod Steps
 pub mod Following
+pub mod Meeting
+pub mod Carried
