@@ -7,3 +7,5 @@ pub mod Steps
 pub mod Following
 pub mod Meeting
 pub mod Carried
+pub mod ByDag
+pub mod Later
