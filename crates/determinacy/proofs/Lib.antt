@@ -9,3 +9,5 @@ pub mod Meeting
 pub mod Carried
 pub mod ByDag
 pub mod Later
+pub mod Leaving
+pub mod Reading
