@@ -11,3 +11,7 @@ pub mod ByDag
 pub mod Later
 pub mod Leaving
 pub mod Reading
+pub mod Counting
+pub mod Items
+pub mod Completed
+pub mod Induction
