@@ -15,3 +15,5 @@ pub mod Counting
 pub mod Items
 pub mod Completed
 pub mod Induction
+pub mod Racing
+pub mod Finished
