@@ -17,3 +17,5 @@ pub mod Completed
 pub mod Induction
 pub mod Racing
 pub mod Finished
+pub mod Memory
+pub mod Determined

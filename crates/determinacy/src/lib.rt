@@ -3,3 +3,9 @@
 #![tactic(auto)]
 
 ghost use Rattle.determinacy.specs.Determinate.{ThenSerial};
+
+/// A law, nothing is done: a location consistent run of a program goes as its serial execution, if that finishes without race. Each frame is
+/// told what its row is, none traps, no more ticks are spent, and a finished run has the same history and memory.
+pub fn then_serial()
+    ensures { ThenSerial }
+{}
