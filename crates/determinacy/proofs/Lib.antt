@@ -19,3 +19,6 @@ pub mod Racing
 pub mod Finished
 pub mod Memory
 pub mod Determined
+pub mod Home
+pub mod Lasts
+pub mod Stacks

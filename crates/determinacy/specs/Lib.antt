@@ -4,3 +4,4 @@ pub mod Serial
 pub mod Ending
 pub mod Deep
 pub mod Determinate
+pub mod Alone
