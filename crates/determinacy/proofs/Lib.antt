@@ -22,3 +22,4 @@ pub mod Determined
 pub mod Home
 pub mod Lasts
 pub mod Stacks
+pub mod Lockstep
