@@ -1,11 +1,11 @@
 -- A run depth first on one node is the elision, races or not: it goes in step with it, and ends where it does.
-use Rattle.std.proofs.Common.{◌≡◌, ℕ, zero, suc, ◌<◌, ◌≤◌, inl, inr, ℤ, Bool, true, false, Option, Some, refl, sym, ◌∙◌, ap, subst, arith}
+use Rattle.std.proofs.Common.{◌≡◌, ℕ, zero, suc, ◌<◌, ◌≤◌, inl, inr, ℤ, true, Some, refl, sym, ◌∙◌, ap, subst, arith}
 use Rattle.backer_order.proofs.Search.{Less3, Same3, More3, compare}
 use Rattle.backer_order.specs.Log.{main_id, SharedMemory}
 use Rattle.cilk_meaning.specs.declared.ends.NodeEnd.{NodeEnd}
 use Rattle.cilk_meaning.specs.declared.ends.NodeEnd.TheVariants.{Finished, Trapped, Budget}
 use Rattle.cilk_meaning.specs.declared.ends.TrapKind.{TrapKind}
-use Rattle.cilk_meaning.specs.Wants.{Request, Want, Asks, Returns, Traps}
+use Rattle.cilk_meaning.specs.Wants.{Request, Asks, Returns, Traps}
 use Rattle.determinacy.proofs.Counting.{count_yes, count_no, count_zero}
 use Rattle.determinacy.proofs.Home as home
 use Rattle.determinacy.proofs.Items.{actor}
@@ -17,7 +17,7 @@ use Rattle.determinacy.proofs.Matches.{Two, Is}
 use Rattle.determinacy.proofs.Rows.{either_bool}
 use Rattle.determinacy.proofs.Stacks.{tops_pair, top_none, none_top, on_live, nothing_live}
 use Rattle.determinacy.proofs.Told as told
-use Rattle.determinacy.specs.Alone.{Within, EndsAs, OneNode, Elision, SameRun, AloneSerial}
+use Rattle.determinacy.specs.Alone.{Within, EndsAs, OneNode, Elision, AloneSerial}
 use Rattle.determinacy.specs.Deep.{live, IsTop, Deep}
 use Rattle.determinacy.specs.Ending.{is_item, all_ticks, ItsRow, OneHistory}
 use Rattle.determinacy.specs.Replies.{Trace, by, want_at, Answers, Born}
@@ -74,19 +74,19 @@ module _ (race : Race) where
       want_at race.two.starts race.two.run now frame ≡ want_at race.two.starts race.two.serial place row
   tops_alike now place frame row lock top top_there =
       lockstep.lock_want race.two race.memory now place frame row lock (on_live race.two.starts race.two.run now frame top)
-          (tops_pair (Is race.two) (live race.two.starts race.two.run now) (live race.two.starts race.two.serial place) frame row top.0 top_there.0
-              (lockstep.lives race.two race.memory now place lock) top.1 top_there.1)
+      (tops_pair (Is race.two) (live race.two.starts race.two.run now) (live race.two.starts race.two.serial place) frame row top.0 top_there.0
+      (lockstep.lives race.two race.memory now place lock) top.1 top_there.1)
 
   -- where the other has no frame left there is no top, and the other way round
   no_top : (now place : ℕ) (frame : FrameId) (value : ℤ) → Locks now place → Top now frame → want_at race.two.starts race.two.serial place main_id ≡ Some (Returns value) → ⊥
   no_top now place frame value lock top finished =
       top_none (Is race.two) (live race.two.starts race.two.run now) (live race.two.starts race.two.serial place) frame top.0 (lockstep.lives race.two race.memory now place lock) top.1
-          (nothing_live race.two.starts race.two.main race.two.serial race.two.serial_obeys place value finished)
+      (nothing_live race.two.starts race.two.main race.two.serial race.two.serial_obeys place value finished)
 
   no_top_there : (now place : ℕ) (row : FrameId) (value : ℤ) → Locks now place → TopThere place row → want_at race.two.starts race.two.run now main_id ≡ Some (Returns value) → ⊥
   no_top_there now place row value lock top finished =
       none_top (Is race.two) (live race.two.starts race.two.run now) (live race.two.starts race.two.serial place) row top.0 (lockstep.lives race.two race.memory now place lock)
-          (nothing_live race.two.starts race.two.main race.two.run race.two.run_obeys now value finished) top.1
+      (nothing_live race.two.starts race.two.main race.two.run race.two.run_obeys now value finished) top.1
 
   -- an item of the run does not find the other at its end
   not_ended : (now : ℕ) (frame : FrameId) (end : NodeEnd) → EndsThere (race.finish) end → Locks now (race.finish) → by frame (race.two.run.events now) ≡ true →
@@ -94,7 +94,7 @@ module _ (race : Race) where
   not_ended now frame Finished (value, finished) lock acts ticks = no_top now race.finish frame value lock (race.deep now frame acts) finished
   not_ended now frame (Trapped kind) (row, top, traps) lock acts ticks =
       told.no_trap race.two.run (race.two.run.events now) kind
-          (subst (λ i. Answers race.two.run (race.two.run.events now) i) (tops_alike now race.finish frame row lock (race.deep now frame acts) top ∙ traps) (race.two.run_obeys.wants now frame acts))
+      (subst (λ i. Answers race.two.run (race.two.run.events now) i) (tops_alike now race.finish frame row lock (race.deep now frame acts) top ∙ traps) (race.two.run_obeys.wants now frame acts))
   not_ended now frame Budget (row, request, top, wants, full) lock acts ticks =
       let left = race.within now frame acts in let spent = all_items race.finish (omega arith) in omega (arith, full)
 
@@ -104,8 +104,8 @@ module _ (race : Race) where
   not_ended_there now place row Finished (value, finished) lock acts inside ticks = no_top_there now place row value lock (race.deep_there place row acts) finished
   not_ended_there now place row (Trapped kind) (frame, top, traps) lock acts inside ticks =
       told.no_trap race.two.serial (race.two.serial.events place) kind
-          (subst (λ i. Answers race.two.serial (race.two.serial.events place) i) (sym (tops_alike now place frame row lock top (race.deep_there place row acts)) ∙ traps)
-              (race.two.serial_obeys.wants place row acts))
+      (subst (λ i. Answers race.two.serial (race.two.serial.events place) i) (sym (tops_alike now place frame row lock top (race.deep_there place row acts)) ∙ traps)
+      (race.two.serial_obeys.wants place row acts))
   not_ended_there now place row Budget (frame, request, top, wants, full) lock acts inside ticks =
       let left = race.within_there place row acts in let spent = all_items place (omega arith) in omega (arith, full)
 

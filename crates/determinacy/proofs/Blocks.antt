@@ -1,9 +1,9 @@
 -- The children of a frame's block: it spawned each, and up to the next Sync a spawned child is one of them.
-use Rattle.std.proofs.Common.{◌≡◌, ℕ, zero, suc, ◌<◌, ◌⊎◌, inl, inr, true, List, [], refl, sym, subst, arith}
+use Rattle.std.proofs.Common.{◌≡◌, ℕ, zero, suc, ◌<◌, inl, inr, true, List, [], refl, sym, subst, arith}
 use Rattle.backer_order.proofs.Decide.{same_frame_or_not}
 use Rattle.backer_order.proofs.Search.{Decided, Less3, Same3, More3, compare}
 use Rattle.backer_order.specs.Edges.{IsOn, ActOf}
-use Rattle.backer_order.specs.Log.{Act, Read, Write, Add, Print, Spawn, Sync, Event, Acts}
+use Rattle.backer_order.specs.Log.{Read, Write, Add, Print, Spawn, Sync, Event, Acts}
 use Rattle.backer_order.specs.Moments.{NoneBetween}
 use Rattle.determinacy.proofs.Rows.{by_acts, by_one, either_bool, block_grew, block_still}
 use Rattle.determinacy.specs.Replies.{Trace, by, children_after, children}
@@ -97,7 +97,7 @@ child_stays trace frame child at node (suc now) is before none = elim (compare a
   | Same3 same ↦
       let here = subst (λ i. IsOn child (children_after i (children trace.events at frame))) (sym is) (child_new child node frame (children trace.events at frame)) in
       subst (λ i. IsOn child (children trace.events (suc i) frame)) same
-          (subst (λ i. IsOn child i) (sym (block_grew trace at frame (by_acts node frame (Spawn child) (trace.events at) is))) here)
+      (subst (λ i. IsOn child i) (sym (block_grew trace at frame (by_acts node frame (Spawn child) (trace.events at) is))) here)
   | Less3 l ↦
       let on = child_stays trace frame child at node now is l (λ i after up_to sync. none i after (omega arith) sync) in
       elim (either_bool (by frame (trace.events now))) [

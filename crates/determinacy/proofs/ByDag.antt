@@ -3,7 +3,7 @@ use Rattle.std.proofs.Common.{◌≡◌, ◌≢◌, ℕ, suc, ◌<◌, ◌⊎◌
 use Rattle.backer_order.proofs.Decide.{same_or_not}
 use Rattle.backer_order.proofs.ReadsLast as last
 use Rattle.backer_order.specs.Dag.{Precedes, Consistent}
-use Rattle.backer_order.specs.HomeOrder.{BothHave, Before, LastIn, NoneIn}
+use Rattle.backer_order.specs.HomeOrder.{BothHave, Before, LastIn}
 use Rattle.backer_order.specs.Log.{Events, SharedMemory}
 use Rattle.backer_order.specs.Moments.{IsAccess, Obtains, Leaves, IsLeaving}
 use Rattle.backer_order.specs.Rules.{Caching}
@@ -64,7 +64,7 @@ module _ (events : Events) (memory : SharedMemory) (caching : Caching events mem
       before : (other next : ℕ) → next < access → IsLeaving events memory other word next → Before events memory (suc access) word other next node access
       before other next earlier leaves =
           (consistent (suc access)).dag other node word next access (omega arith) (last.leaving_access events memory caching other word next leaves)
-              (obtains_access events node word access value obtains) (no_race.reads other next earlier leaves)
+          (obtains_access events node word access value obtains) (no_race.reads other next earlier leaves)
 
       -- one that leaves a value precedes the last one in the home order
       precedes_last : (found : LastIn events memory (suc access) word node access value) → (other next : ℕ) → next < access → IsLeaving events memory other word next →
@@ -75,7 +75,7 @@ module _ (events : Events) (memory : SharedMemory) (caching : Caching events mem
           | inl precedes ↦ inr precedes
           | inr follows ↦
               let after = (consistent (suc access)).dag found.node other word found.at next (omega arith) (last.leaving_access events memory caching found.node word found.at (value, found.leaves))
-                  (last.leaving_access events memory caching other word next leaves) follows in
+              (last.leaving_access events memory caching other word next leaves) follows in
               elim (found.last other next (omega arith) leaves (before other next earlier leaves)) [
                 | inl same ↦ inl same
                 | inr sooner ↦ absurd (before_asym (suc access) word found.node found.at other next after sooner)

@@ -1,5 +1,5 @@
 -- What precedes in the one execution was done in the other, and precedes there.
-use Rattle.std.proofs.Common.{◌≡◌, ℕ, zero, suc, ◌<◌, ◌≤◌, ◌⊎◌, inl, inr, ℤ, true, Some, refl, sym, ◌∙◌, ap, subst, arith}
+use Rattle.std.proofs.Common.{◌≡◌, ℕ, suc, ◌<◌, ◌≤◌, ◌⊎◌, inl, inr, ℤ, true, Some, refl, sym, ◌∙◌, ap, subst, arith}
 use Rattle.backer_order.proofs.Search.{First, Less3, Same3, More3, compare, find_first}
 use Rattle.backer_order.specs.Dag.{Under, At, Below, SyncAt, Across, IntoChild, Precedes}
 use Rattle.backer_order.specs.Edges.{ActOf}
@@ -8,11 +8,11 @@ use Rattle.cilk_meaning.specs.Wants.{Returns}
 use Rattle.determinacy.proofs.Blocks.{SyncOf, decide_sync, child_stays, by_act}
 use Rattle.determinacy.proofs.Matches as matches
 use Rattle.determinacy.proofs.Matches.{Two, Is, Alike, Meets, Origin}
-use Rattle.determinacy.proofs.Meeting.{Meet, as_match, as_meet, meet_act, meet_sync, Twin, meet_spawn, Back, back, in_order}
+use Rattle.determinacy.proofs.Meeting.{Meet, as_match, as_meet, meet_act, meet_sync, meet_spawn, Back, back, in_order}
 use Rattle.determinacy.proofs.Rows as rows
 use Rattle.determinacy.proofs.Rows.{by_acts, by_one}
 use Rattle.determinacy.proofs.Steps as steps
-use Rattle.determinacy.specs.Following.{Match, Follows, AllFollow}
+use Rattle.determinacy.specs.Following.{AllFollow}
 use Rattle.determinacy.specs.Replies.{Trace, by, replies, want_at, Born, Obeys}
 use Rattle.page_messages.specs.declared.closure.FrameId.{FrameId}
 use Rattle.span_tree.specs.Program.{Starts}
@@ -138,7 +138,7 @@ module _ (two : Two) where
         let twin = meet_spawn two frame row done.at place other child done.meet is in
         let end' = child_ended two.starts two.main two.run two.run_obeys frame twin.child done.at twin.node now value twin.is done.before returns in
         let below = inside act child next under twin.child end'.at end'.value (omega (arith, end'.before)) twin.same end'.returns
-            (inr (record { at = done.at; node = twin.node; parent = frame; before = end'.after; is = twin.is })) in
+        (inr (record { at = done.at; node = twin.node; parent = frame; before = end'.after; is = twin.is })) in
         record { at = below.at; own = done.at; before = omega (arith, below.before, end'.before); match = below.match; under = Below twin.node twin.child below.own twin.is below.under }
 
     -- what precedes a match there was done here, and precedes here
@@ -170,9 +170,13 @@ module _ (two : Two) where
             before = omega (arith, done.before, top.before);
             match = subst (λ i. Meets two done.at i) (sym same) (as_match two top.frame dag.frame done.at dag.act done.meet);
             precedes = inl (record {
-              frame = top.frame; act = done.at; later_act = top.act;
+              frame = top.frame;
+              act = done.at;
+              later_act = top.act;
               first = At (meet_act two top.frame dag.frame done.at dag.act done.meet its_act) refl;
-              second = top.under; order = done.before; serial = inl refl;
+              second = top.under;
+              order = done.before;
+              serial = inl refl;
             });
           }
 
@@ -195,15 +199,18 @@ module _ (two : Two) where
           let twin = meet_spawn two top.frame dag.frame done.at dag.act other child done.meet is in
           let end' = synced_ended two.starts two.main two.run two.run_obeys top.frame twin.child done.at twin.node sync.at sync.node twin.is sync.after sync.is in
           let below = inside act child next under twin.child end'.at end'.value (omega (arith, end'.before, sync.before, top.before)) twin.same end'.returns
-              (inr (record { at = done.at; node = twin.node; parent = top.frame; before = end'.after; is = twin.is })) in
+          (inr (record { at = done.at; node = twin.node; parent = top.frame; before = end'.after; is = twin.is })) in
           record {
             when = below.at;
             before = omega (arith, below.before, end'.before, sync.before, top.before);
             match = below.match;
             precedes = inl (record {
-              frame = top.frame; act = done.at; later_act = top.act;
+              frame = top.frame;
+              act = done.at;
+              later_act = top.act;
               first = Below twin.node twin.child below.own twin.is below.under;
-              second = top.under; order = done.before;
+              second = top.under;
+              order = done.before;
               serial = inr (record { at = sync.at; node = sync.node; after = sync.after; before = sync.before; is = sync.is });
             });
           }
@@ -224,7 +231,9 @@ module _ (two : Two) where
           when = from.at;
           before = omega (arith, top.before);
           match = subst (λ i. Meets two from.at i) places (record {
-            frame = from.parent; row = from.above; same = from.same;
+            frame = from.parent;
+            row = from.above;
+            same = from.same;
             by_frame = by_acts from.node from.parent (Spawn top.frame) (two.run.events from.at) from.is;
             by_row = by_acts from.other from.above (Spawn dag.child) (two.serial.events from.place) from.is_there;
             alike = from.alike;

@@ -1,18 +1,18 @@
 -- Where `main` has returned, each frame has.
-use Rattle.std.proofs.Common.{◌≡◌, ℕ, zero, suc, ◌<◌, ◌≤◌, inl, inr, ℤ, true, Some, sym, ◌∙◌, ap, subst, arith}
+use Rattle.std.proofs.Common.{◌≡◌, ℕ, zero, suc, ◌≤◌, inl, inr, ℤ, Some, sym, ◌∙◌, ap, subst, arith}
 use Rattle.backer_order.proofs.Search.{Less3, Same3, More3, compare}
-use Rattle.backer_order.specs.Log.{main_id, Spawn, Acts}
+use Rattle.backer_order.specs.Log.{main_id, Spawn}
 use Rattle.cilk_meaning.specs.Wants.{Returns}
 use Rattle.determinacy.proofs.Carried.{child_ended}
 use Rattle.determinacy.proofs.Rows as rows
 use Rattle.determinacy.proofs.Rows.{by_acts, born_more}
 use Rattle.determinacy.specs.Following.{Complete}
-use Rattle.determinacy.specs.Replies.{Trace, by, want_of, want_at, SpawnedBefore, Born, Obeys}
+use Rattle.determinacy.specs.Replies.{Trace, want_of, want_at, SpawnedBefore, Born, Obeys}
 use Rattle.page_messages.specs.declared.closure.FrameId.{FrameId}
 use Rattle.span_tree.specs.Program.{Starts}
 
 module _ (starts : Starts) (main : ℕ) (trace : Trace) (obeys : Obeys starts main trace) (finish : ℕ) (result : ℤ)
-  (finished : want_at starts trace finish main_id ≡ Some (Returns result)) where
+    (finished : want_at starts trace finish main_id ≡ Some (Returns result)) where
   record Returned (frame : FrameId) : Type 0 where
     at : ℕ
     before : at ≤ finish
@@ -36,7 +36,7 @@ module _ (starts : Starts) (main : ℕ) (trace : Trace) (obeys : Obeys starts ma
   all_returned zero frame (inr born) = absurd (omega (arith, born.before))
   all_returned (suc now) frame (inr born) =
       child_returned frame (suc now) born (all_returned now born.parent
-          (born_more trace born.at now born.parent (omega (arith, born.before)) (obeys.born born.at born.parent (by_acts born.node born.parent (Spawn frame) (trace.events born.at) born.is))))
+      (born_more trace born.at now born.parent (omega (arith, born.before)) (obeys.born born.at born.parent (by_acts born.node born.parent (Spawn frame) (trace.events born.at) born.is))))
 
   pub complete : Complete starts trace finish
   complete frame born =

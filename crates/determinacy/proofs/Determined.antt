@@ -7,7 +7,7 @@ use Rattle.determinacy.proofs.Finished.{one_history}
 use Rattle.determinacy.proofs.Induction.{Setting, follows_now, no_trap, not_stuck, ticks_at_most, tick_left}
 use Rattle.determinacy.proofs.Memory.{same_memory}
 use Rattle.determinacy.proofs.Racing.{race_free}
-use Rattle.determinacy.specs.Determinate.{Runs, Determined, ThenSerial}
+use Rattle.determinacy.specs.Determinate.{Runs, ThenSerial}
 use Rattle.determinacy.specs.Replies.{Trace}
 use Rattle.determinacy.specs.Serial.{Serially}
 use Rattle.span_tree.specs.Program.{Starts}

@@ -1,10 +1,10 @@
 -- A finished run has the history of the serial execution.
-use Rattle.std.proofs.Common.{◌≡◌, ℕ, zero, suc, ◌<◌, ◌≤◌, inl, inr, ℤ, Bool, true, Some, refl, sym, ◌∙◌, ap, subst, arith}
-use Rattle.backer_order.specs.Log.{main_id, Spawn, Acts}
+use Rattle.std.proofs.Common.{◌≡◌, ℕ, zero, suc, ◌<◌, ◌≤◌, inl, inr, ℤ, true, Some, refl, sym, ◌∙◌, ap, subst, arith}
+use Rattle.backer_order.specs.Log.{main_id, Spawn}
 use Rattle.cilk_meaning.specs.Wants.{Returns}
 use Rattle.determinacy.proofs.Carried as carried
 use Rattle.determinacy.proofs.Carried.{child_ended}
-use Rattle.determinacy.proofs.Counting.{Map, at_most}
+use Rattle.determinacy.proofs.Counting.{at_most}
 use Rattle.determinacy.proofs.Induction as induction
 use Rattle.determinacy.proofs.Induction.{Setting}
 use Rattle.determinacy.proofs.Items.{actor, item_is}
@@ -52,12 +52,18 @@ module _ (setting : Setting) (now : ℕ) (result : ℤ) (finished : want_at sett
 
   whole : (bound : ℕ) (row : FrameId) → Born setting.two.serial.events bound row → Whole row
   whole bound row (inl of_main) = record {
-    frame = main_id; at = now; value = result; inside = omega arith; born = inl refl; same = subst (λ i. Is setting.two main_id i) (sym of_main) Mains; returns = finished;
+    frame = main_id;
+    at = now;
+    value = result;
+    inside = omega arith;
+    born = inl refl;
+    same = subst (λ i. Is setting.two main_id i) (sym of_main) Mains;
+    returns = finished;
   }
   whole zero row (inr born) = absurd (omega (arith, born.before))
   whole (suc bound) row (inr born) =
       child_whole row (suc bound) born (whole bound born.parent (born_more setting.two.serial born.at bound born.parent (omega (arith, born.before))
-          (setting.two.serial_obeys.born born.at born.parent (by_acts born.node born.parent (Spawn row) (setting.two.serial.events born.at) born.is))))
+      (setting.two.serial_obeys.born born.at born.parent (by_acts born.node born.parent (Spawn row) (setting.two.serial.events born.at) born.is))))
 
   pub record Done (place : ℕ) : Type 0 where
     pub at : ℕ

@@ -1,7 +1,6 @@
 -- One item more, and each frame still goes as a row does.
-use Rattle.std.proofs.Common.{◌≡◌, ℕ, zero, suc, ◌<◌, ◌≤◌, inl, inr, ℤ, true, false, Some, List, ◌∷◌, refl, sym, ◌∙◌, ap, subst, arith}
+use Rattle.std.proofs.Common.{◌≡◌, ℕ, suc, ◌<◌, inl, inr, true, false, List, ◌∷◌, refl, sym, ◌∙◌, ap, subst, arith}
 use Rattle.backer_order.specs.Log.{main_id, Spawn}
-use Rattle.cilk_meaning.specs.Wants.{Returns}
 use Rattle.determinacy.proofs.Blocks.{no_children_first}
 use Rattle.determinacy.proofs.Matches as matches
 use Rattle.determinacy.proofs.Matches.{Two, Is, Alike, Meets}
@@ -10,8 +9,8 @@ use Rattle.determinacy.proofs.Rows.{by_acts, either_bool, answers_no_return, bor
 use Rattle.determinacy.proofs.Steps as steps
 use Rattle.determinacy.proofs.Steps.{pairs_empty, none_told, Found, found_match, Agree, SameObtained}
 use Rattle.determinacy.specs.Determinate.{IsOpen}
-use Rattle.determinacy.specs.Following.{Same, Mains, Pairs, Level, Follows, AllFollow, Complete}
-use Rattle.determinacy.specs.Replies.{Trace, Reply, by, children_after, children, replies, want_at, Answers, Born}
+use Rattle.determinacy.specs.Following.{Mains, Pairs, Level, Follows, AllFollow, Complete}
+use Rattle.determinacy.specs.Replies.{Reply, by, children_after, children, replies, Answers, Born}
 use Rattle.page_messages.specs.declared.closure.FrameId.{FrameId}
 
 cons_same : (first second : Reply) (firsts seconds : List Reply) → first ≡ second → firsts ≡ seconds → first ∷ firsts ≡ second ∷ seconds
@@ -89,7 +88,7 @@ module _ (two : Two) where
     pub find : (at : ℕ) (frame : FrameId) → Follows two.starts two.run two.serial finish at frame → by frame (two.run.events at) ≡ true → Found two finish at frame
     find at frame follows acts =
         next_item at frame follows (λ value returns. answers_no_return two.run (two.run.events at) value
-            (subst (λ i. Answers two.run (two.run.events at) i) returns (two.run_obeys.wants at frame acts)))
+        (subst (λ i. Answers two.run (two.run.events at) i) returns (two.run_obeys.wants at frame acts)))
 
     abbrev AgreesAt : ℕ → Type 0
     AgreesAt at = (place : ℕ) → place < finish → Meets two at place → SameObtained two at place
@@ -99,7 +98,7 @@ module _ (two : Two) where
     its_step at frame follow obtained acts =
         let found = find at frame (follow frame (two.run_obeys.born at frame acts)) acts in
         let agree = steps.agree two finish at found.place frame found.row follow found.same acts found.by_row found.alike found.block
-            (obtained found.place found.inside (found_match two finish at frame acts found)) in
+        (obtained found.place found.inside (found_match two finish at frame acts found)) in
         record { place = suc found.place; inside = found.inside; level = level_item at found.place frame found.row found.same acts found.by_row found.alike agree }
 
     birth_step : (at : ℕ) (child : FrameId) → AllFollow two.starts two.run two.serial finish at → SpawnedAt two.run at child →

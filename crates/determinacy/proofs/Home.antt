@@ -5,7 +5,7 @@ use Rattle.backer_order.proofs.ReadsLast as last
 use Rattle.backer_order.proofs.Search.{Less3, Same3, More3, compare}
 use Rattle.backer_order.specs.HomeOrder.{Before}
 use Rattle.backer_order.specs.Log.{Events, SharedMemory}
-use Rattle.backer_order.specs.Moments.{IsAccess, Obtains, Leaves}
+use Rattle.backer_order.specs.Moments.{IsAccess, Leaves}
 use Rattle.backer_order.specs.Rules.{Caching}
 use Rattle.determinacy.proofs.ByDag.{before_asym, obtains_access}
 use Rattle.determinacy.proofs.Leaving.{left_access}
@@ -35,7 +35,7 @@ module _ (events : Events) (memory : SharedMemory) (caching : Caching events mem
     before now node other word at next inside access access_next sooner =
         let same = one node other word at next access access_next in
         subst (λ i. Before events memory now word node at i next) same
-            (own_before now node word at next inside access (subst (λ i. IsAccess events i word next) (sym same) access_next) sooner)
+        (own_before now node word at next inside access (subst (λ i. IsAccess events i word next) (sym same) access_next) sooner)
 
     left_before : (now node other word at next : ℕ) (value second : ℤ) → next < now → Leaves events memory node word at value → Leaves events memory other word next second → at < next →
         Before events memory now word node at other next
@@ -46,27 +46,33 @@ module _ (events : Events) (memory : SharedMemory) (caching : Caching events mem
     pub serial_reads : SerialReads events memory
     serial_reads node word at value obtains = elim (last.reads_last events memory caching (suc at) word node at value (omega arith) obtains) [
       | inr none ↦ inr (record {
-          start = none.start;
-          none = λ next sooner (other, (second, leaves)). none.none other next (omega arith) (second, leaves)
-              (before (suc at) other node word next at (omega arith) (left_access events memory other word next second leaves) (obtains_access events node word at value obtains) sooner);
-        })
+        start = none.start;
+        none = λ next sooner (other, (second, leaves)). none.none other next (omega arith) (second, leaves)
+            (before (suc at) other node word next at (omega arith) (left_access events memory other word next second leaves) (obtains_access events node word at value obtains) sooner);
+      })
       | inl found ↦ inl (record {
-          node = found.node; at = found.at; before = found.earlier; leaves = found.leaves;
-          none = λ next after sooner (other, (second, leaves)).
-              elim (found.last other next (omega arith) (second, leaves)
-                  (before (suc at) other node word next at (omega arith) (left_access events memory other word next second leaves) (obtains_access events node word at value obtains) sooner)) [
-                | inl same ↦ absurd (omega arith)
-                | inr back ↦ before_asym events memory caching (suc at) word other next found.node found.at back
-                    (left_before (suc at) found.node other word found.at next value second (omega arith) found.leaves leaves after)
-              ];
-        })
+        node = found.node;
+        at = found.at;
+        before = found.earlier;
+        leaves = found.leaves;
+        none = λ next after sooner (other, (second, leaves)).
+            elim (found.last other next (omega arith) (second, leaves)
+            (before (suc at) other node word next at (omega arith) (left_access events memory other word next second leaves) (obtains_access events node word at value obtains) sooner)) [
+              | inl same ↦ absurd (omega arith)
+              | inr back ↦ before_asym events memory caching (suc at) word other next found.node found.at back
+                  (left_before (suc at) found.node other word found.at next value second (omega arith) found.leaves leaves after)
+            ];
+      })
     ]
 
     -- and so is the memory
     pub memory_at : (now word : ℕ) (value : ℤ) → MemoryOf events memory now word value → LastOf events memory word now value
     memory_at now word value (inr none) = inr (record { start = none.start; none = λ next inside (other, leaves). none.none other next inside leaves })
     memory_at now word value (inl found) = inl (record {
-      node = found.node; at = found.at; before = found.inside; leaves = found.leaves;
+      node = found.node;
+      at = found.at;
+      before = found.inside;
+      leaves = found.leaves;
       none = λ next after inside (other, (second, leaves)). elim (found.last other next inside (second, leaves)) [
         | inl same ↦ absurd (omega arith)
         | inr back ↦ before_asym events memory caching now word other next found.node found.at back

@@ -1,14 +1,11 @@
 -- An execution whose reads go by the dag follows a complete serial execution without race.
-use Rattle.std.proofs.Common.{◌≡◌, ℕ, zero, suc, ◌<◌, ◌≤◌, ◌⊎◌, inl, inr, ℤ, Bool, true, Option, Some, None, length, sym, ◌∙◌, ap, subst, arith}
+use Rattle.std.proofs.Common.{◌≡◌, ℕ, zero, suc, ◌<◌, ◌≤◌, ℤ, Bool, true, Option, Some, None, length, sym, ◌∙◌, ap, subst, arith}
 use Rattle.backer_order.proofs.Search.{Less3, Same3, More3, compare}
-use Rattle.backer_order.specs.Dag.{Precedes}
 use Rattle.backer_order.specs.Log.{SharedMemory}
-use Rattle.backer_order.specs.Moments.{IsWrite, IsAdd, IsTouch, IsAccess, HasRead, HasAdd, Wrote}
 use Rattle.cilk_meaning.specs.declared.ends.TrapKind.{TrapKind}
 use Rattle.cilk_meaning.specs.Wants.{Want, Returns, Traps}
 use Rattle.determinacy.proofs.ByDag.{ReadsByDag}
-use Rattle.determinacy.proofs.Carried as carried
-use Rattle.determinacy.proofs.Counting.{Place, Map, at_most, fewer}
+use Rattle.determinacy.proofs.Counting.{Map, at_most, fewer}
 use Rattle.determinacy.proofs.Following as following
 use Rattle.determinacy.proofs.Items.{actor, item_is}
 use Rattle.determinacy.proofs.Leaving as leaving
@@ -21,7 +18,7 @@ use Rattle.determinacy.proofs.Steps.{Found}
 use Rattle.determinacy.proofs.Told as told
 use Rattle.determinacy.specs.Determinate.{IsOpen}
 use Rattle.determinacy.specs.Ending.{is_item, all_ticks}
-use Rattle.determinacy.specs.Following.{Follows, AllFollow, Complete}
+use Rattle.determinacy.specs.Following.{AllFollow, Complete}
 use Rattle.determinacy.specs.Replies.{by, replies, want_at, Answers, Born}
 use Rattle.determinacy.specs.Serial.{SerialReads, RaceFree}
 use Rattle.page_messages.specs.declared.closure.FrameId.{FrameId}
@@ -43,8 +40,8 @@ module _ (setting : Setting) where
   step : (now : ℕ) → ((before : ℕ) → before ≤ now → Follow before) → Follow (suc now)
   step now follow =
       following.step setting.two setting.finish setting.all now (follow now (omega arith)) (λ place inside match node other word here there obtains obtains_there.
-          reading.agrees setting.two setting.memory setting.finish now setting.all follow setting.free node other word place here there obtains obtains_there inside match setting.by_dag
-              (setting.serial_reads other word place there obtains_there))
+      reading.agrees setting.two setting.memory setting.finish now setting.all follow setting.free node other word place here there obtains obtains_there inside match setting.by_dag
+      (setting.serial_reads other word place there obtains_there))
 
   pub follows : (end now : ℕ) → now ≤ end → Follow now
   follows zero now within = let same : 0 ≡ now = omega arith in subst (λ i. Follow i) same (following.start setting.two setting.finish setting.all)
@@ -68,9 +65,11 @@ module _ (setting : Setting) where
       want_at setting.two.starts setting.two.run now frame ≡ want → (place : ℕ) × Answers setting.two.serial (setting.two.serial.events place) want
   open_wants now frame born is_open want is =
       let found = open_item now frame born is_open in
-      let wants = matches.want_same setting.two frame found.row now found.place (matches.same_instance setting.two frame found.row found.same) found.alike in
-      (found.place, subst (λ i. Answers setting.two.serial (setting.two.serial.events found.place) i) (sym wants ∙ is)
-          (setting.two.serial_obeys.wants found.place found.row found.by_row))
+      let wants = matches.want_same setting.two frame found.row now found.place (matches.same_instance setting.two frame found.row found.same) found.alike in (
+        found.place,
+        subst (λ i. Answers setting.two.serial (setting.two.serial.events found.place) i) (sym wants ∙ is)
+            (setting.two.serial_obeys.wants found.place found.row found.by_row),
+      )
 
   no_return_trap : (kind : TrapKind) (value : ℤ) → Some (Traps kind) ≡ Some (Returns value) → ⊥
   no_return_trap kind value is = cc
@@ -126,7 +125,7 @@ module _ (setting : Setting) where
       let rows_same = by_one match.row found.row (setting.two.serial.events found.place) match.by_row found.by_row in
       let frames = matches.one_frame setting.two match.frame frame found.row (subst (λ i. Is setting.two match.frame i) rows_same match.same) found.same in
       let alike : replies setting.two.starts setting.two.run at frame ≡ replies setting.two.starts setting.two.run now frame =
-          ap (λ i. replies setting.two.starts setting.two.run at i) (sym frames) ∙ match.alike ∙ ap (λ i. replies setting.two.starts setting.two.serial found.place i) rows_same ∙ sym found.alike in
+      ap (λ i. replies setting.two.starts setting.two.run at i) (sym frames) ∙ match.alike ∙ ap (λ i. replies setting.two.starts setting.two.serial found.place i) rows_same ∙ sym found.alike in
       let more = rows.grows_more setting.two.starts setting.two.run frame at now (subst (λ i. by i (setting.two.run.events at) ≡ true) frames match.by_frame) before in
       let lengths = ap length alike in
       omega arith
@@ -137,5 +136,5 @@ module _ (setting : Setting) where
   tick_left now frame born is_open =
       let found = open_item now frame born is_open in
       fewer now IsHere IsThere setting.finish (to_serial now)
-          (record { at = found.place; inside = found.inside; is = item_is found.row (setting.two.serial.events found.place) found.by_row })
-          (λ at before is same. not_matched now at frame found before (subst (λ i. Meets setting.two at i) same ((matched_at now at before is).match)))
+      (record { at = found.place; inside = found.inside; is = item_is found.row (setting.two.serial.events found.place) found.by_row })
+      (λ at before is same. not_matched now at frame found before (subst (λ i. Meets setting.two at i) same ((matched_at now at before is).match)))

@@ -1,5 +1,5 @@
 -- Which events are items, and whose.
-use Rattle.std.proofs.Common.{◌≡◌, ℕ, true, refl}
+use Rattle.std.proofs.Common.{◌≡◌, true, refl}
 use Rattle.backer_order.specs.Log.{Event, Nothing, Acts, Tick, Drop, TakeUp, OwnFetch, OwnReconcile, Post, Took, End}
 use Rattle.determinacy.proofs.Rows.{same_self}
 use Rattle.determinacy.specs.Ending.{is_item}

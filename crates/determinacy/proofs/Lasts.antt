@@ -1,5 +1,5 @@
 -- The word at a position, one position more.
-use Rattle.std.proofs.Common.{◌≡◌, ℕ, suc, ◌<◌, ◌⊎◌, inl, inr, ℤ, sym, ◌∙◌, subst, arith}
+use Rattle.std.proofs.Common.{◌≡◌, ℕ, suc, ◌⊎◌, inl, inr, ℤ, sym, ◌∙◌, subst, arith}
 use Rattle.backer_order.proofs.Search.{Less3, Same3, More3, compare}
 use Rattle.backer_order.specs.Log.{Events, SharedMemory}
 use Rattle.backer_order.specs.Moments.{Leaves}
@@ -27,7 +27,10 @@ module _ (events : Events) (memory : SharedMemory) (word : ℕ) where
     ];
   })
   last_more now value (inl last) other = inl (record {
-    node = last.node; at = last.at; before = omega (arith, last.before); leaves = last.leaves;
+    node = last.node;
+    at = last.at;
+    before = omega (arith, last.before);
+    leaves = last.leaves;
     none = λ at after inside leaves. elim (compare at now) [
       | Less3 l ↦ last.none at after l leaves
       | Same3 same ↦ other (subst (λ i. Leaving events memory word i) same leaves)
@@ -46,7 +49,9 @@ module _ (events : Events) (memory : SharedMemory) (word : ℕ) where
       inr (inr (record { start = none.start; none = λ at inside leaves. none.none at (omega arith) leaves }), λ leaves. none.none now (omega arith) leaves)
   last_split now value (inl last) = elim (compare last.at now) [
     | Same3 same ↦ inl (record { node = last.node; leaves = subst (λ i. Leaves events memory last.node word i value) same last.leaves })
-    | Less3 l ↦ inr (inl (record { node = last.node; at = last.at; before = l; leaves = last.leaves; none = λ at after inside leaves. last.none at after (omega arith) leaves }),
-        λ leaves. last.none now l (omega arith) leaves)
+    | Less3 l ↦ inr (
+      inl (record { node = last.node; at = last.at; before = l; leaves = last.leaves; none = λ at after inside leaves. last.none at after (omega arith) leaves }),
+      λ leaves. last.none now l (omega arith) leaves,
+    )
     | More3 l ↦ absurd (omega (arith, last.before))
   ]

@@ -1,9 +1,9 @@
 -- What precedes stands before.
-use Rattle.std.proofs.Common.{◌≡◌, ℕ, suc, ◌<◌, ◌≤◌, ◌⊎◌, inl, inr, ℤ, Some, arith}
+use Rattle.std.proofs.Common.{◌≡◌, ℕ, ◌<◌, ◌≤◌, ◌⊎◌, inl, inr, ℤ, Some, arith}
 use Rattle.backer_order.proofs.Search.{Less3, Same3, More3, compare}
-use Rattle.backer_order.specs.Dag.{Under, At, Below, SyncAt, Across, IntoChild, Precedes}
+use Rattle.backer_order.specs.Dag.{Under, At, Below, SyncAt, Across, Precedes}
 use Rattle.backer_order.specs.Edges.{ActOf}
-use Rattle.backer_order.specs.Log.{Spawn, Acts}
+use Rattle.backer_order.specs.Log.{Spawn}
 use Rattle.cilk_meaning.specs.Wants.{Returns}
 use Rattle.determinacy.proofs.Blocks.{by_act}
 use Rattle.determinacy.proofs.Carried.{act_of_under, child_ended, synced_ended}
@@ -55,6 +55,6 @@ module _ (starts : Starts) (main : ℕ) (trace : Trace) (obeys : Obeys starts ma
   later act at (inl dag) = later_across act at dag dag.first dag.serial
   later act at (inr dag) =
       let born = rows.born_before starts main trace obeys act dag.node dag.frame dag.child dag.act dag.is
-          (by_act trace dag.child dag.act (act_of_under trace.events at dag.child dag.act dag.below)) in
+      (by_act trace dag.child dag.act (act_of_under trace.events at dag.child dag.act dag.below)) in
       let after = under_after at dag.child dag.act dag.below in
       omega arith

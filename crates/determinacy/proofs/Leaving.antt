@@ -1,9 +1,9 @@
 -- What leaves a value in one execution does so in the other, and leaves the same.
-use Rattle.std.proofs.Common.{◌≡◌, ℕ, suc, ◌<◌, ◌≤◌, inl, inr, ℤ, true, Option, Some, List, ◌∷◌, refl, sym, ◌∙◌, ap, subst, arith}
+use Rattle.std.proofs.Common.{◌≡◌, ℕ, suc, ◌<◌, ◌≤◌, inl, inr, ℤ, true, Option, Some, List, ◌∷◌, sym, ◌∙◌, ap, subst, arith}
 use Rattle.backer_order.specs.Dag.{Precedes}
-use Rattle.backer_order.specs.Log.{Act, Read, Write, Add, Event, Acts, Events, SharedMemory}
-use Rattle.backer_order.specs.Moments.{IsAccess, Leaves, OfWrite, OfAdd, IsLeaving}
-use Rattle.cilk_meaning.specs.Wants.{Deposit, Answer, Value}
+use Rattle.backer_order.specs.Log.{Write, Add, Event, Acts, Events, SharedMemory}
+use Rattle.backer_order.specs.Moments.{IsAccess, Leaves, OfWrite, OfAdd}
+use Rattle.cilk_meaning.specs.Wants.{Deposit, Value}
 use Rattle.determinacy.proofs.Carried as carried
 use Rattle.determinacy.proofs.Following as following
 use Rattle.determinacy.proofs.Matches as matches
@@ -85,7 +85,7 @@ left_across two memory at place match told node word value (OfAdd frame old adde
     record { node = other; leaves = OfAdd row next addend is_there (subst (λ i. memory.sum i addend ≡ Some value) olds sum) }
 
 module _ (two : Two) (memory : SharedMemory) (finish end : ℕ) (all : Complete two.starts two.serial finish)
-  (follow : (now : ℕ) → now ≤ end → AllFollow two.starts two.run two.serial finish now) where
+    (follow : (now : ℕ) → now ≤ end → AllFollow two.starts two.run two.serial finish now) where
   pub record Matched (at : ℕ) : Type 0 where
     pub place : ℕ
     pub inside : place < finish
@@ -104,15 +104,15 @@ module _ (two : Two) (memory : SharedMemory) (finish end : ℕ) (all : Complete 
       let rows_same = matches.one_row two match.frame its.level.row match.row its.level.same match.same in
       let alike : replies two.starts two.run (suc at) (match.frame) ≡ replies two.starts two.serial (its.place) (match.row) = its.level.alike ∙ ap (λ i. replies two.starts two.serial its.place i) rows_same in
       let latest = rows.latest two.starts two.serial match.row its.place (reply_to (two.run.events at) (given two.starts two.run at match.frame)) (replies two.starts two.run at match.frame)
-          (sym alike ∙ rows.grew two.starts two.run at match.frame match.by_frame) in
+      (sym alike ∙ rows.grew two.starts two.run at match.frame match.by_frame) in
       let places = rows.same_place two.starts two.serial match.row latest.at place latest.is match.by_row (latest.rest ∙ match.alike) in
       alike ∙ sym latest.whole ∙ ap (λ i. replies two.starts two.serial (suc i) match.row) places
 
   pub told_same : (at place : ℕ) → at < end → (match : Meets two at place) → SameTold two at place match
   told_same at place within match =
       first_same (reply_to (two.run.events at) (given two.starts two.run at match.frame)) (reply_to (two.serial.events place) (given two.starts two.serial place match.row))
-          (replies two.starts two.run at match.frame) (replies two.starts two.serial place match.row)
-          (sym (rows.grew two.starts two.run at match.frame match.by_frame) ∙ told_after at place within match ∙ rows.grew two.starts two.serial place match.row match.by_row)
+      (replies two.starts two.run at match.frame) (replies two.starts two.serial place match.row)
+      (sym (rows.grew two.starts two.run at match.frame match.by_frame) ∙ told_after at place within match ∙ rows.grew two.starts two.serial place match.row match.by_row)
 
   pub left_there : (at place node word : ℕ) (value : ℤ) → at < end → Meets two at place → Leaves two.run.events memory node word at value →
       LeftBy two.serial.events memory word place value

@@ -1,5 +1,5 @@
 -- Two executions depth first, whose reads go by position, go in step.
-use Rattle.std.proofs.Common.{◌≡◌, ℕ, suc, ◌<◌, ◌≤◌, ◌⊎◌, inl, inr, ℤ, true, false, List, [], ◌∷◌, refl, sym, ◌∙◌, ap, subst, arith}
+use Rattle.std.proofs.Common.{◌≡◌, ℕ, suc, inl, inr, ℤ, true, false, [], ◌∷◌, refl, sym, ◌∙◌, ap, subst, arith}
 use Rattle.backer_order.specs.Log.{main_id, Spawn, Acts, SharedMemory}
 use Rattle.backer_order.specs.Moments.{Leaves}
 use Rattle.determinacy.proofs.Following as following
@@ -14,9 +14,9 @@ use Rattle.determinacy.proofs.Rows.{by_acts, by_one, either_bool, not_by, born_m
 use Rattle.determinacy.proofs.Stacks.{pops, tops_pair, no_item, stack_first, stack_item, stack_other, on_stack}
 use Rattle.determinacy.proofs.Steps as steps
 use Rattle.determinacy.proofs.Steps.{Agree, SameObtained}
-use Rattle.determinacy.specs.Deep.{pop, pushed, is_return, returned, stack, live, Deep}
+use Rattle.determinacy.specs.Deep.{pushed, is_return, returned, stack, live, Deep}
 use Rattle.determinacy.specs.Ending.{is_item, ItsFrame}
-use Rattle.determinacy.specs.Following.{Mains, Match, Pairs, Level, AllFollow}
+use Rattle.determinacy.specs.Following.{Mains, Pairs, Level, AllFollow}
 use Rattle.determinacy.specs.Replies.{by, children, replies, want_at, Born}
 use Rattle.determinacy.specs.Serial.{Leaving, LastOf, SerialReads}
 use Rattle.page_messages.specs.declared.closure.FrameId.{FrameId}
@@ -48,12 +48,12 @@ module _ (two : Two) (memory : SharedMemory) where
   pub lives : (now place : ℕ) → Lock now place → Pairs (Is two) (live two.starts two.run now) (live two.starts two.serial place)
   lives now place lock =
       pops (Is two) (returned two.starts two.run now) (returned two.starts two.serial place) (stack two.starts two.run now) (stack two.starts two.serial place) lock.stacks
-          (λ frame row on same. ap is_return (lock_want now place frame row lock (on_stack two.starts two.run now frame on) same))
+      (λ frame row on same. ap is_return (lock_want now place frame row lock (on_stack two.starts two.run now frame on) same))
 
   first_stacks : Pairs (Is two) (stack two.starts two.run 0) (stack two.starts two.serial 0)
   first_stacks =
       subst (λ i. Pairs (Is two) i (stack two.starts two.serial 0)) (sym (stack_first two.starts two.run))
-          (subst (λ i. Pairs (Is two) (main_id ∷ []) i) (sym (stack_first two.starts two.serial)) (Mains, tt))
+      (subst (λ i. Pairs (Is two) (main_id ∷ []) i) (sym (stack_first two.starts two.serial)) (Mains, tt))
 
   first_frame : (row : FrameId) → Born two.serial.events 0 row → ItsFrame two.starts two.run two.serial 0 row
   first_frame row (inl of_main) = record { frame = main_id; born = inl refl; same = subst (λ i. Is two main_id i) (sym of_main) Mains }
@@ -110,7 +110,10 @@ module _ (two : Two) (memory : SharedMemory) where
       let top = deep now here.frame here.acts in
       let top_there = deep_there place there.frame there.acts in
       record {
-        frame = here.frame; row = there.frame; by_frame = here.acts; by_row = there.acts;
+        frame = here.frame;
+        row = there.frame;
+        by_frame = here.acts;
+        by_row = there.acts;
         same = tops_pair (Is two) (live two.starts two.run now) (live two.starts two.serial place) here.frame there.frame top.0 top_there.0 (lives now place lock) top.1 top_there.1;
       }
 
@@ -203,8 +206,8 @@ module _ (two : Two) (memory : SharedMemory) where
     its_stacks : Pairs (Is two) (stack two.starts two.run (suc now)) (stack two.starts two.serial (suc place))
     its_stacks =
         subst (λ i. Pairs (Is two) i (stack two.starts two.serial (suc place))) (sym (stack_item two.starts two.run now (item_is its.frame (two.run.events now) its.by_frame)))
-            (subst (λ i. Pairs (Is two) (pushed (two.run.events now) (live two.starts two.run now)) i) (sym (stack_item two.starts two.serial place (item_is its.row (two.serial.events place) its.by_row)))
-                (agree.stacks (live two.starts two.run now) (live two.starts two.serial place) (lives now place lock)))
+        (subst (λ i. Pairs (Is two) (pushed (two.run.events now) (live two.starts two.run now)) i) (sym (stack_item two.starts two.serial place (item_is its.row (two.serial.events place) its.by_row)))
+        (agree.stacks (live two.starts two.run now) (live two.starts two.serial place) (lives now place lock)))
 
     pub item : Lock (suc now) (suc place)
     item = record { level = its_level; frames = its_frames; stacks = its_stacks; word = its_word }

@@ -1,12 +1,12 @@
 -- Corresponding frames run the same and want the same, and the correspondence is one to one.
 use Rattle.std.proofs.Common.{◌≡◌, ℕ, suc, ◌⊎◌, inl, inr, ℤ, true, Option, Some, List, refl, sym, ◌∙◌, ap, subst}
-use Rattle.backer_order.specs.Log.{main_id, Act, Spawn, Event, Acts}
+use Rattle.backer_order.specs.Log.{main_id, Spawn, Event, Acts}
 use Rattle.cilk_meaning.specs.Wants as wanted
 use Rattle.cilk_meaning.specs.Wants.{Asks}
 use Rattle.determinacy.proofs.Rows as rows
 use Rattle.determinacy.proofs.Rows.{by_acts, by_one}
 use Rattle.determinacy.specs.Following.{Same, Mains, Spawned, Match}
-use Rattle.determinacy.specs.Replies.{Instance, Trace, Reply, by, want_of, replies, want_at, Answers, Obeys}
+use Rattle.determinacy.specs.Replies.{Instance, Trace, by, want_of, replies, want_at, Answers, Obeys}
 use Rattle.page_messages.specs.declared.closure.FrameId.{FrameId}
 use Rattle.span_tree.specs.Program.{Starts}
 
@@ -21,7 +21,12 @@ pub record Two : Type 0 where
 
 abbrev pub exchanged : Two → Two
 exchanged two = record {
-  starts = two.starts; main = two.main; run = two.serial; serial = two.run; run_obeys = two.serial_obeys; serial_obeys = two.run_obeys;
+  starts = two.starts;
+  main = two.main;
+  run = two.serial;
+  serial = two.run;
+  run_obeys = two.serial_obeys;
+  serial_obeys = two.run_obeys;
 }
 
 -- what a frame wants at an item of its own
@@ -68,7 +73,7 @@ module _ (two : Two) where
       let here = asked two.starts two.main two.run two.run_obeys at parent (Acts node parent (Spawn child)) is (by_acts node parent (Spawn child) (two.run.events at) is) in
       let there = asked two.starts two.main two.serial two.serial_obeys place above (Acts other above (Spawn row)) is_there (by_acts other above (Spawn row) (two.serial.events place) is_there) in
       let (target, procedure, arguments) = one_spawn (two.run.target child) (two.serial.target row) ((two.run.instance child).procedure) ((two.serial.instance row).procedure)
-          ((two.run.instance child).arguments) ((two.serial.instance row).arguments) (sym here ∙ want_same parent above at place instance alike ∙ there) in
+      ((two.run.instance child).arguments) ((two.serial.instance row).arguments) (sym here ∙ want_same parent above at place instance alike ∙ there) in
       let depth = two.run_obeys.deeper at node parent child is ∙ ap (λ i. suc (i.depth)) instance ∙ sym (two.serial_obeys.deeper place other above row is_there) in
       (target, same_parts (two.run.instance child) (two.serial.instance row) depth procedure arguments)
 
@@ -117,15 +122,15 @@ module _ (two : Two) where
   one_row_from child row other first one second =
       let same_at = two.run_obeys.fresh first.at second.at first.node second.node first.parent second.parent child first.is second.is in
       let parents = (spawn_parent (two.run.events first.at) first.node second.node first.parent second.parent child child first.is
-          (subst (λ i. two.run.events i ≡ Acts second.node second.parent (Spawn child)) (sym same_at) second.is)).0 in
+      (subst (λ i. two.run.events i ≡ Acts second.node second.parent (Spawn child)) (sym same_at) second.is)).0 in
       let aboves = one second.above (subst (λ i. Is i second.above) (sym parents) second.same) in
       let alike : replies two.starts two.serial first.place first.above ≡ replies two.starts two.serial second.place first.above =
-          sym first.alike ∙ ap (λ i. replies two.starts two.run i first.parent) same_at ∙ ap (λ i. replies two.starts two.run second.at i) parents ∙ second.alike ∙ ap (λ i. replies two.starts two.serial second.place i) (sym aboves) in
+      sym first.alike ∙ ap (λ i. replies two.starts two.run i first.parent) same_at ∙ ap (λ i. replies two.starts two.run second.at i) parents ∙ second.alike ∙ ap (λ i. replies two.starts two.serial second.place i) (sym aboves) in
       let by_first = by_acts first.other first.above (Spawn row) (two.serial.events first.place) first.is_there in
       let by_second = subst (λ i. by i (two.serial.events second.place) ≡ true) (sym aboves) (by_acts second.other second.above (Spawn other) (two.serial.events second.place) second.is_there) in
       let places = rows.same_place two.starts two.serial first.above first.place second.place by_first by_second alike in
       (spawn_parent (two.serial.events first.place) first.other second.other first.above second.above row other first.is_there
-          (subst (λ i. two.serial.events i ≡ Acts second.other second.above (Spawn other)) (sym places) second.is_there)).1
+      (subst (λ i. two.serial.events i ≡ Acts second.other second.above (Spawn other)) (sym places) second.is_there)).1
 
   pub one_row : (frame row other : FrameId) → Is frame row → Is frame other → row ≡ other
   one_row frame first other Mains again = elim (origin main_id other again) [
@@ -153,11 +158,11 @@ module _ (two : Two) where
       let frames = by_one first.frame second.frame (two.run.events at) first.by_frame second.by_frame in
       let its_row = one_row two first.frame first.row second.row first.same (subst (λ i. Is two i second.row) (sym frames) second.same) in
       rows.same_place two.starts two.serial first.row place other first.by_row (subst (λ i. by i (two.serial.events other) ≡ true) (sym its_row) second.by_row)
-          (sym first.alike ∙ ap (λ i. replies two.starts two.run at i) frames ∙ second.alike ∙ ap (λ i. replies two.starts two.serial other i) (sym its_row))
+      (sym first.alike ∙ ap (λ i. replies two.starts two.run at i) frames ∙ second.alike ∙ ap (λ i. replies two.starts two.serial other i) (sym its_row))
 
   pub one_time : (at other place : ℕ) → Meets two at place → Meets two other place → at ≡ other
   one_time at other place first second =
       let its_row = by_one first.row second.row (two.serial.events place) first.by_row second.by_row in
       let frames = one_frame first.frame second.frame first.row first.same (subst (λ i. Is two second.frame i) (sym its_row) second.same) in
       rows.same_place two.starts two.run first.frame at other first.by_frame (subst (λ i. by i (two.run.events other) ≡ true) (sym frames) second.by_frame)
-          (first.alike ∙ ap (λ i. replies two.starts two.serial place i) its_row ∙ sym second.alike ∙ ap (λ i. replies two.starts two.run other i) (sym frames))
+      (first.alike ∙ ap (λ i. replies two.starts two.serial place i) its_row ∙ sym second.alike ∙ ap (λ i. replies two.starts two.run other i) (sym frames))

@@ -1,5 +1,5 @@
 -- An item of a frame that is one of a row, and what the frame did before it.
-use Rattle.std.proofs.Common.{◌≡◌, ℕ, zero, suc, ◌<◌, ◌≤◌, inl, inr, true, length, refl, sym, ◌∙◌, ap, subst, arith}
+use Rattle.std.proofs.Common.{◌≡◌, ℕ, zero, suc, ◌<◌, ◌≤◌, inl, inr, true, length, sym, ◌∙◌, ap, subst, arith}
 use Rattle.backer_order.proofs.Search.{Less3, Same3, More3, compare}
 use Rattle.backer_order.specs.Edges.{ActOf}
 use Rattle.backer_order.specs.Log.{Act, Spawn, Sync, Acts}
@@ -7,7 +7,7 @@ use Rattle.determinacy.proofs.Matches.{Two, Is, Alike, Meets}
 use Rattle.determinacy.proofs.Rows as rows
 use Rattle.determinacy.proofs.Rows.{by_acts, by_one, either_bool, given}
 use Rattle.determinacy.proofs.Twins.{twins_of, twin_act, twin_sync, twin_spawn}
-use Rattle.determinacy.specs.Following.{Match, Spawned}
+use Rattle.determinacy.specs.Following.{Spawned}
 use Rattle.determinacy.specs.Replies.{by, reply_to, replies}
 use Rattle.page_messages.specs.declared.closure.FrameId.{FrameId}
 
@@ -87,7 +87,7 @@ module _ (two : Two) where
     ]
     | inl made ↦
         let latest = rows.latest two.starts two.run frame now (reply_to (two.serial.events there) (given two.starts two.serial there row))
-            (replies two.starts two.serial there row) (alike ∙ rows.grew two.starts two.serial there row made) in
+        (replies two.starts two.serial there row) (alike ∙ rows.grew two.starts two.serial there row made) in
         elim (compare place there) [
           | Less3 l ↦ back_sooner frame row now latest.at place latest.before (back frame row latest.at there place same latest.rest l acts)
           | Same3 is ↦ back_here frame row now place there same alike acts is latest

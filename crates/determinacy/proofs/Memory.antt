@@ -1,8 +1,7 @@
 -- The memory of a finished run is that of the serial execution.
-use Rattle.std.proofs.Common.{◌≡◌, ℕ, suc, ◌<◌, ◌≤◌, ◌⊎◌, inl, inr, ℤ, Some, sym, ◌∙◌, subst, arith}
+use Rattle.std.proofs.Common.{◌≡◌, ℕ, ◌<◌, inl, inr, ℤ, Some, sym, ◌∙◌, subst, arith}
 use Rattle.backer_order.proofs.Search.{Less3, Same3, More3, compare}
 use Rattle.backer_order.specs.Dag.{Consistent}
-use Rattle.backer_order.specs.HomeOrder.{Before}
 use Rattle.backer_order.specs.Log.{main_id}
 use Rattle.backer_order.specs.Moments.{Leaves}
 use Rattle.backer_order.specs.Rules.{Caching}
@@ -13,14 +12,13 @@ use Rattle.determinacy.proofs.Induction as induction
 use Rattle.determinacy.proofs.Induction.{Setting}
 use Rattle.determinacy.proofs.Leaving as leaving
 use Rattle.determinacy.proofs.Leaving.{same_left, left_access, left_writer, left_actor, LeftThere}
-use Rattle.determinacy.proofs.Matches as matches
-use Rattle.determinacy.proofs.Matches.{Two, Meets}
-use Rattle.determinacy.specs.Ending.{LastHome, NoneHome, MemoryOf}
+use Rattle.determinacy.proofs.Matches.{Meets}
+use Rattle.determinacy.specs.Ending.{LastHome, MemoryOf}
 use Rattle.determinacy.specs.Replies.{want_at}
-use Rattle.determinacy.specs.Serial.{LastSerial, NoneSerial, LastOf}
+use Rattle.determinacy.specs.Serial.{LastSerial, LastOf}
 
 module _ (setting : Setting) (caching : Caching setting.two.run.events setting.memory) (consistent : (now : ℕ) → Consistent setting.two.run.events setting.memory now)
-  (now : ℕ) (result : ℤ) (finished : want_at setting.two.starts setting.two.run now main_id ≡ Some (Returns result)) where
+    (now : ℕ) (result : ℤ) (finished : want_at setting.two.starts setting.two.run now main_id ≡ Some (Returns result)) where
   module _ (word : ℕ) (here there : ℤ) where
     abbrev Left : ℕ → ℤ → Type 0
     Left at value = LeftThere setting.two setting.memory setting.finish now setting.all (induction.follows setting now) word at value
@@ -48,11 +46,11 @@ module _ (setting : Setting) (caching : Caching setting.two.run.events setting.m
         (behind : Done (serial.at) there) → found.place < serial.at → here ≡ there
     not_earlier last found serial behind l =
         let precedes = setting.free found.node serial.node word found.place serial.at l serial.before (left_access setting.two.serial.events setting.memory found.node word found.place here found.leaves)
-            (left_access setting.two.serial.events setting.memory serial.node word serial.at there serial.leaves)
-            (inl (left_writer setting.two.serial.events setting.memory found.node word found.place here found.leaves)) in
+        (left_access setting.two.serial.events setting.memory serial.node word serial.at there serial.leaves)
+        (inl (left_writer setting.two.serial.events setting.memory found.node word found.place here found.leaves)) in
         let order = leaving.ordered setting.two setting.memory setting.finish now setting.all (induction.follows setting now) last.at found.place behind.at serial.at (omega (arith, behind.before)) found.match behind.match precedes in
         let before = (consistent now).dag last.node behind.node word last.at behind.at behind.before (left_access setting.two.run.events setting.memory last.node word last.at here last.leaves)
-            (left_access setting.two.run.events setting.memory behind.node word behind.at there behind.leaves) order.1 in
+        (left_access setting.two.run.events setting.memory behind.node word behind.at there behind.leaves) order.1 in
         elim (last.last behind.node behind.at behind.before (there, behind.leaves)) [
           | inl same ↦ absurd (omega (arith, order.0, same))
           | inr sooner ↦ absurd (before_asym setting.two.run.events setting.memory caching now word last.node last.at behind.node behind.at before sooner)

@@ -1,12 +1,11 @@
 -- A run that follows a serial execution without race has none.
-use Rattle.std.proofs.Common.{◌≡◌, ℕ, suc, ◌<◌, ◌≤◌, ◌⊎◌, inl, inr, ℤ, true, Some, sym, subst, arith}
+use Rattle.std.proofs.Common.{◌≡◌, ℕ, ◌<◌, ◌⊎◌, inl, inr, true, Some, sym, subst, arith}
 use Rattle.backer_order.proofs.Search.{Less3, Same3, More3, compare}
 use Rattle.backer_order.specs.Dag.{Precedes}
 use Rattle.backer_order.specs.Log.{Read, Write, Add, Acts, Events}
-use Rattle.backer_order.specs.Moments.{IsWrite, IsAdd, IsTouch, IsAccess}
+use Rattle.backer_order.specs.Moments.{IsAccess}
 use Rattle.cilk_meaning.specs.Wants as wanted
 use Rattle.cilk_meaning.specs.Wants.{Asks}
-use Rattle.determinacy.proofs.Carried as carried
 use Rattle.determinacy.proofs.Induction as induction
 use Rattle.determinacy.proofs.Induction.{Setting}
 use Rattle.determinacy.proofs.Leaving as leaving

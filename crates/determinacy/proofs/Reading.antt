@@ -1,9 +1,9 @@
 -- A read gives what the serial read gives, where nothing races.
-use Rattle.std.proofs.Common.{◌≡◌, ◌≢◌, ℕ, suc, ◌<◌, ◌≤◌, ◌⊎◌, inl, inr, ℤ, sym, ◌∙◌, subst, arith}
+use Rattle.std.proofs.Common.{◌≡◌, ◌≢◌, ℕ, ◌<◌, ◌≤◌, ◌⊎◌, inl, inr, ℤ, sym, ◌∙◌, subst, arith}
 use Rattle.backer_order.proofs.Search.{Less3, Same3, More3, compare}
 use Rattle.backer_order.specs.Dag.{Precedes}
 use Rattle.backer_order.specs.Log.{SharedMemory}
-use Rattle.backer_order.specs.Moments.{IsAccess, Obtains, Leaves, IsLeaving}
+use Rattle.backer_order.specs.Moments.{IsAccess, Obtains, Leaves}
 use Rattle.determinacy.proofs.ByDag.{NoRaceAt, LastInDag, NoneInDag, ReadsByDag, obtains_access}
 use Rattle.determinacy.proofs.Carried as carried
 use Rattle.determinacy.proofs.Later.{later}
@@ -12,13 +12,13 @@ use Rattle.determinacy.proofs.Leaving.{same_left, left_access, left_writer, Left
 use Rattle.determinacy.proofs.Matches as matches
 use Rattle.determinacy.proofs.Matches.{Two, Meets}
 use Rattle.determinacy.specs.Following.{AllFollow, Complete}
-use Rattle.determinacy.specs.Serial.{LastSerial, NoneSerial, LastOf, RaceFree}
+use Rattle.determinacy.specs.Serial.{LastSerial, LastOf, RaceFree}
 
 module _ (two : Two) (memory : SharedMemory) (finish end : ℕ) (all : Complete two.starts two.serial finish)
-  (follow : (now : ℕ) → now ≤ end → AllFollow two.starts two.run two.serial finish now) (free : RaceFree two.serial.events finish) where
+    (follow : (now : ℕ) → now ≤ end → AllFollow two.starts two.run two.serial finish now) (free : RaceFree two.serial.events finish) where
   -- the access at the end, and the one that it matches
   module _ (node other word place : ℕ) (here there : ℤ) (obtains : Obtains two.run.events node word end here) (obtains_there : Obtains two.serial.events other word place there)
-    (inside : place < finish) (match : Meets two end place) where
+      (inside : place < finish) (match : Meets two end place) where
     access_there : IsAccess two.serial.events other word place
     access_there = obtains_access two.serial.events other word place there obtains_there
 
@@ -33,13 +33,13 @@ module _ (two : Two) (memory : SharedMemory) (finish end : ℕ) (all : Complete 
         IsAccess two.serial.events reader word second → Precedes two.serial.events first second
     free_of first second actor reader value before within leaves access =
         free actor reader word first second before within (left_access two.serial.events memory actor word first value leaves) access
-            (inl (left_writer two.serial.events memory actor word first value leaves))
+        (inl (left_writer two.serial.events memory actor word first value leaves))
 
     free_behind : (second actor : ℕ) (value : ℤ) → place < second → second < finish → Leaves two.serial.events memory actor word second value →
         Precedes two.serial.events place second
     free_behind second actor value before within leaves =
         free other actor word place second before within access_there (left_access two.serial.events memory actor word second value leaves)
-            (inr (left_writer two.serial.events memory actor word second value leaves))
+        (inr (left_writer two.serial.events memory actor word second value leaves))
 
     -- what leaves a value before the end here is serially before, there
     left_before : (at : ℕ) (value : ℤ) → at < end → (found : Left at value) → (found.place < place) × Precedes two.serial.events (found.place) place
@@ -95,7 +95,7 @@ module _ (two : Two) (memory : SharedMemory) (finish end : ℕ) (all : Complete 
           | More3 l ↦ absurd (last.none found.place l before.0 (found.node, (here, found.leaves)))
           | Less3 l ↦
               let order = leaving.ordered two memory finish end all follow dag.at found.place behind.when last.at (omega (arith, behind.before)) found.match behind.match_here
-                  (free_of found.place last.at found.node last.node here l (omega (arith, last.before, inside)) found.leaves (left_access two.serial.events memory last.node word last.at there last.leaves)) in
+              (free_of found.place last.at found.node last.node here l (omega (arith, last.before, inside)) found.leaves (left_access two.serial.events memory last.node word last.at there last.leaves)) in
               elim (dag.last behind.node_here behind.when behind.before (there, behind.leaves)) [
                 | inl same ↦ absurd (omega (arith, order.0, same))
                 | inr sooner ↦ let back = later two.starts two.main two.run two.run_obeys behind.when dag.at sooner in absurd (omega (arith, order.0))

@@ -1,12 +1,11 @@
 -- What an execution tells its frames, one item more.
 use Rattle.std.proofs.Common.{◌≡◌, ℕ, zero, suc, ◌<◌, ◌≤◌, ◌⊎◌, inl, inr, ℤ, Bool, true, false, cond, Some, List, [], ◌∷◌, length, refl, sym, ◌∙◌, ap, subst, arith, rules}
 use Rattle.std.specs.Prelude.{◌==◌, ◌&&◌}
-use Rattle.backer_order.proofs.Decide.{same_frame_or_not}
 use Rattle.backer_order.proofs.Search.{Less3, Same3, More3, compare}
 use Rattle.backer_order.specs.Log.{Act, Read, Write, Add, Print, Spawn, Sync, Event, Nothing, Acts, Tick, Drop, TakeUp, OwnFetch, OwnReconcile, Post, Took, End}
 use Rattle.cilk_meaning.specs.Wants.{Deposit, Returns}
 use Rattle.cluster_rules.specs.Lives.{same_frame}
-use Rattle.determinacy.specs.Replies.{Trace, Reply, by, children_after, children, value_in, deposits, reply_to, want_of, replies, want_at, Answers, SpawnedBefore, Born, Obeys}
+use Rattle.determinacy.specs.Replies.{Trace, Reply, by, children_after, children, value_in, deposits, reply_to, want_of, replies, want_at, Answers, Born, Obeys}
 use Rattle.page_messages.specs.declared.closure.FrameId.{FrameId}
 use Rattle.span_tree.specs.Program.{Starts}
 
@@ -203,10 +202,13 @@ module _ (starts : Starts) (trace : Trace) where
   latest frame zero reply earlier is = let none = none_told frame in absurd cc
   latest frame (suc now) reply earlier is = elim (either_bool (by frame (trace.events now))) [
     | inl acts ↦ record {
-        at = now; before = omega arith; is = acts; whole = refl;
-        rest = rest_same (reply_to (trace.events now) (given starts trace now frame)) reply (replies starts trace now frame) earlier
-            (sym (grew starts trace now frame acts) ∙ is);
-      }
+      at = now;
+      before = omega arith;
+      is = acts;
+      whole = refl;
+      rest = rest_same (reply_to (trace.events now) (given starts trace now frame)) reply (replies starts trace now frame) earlier
+          (sym (grew starts trace now frame acts) ∙ is);
+    }
     | inr none ↦
         let before = latest frame now reply earlier (sym (still starts trace now frame none) ∙ is) in
         record { at = before.at; before = omega (arith, before.before); is = before.is; rest = before.rest; whole = before.whole ∙ sym (still starts trace now frame none) }

@@ -113,5 +113,5 @@ pub nothing_live : (starts : Starts) (main : ℕ) (trace : Trace) → Obeys star
     live starts trace now ≡ []
 nothing_live starts main trace obeys now result finished =
     pop_all (returned starts trace now) (stack starts trace now) (λ frame on.
-        let (value, returns) = complete starts main trace obeys now result finished frame (on_stack starts trace now frame on) in
-        is_returned starts trace now frame value returns)
+    let (value, returns) = complete starts main trace obeys now result finished frame (on_stack starts trace now frame on) in
+    is_returned starts trace now frame value returns)

@@ -1,10 +1,10 @@
 -- An item keeps the correspondence where its read agrees.
-use Rattle.std.proofs.Common.{◌≡◌, ℕ, zero, suc, ◌<◌, ◌≤◌, inl, inr, ℤ, true, Option, Some, List, [], ◌∷◌, ◌++◌, refl, sym, ◌∙◌, ap, subst, arith}
+use Rattle.std.proofs.Common.{◌≡◌, ℕ, suc, ◌<◌, inl, inr, ℤ, true, Option, Some, List, [], ◌∷◌, ◌++◌, refl, sym, ◌∙◌, ap, subst, arith}
 use Rattle.backer_order.proofs.Search.{Less3, Same3, More3, compare}
 use Rattle.backer_order.specs.Edges.{IsOn}
 use Rattle.backer_order.specs.Log.{Act, Read, Write, Add, Print, Spawn, Sync, Event, Acts, Tick}
 use Rattle.backer_order.specs.Moments.{Obtains}
-use Rattle.cilk_meaning.specs.Wants.{Want, Returns, Deposit, Answer, Value, Children}
+use Rattle.cilk_meaning.specs.Wants.{Want, Returns, Deposit, Value, Children}
 use Rattle.determinacy.proofs.Blocks.{child_born, no_children_first}
 use Rattle.determinacy.proofs.Matches as matches
 use Rattle.determinacy.proofs.Matches.{Two, Is, Alike, Meets}
@@ -12,8 +12,8 @@ use Rattle.determinacy.proofs.Rows as rows
 use Rattle.determinacy.proofs.Rows.{by_acts, by_one, given, born_more}
 use Rattle.determinacy.proofs.Twins.{Twins, Reads, Writes, Adds, Prints, Spawns, Syncs, Ticks, twins_of, twin_spawn, twins_back}
 use Rattle.determinacy.specs.Deep.{pushed}
-use Rattle.determinacy.specs.Following.{Same, Spawned, Match, Pairs, Level, Follows, AllFollow}
-use Rattle.determinacy.specs.Replies.{Trace, Reply, OfAct, by, children_after, children, value_in, deposits, reply_to, want_of, replies, want_at, Born, Obeys}
+use Rattle.determinacy.specs.Following.{Spawned, Pairs, Level, AllFollow}
+use Rattle.determinacy.specs.Replies.{Trace, OfAct, by, children_after, children, value_in, deposits, reply_to, want_of, replies, want_at, Obeys}
 use Rattle.page_messages.specs.declared.closure.FrameId.{FrameId}
 use Rattle.span_tree.specs.Program.{Starts}
 
@@ -98,7 +98,7 @@ module _ (two : Two) where
       let its_row = matches.one_row two child its.level.row next its.level.same same in
       let there = subst (λ i. want_at two.starts two.serial its.place i ≡ Some (Returns value)) its_row (level_returns at its.place child value returns its.level) in
       same_value (want_at two.starts two.run at child) (want_at two.starts two.serial place next) value value' returns returns'
-          (one_value two.starts two.main two.serial two.serial_obeys next its.place place value value' there returns')
+      (one_value two.starts two.main two.serial two.serial_obeys next its.place place value value' there returns')
 
   child_target : (at place : ℕ) (frame row child next : FrameId) → IsOn child (children two.run.events at frame) → Is two child next →
       two.run.target child ≡ two.serial.target next
@@ -118,8 +118,8 @@ module _ (two : Two) where
   SameObtained at place = (node other word : ℕ) (here there : ℤ) → Obtains two.run.events node word at here → Obtains two.serial.events other word place there → here ≡ there
 
   module _ (finish at place : ℕ) (frame row : FrameId) (follow : AllFollow two.starts two.run two.serial finish at) (same : Is two frame row)
-    (by_frame : by frame (two.run.events at) ≡ true) (by_row : by row (two.serial.events place) ≡ true) (alike : Alike two at frame place row)
-    (pairs : Pairs (Is two) (children two.run.events at frame) (children two.serial.events place row)) (obtained : SameObtained at place) where
+      (by_frame : by frame (two.run.events at) ≡ true) (by_row : by row (two.serial.events place) ≡ true) (alike : Alike two at frame place row)
+      (pairs : Pairs (Is two) (children two.run.events at frame) (children two.serial.events place row)) (obtained : SameObtained at place) where
     abbrev IsReply : Event → Event → Type 0
     IsReply event other = reply_to event (given two.starts two.run at frame) ≡ reply_to other (given two.starts two.serial place row)
 
@@ -147,7 +147,7 @@ module _ (two : Two) where
         two.serial.events place ≡ Acts other second (Spawn next) → Is two child next
     kin node other actor second child next is is_there =
         Spawned at place node other frame row (subst (λ i. two.run.events at ≡ Acts node i (Spawn child)) (its_frame node actor (Spawn child) is) is)
-            (subst (λ i. two.serial.events place ≡ Acts other i (Spawn next)) (its_row other second (Spawn next) is_there) is_there) same alike
+        (subst (λ i. two.serial.events place ≡ Acts other i (Spawn next)) (its_row other second (Spawn next) is_there) is_there) same alike
 
     synced : (node other : ℕ) (actor second : FrameId) → two.run.events at ≡ Acts node actor Sync → two.serial.events place ≡ Acts other second Sync →
         given two.starts two.run at frame ≡ given two.starts two.serial place row
@@ -155,22 +155,22 @@ module _ (two : Two) where
         let here = subst (λ i. two.run.events at ≡ Acts node i Sync) (its_frame node actor Sync is) is in
         let there = subst (λ i. two.serial.events place ≡ Acts other i Sync) (its_row other second Sync is_there) is_there in
         pairs_deposits (Is two) (λ child. (two.run.target child, value_in (want_at two.starts two.run at child)))
-            (λ child. (two.serial.target child, value_in (want_at two.starts two.serial place child)))
-            (children two.run.events at frame) (children two.serial.events place row) pairs
-            (λ child next on on_there its. same_deposit (two.run.target child) (two.serial.target next) (value_in (want_at two.starts two.run at child))
-                (value_in (want_at two.starts two.serial place next)) (child_target at place frame row child next on its)
-                (child_value finish at place node other frame row follow here there child next on on_there its))
+        (λ child. (two.serial.target child, value_in (want_at two.starts two.serial place child)))
+        (children two.run.events at frame) (children two.serial.events place row) pairs
+        (λ child next on on_there its. same_deposit (two.run.target child) (two.serial.target next) (value_in (want_at two.starts two.run at child))
+        (value_in (want_at two.starts two.serial place next)) (child_target at place frame row child next on its)
+        (child_value finish at place node other frame row follow here there child next on on_there its))
 
     agree_at : (event other : Event) → Twins event other → two.run.events at ≡ event → two.serial.events place ≡ other → Agree at place frame row
     unfolding reply_to children_after pushed
     agree_at event other (Reads node there actor second word value next) is is_there =
         set (Acts node actor (Read word value)) (Acts there second (Read word next)) is is_there
-            (ap (λ i. OfAct (Value i)) (obtained node there word value next (inl (record { frame = actor; is = is })) (inl (record { frame = second; is = is_there }))))
-            pairs (λ firsts seconds each. each)
+        (ap (λ i. OfAct (Value i)) (obtained node there word value next (inl (record { frame = actor; is = is })) (inl (record { frame = second; is = is_there }))))
+        pairs (λ firsts seconds each. each)
     agree_at event other (Adds node there actor second word value next addend) is is_there =
         set (Acts node actor (Add word value addend)) (Acts there second (Add word next addend)) is is_there
-            (ap (λ i. OfAct (Value i)) (obtained node there word value next (inr (record { frame = actor; addend = addend; is = is })) (inr (record { frame = second; addend = addend; is = is_there }))))
-            pairs (λ firsts seconds each. each)
+        (ap (λ i. OfAct (Value i)) (obtained node there word value next (inr (record { frame = actor; addend = addend; is = is })) (inr (record { frame = second; addend = addend; is = is_there }))))
+        pairs (λ firsts seconds each. each)
     agree_at event other (Writes node there actor second word value) is is_there =
         set (Acts node actor (Write word value)) (Acts there second (Write word value)) is is_there refl pairs (λ firsts seconds each. each)
     agree_at event other (Prints node there actor second value) is is_there =

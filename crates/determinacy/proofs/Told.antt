@@ -1,6 +1,6 @@
 -- What an item is, told from the want that it answers.
-use Rattle.std.proofs.Common.{◌≡◌, ℕ, ◌⊎◌, inl, inr, ℤ, Option, Some, None, List, refl, sym, ◌∙◌, ap, subst}
-use Rattle.backer_order.specs.Log.{Act, Read, Write, Add, Print, Spawn, Sync, Event, Acts, Tick}
+use Rattle.std.proofs.Common.{◌≡◌, ℕ, ◌⊎◌, inl, inr, ℤ, Option, Some, None, List, refl, ◌∙◌, ap}
+use Rattle.backer_order.specs.Log.{Read, Write, Add, Print, Spawn, Sync, Event, Acts, Tick}
 use Rattle.cilk_meaning.specs.declared.ends.TrapKind.{TrapKind}
 use Rattle.cilk_meaning.specs.Wants as wanted
 use Rattle.cilk_meaning.specs.Wants.{Asks, Traps}

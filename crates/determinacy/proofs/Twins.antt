@@ -36,7 +36,7 @@ module _ (run serial : Trace) where
       subst (λ i. Twins (Acts node frame (Print value)) i) (sym is) (Prints node node' frame row value)
   twins (Acts node frame (Spawn child)) other want here there =
       let (node', row, next, is) = told.was_spawn serial other (run.target child) ((run.instance child).procedure) ((run.instance child).arguments)
-          (subst (λ i. Answers serial other i) here there) in
+      (subst (λ i. Answers serial other i) here there) in
       subst (λ i. Twins (Acts node frame (Spawn child)) i) (sym is) (Spawns node node' frame row child next)
   twins (Acts node frame Sync) other want here there =
       let (node', row, is) = told.was_sync serial other (subst (λ i. Answers serial other i) here there) in
@@ -52,7 +52,7 @@ module _ (run serial : Trace) where
 pub twins_of : (two : Two) (at place : ℕ) → Meets two at place → Twins (two.run.events at) (two.serial.events place)
 twins_of two at place match =
     twins two.run two.serial (two.run.events at) (two.serial.events place) (want_at two.starts two.serial place match.row) (matches.answers_there two at place match)
-        (two.serial_obeys.wants place match.row match.by_row)
+    (two.serial_obeys.wants place match.row match.by_row)
 
 -- ---- what one of two twins says of the other
 

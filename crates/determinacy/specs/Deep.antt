@@ -1,5 +1,5 @@
 -- Executions depth first: items are made by the top of one stack alone.
-use Rattle.std.specs.Prelude.{◌≡◌, ℕ, zero, suc, ℤ, Bool, true, false, cond, Option, Some, None, List, [], ◌∷◌}
+use Rattle.std.specs.Prelude.{◌≡◌, ℕ, zero, suc, Bool, true, false, cond, Option, Some, List, [], ◌∷◌}
 use Rattle.backer_order.specs.Log.{main_id, Spawn, Event, Acts}
 use Rattle.cilk_meaning.specs.Wants.{Want, Returns}
 use Rattle.determinacy.specs.Ending.{is_item}

@@ -1,5 +1,5 @@
 -- A location consistent run of a program whose serial execution has no race is that execution.
-use Rattle.std.specs.Prelude.{◌≡◌, ℕ, ◌<◌, ◌≤◌, ℤ, Option, Some, None}
+use Rattle.std.specs.Prelude.{◌≡◌, ℕ, ◌<◌, ◌≤◌, ℤ, Some, None}
 use Rattle.backer_order.specs.Dag.{Consistent}
 use Rattle.backer_order.specs.Log.{main_id, SharedMemory}
 use Rattle.backer_order.specs.Rules.{Caching}

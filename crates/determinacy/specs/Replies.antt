@@ -1,5 +1,5 @@
 -- An execution, on one node or many: its events, and what each frame runs. What it replies to the frames, and what they want behind that.
-use Rattle.std.specs.Prelude.{◌⊎◌, ◌≡◌, ◌≢◌, ℕ, zero, suc, ◌<◌, ℤ, pos, Bool, true, false, cond, Option, Some, None, List, [], ◌∷◌, ◌++◌}
+use Rattle.std.specs.Prelude.{◌⊎◌, ◌≡◌, ◌≢◌, ℕ, zero, suc, ◌<◌, ℤ, pos, Bool, true, false, cond, Option, Some, List, [], ◌∷◌, ◌++◌}
 use Rattle.backer_order.specs.Edges.{IsOn}
 use Rattle.backer_order.specs.Log.{main_id, Read, Write, Add, Print, Spawn, Sync, Event, Acts, Tick, Events}
 use Rattle.cilk_meaning.specs.Instance.{Meaning}
@@ -85,7 +85,7 @@ replies starts trace zero frame = []
 replies starts trace (suc now) frame =
     cond (by frame (trace.events now))
     (reply_to (trace.events now) (deposits (λ child. (trace.target child, value_in (want_of starts (trace.instance child) (replies starts trace now child)))) (children trace.events now frame))
-      ∷ replies starts trace now frame)
+    ∷ replies starts trace now frame)
     (replies starts trace now frame)
 
 -- the frame's instance as it is at `now`, and what it wants then
