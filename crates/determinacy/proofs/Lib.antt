@@ -19,8 +19,3 @@ pub mod Racing
 pub mod Finished
 pub mod Memory
 pub mod Determined
-pub mod Home
-pub mod Lasts
-pub mod Stacks
-pub mod Lockstep
-pub mod Alone

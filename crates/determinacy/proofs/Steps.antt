@@ -11,7 +11,6 @@ use Rattle.determinacy.proofs.Matches.{Two, Is, Alike, Meets}
 use Rattle.determinacy.proofs.Rows as rows
 use Rattle.determinacy.proofs.Rows.{by_acts, by_one, given, born_more}
 use Rattle.determinacy.proofs.Twins.{Twins, Reads, Writes, Adds, Prints, Spawns, Syncs, Ticks, twins_of, twin_spawn, twins_back}
-use Rattle.determinacy.specs.Deep.{pushed}
 use Rattle.determinacy.specs.Following.{Spawned, Pairs, Level, AllFollow}
 use Rattle.determinacy.specs.Replies.{Trace, OfAct, by, children_after, children, value_in, deposits, reply_to, want_of, replies, want_at, Obeys}
 use Rattle.page_messages.specs.declared.closure.FrameId.{FrameId}
@@ -107,11 +106,10 @@ module _ (two : Two) where
     | inl mains ↦ let born = child_born two.run at frame child on in absurd (two.run_obeys.not_main born.at born.node frame child born.is mains.0)
   ]
 
-  -- What both items tell, and how they change the block and a stack.
+  -- What both items tell, and how they change the block.
   pub record Agree (at place : ℕ) (frame row : FrameId) : Type 0 where
     pub reply : reply_to (two.run.events at) (given two.starts two.run at frame) ≡ reply_to (two.serial.events place) (given two.starts two.serial place row)
     pub block : Pairs (Is two) (children_after (two.run.events at) (children two.run.events at frame)) (children_after (two.serial.events place) (children two.serial.events place row))
-    pub stacks : (firsts seconds : List FrameId) → Pairs (Is two) firsts seconds → Pairs (Is two) (pushed (two.run.events at) firsts) (pushed (two.serial.events place) seconds)
 
   -- both obtain the same
   abbrev pub SameObtained : ℕ → ℕ → Type 0
@@ -126,15 +124,11 @@ module _ (two : Two) where
     abbrev IsBlock : Event → Event → Type 0
     IsBlock event other = Pairs (Is two) (children_after event (children two.run.events at frame)) (children_after other (children two.serial.events place row))
 
-    abbrev IsPush : Event → Event → Type 0
-    IsPush event other = (firsts seconds : List FrameId) → Pairs (Is two) firsts seconds → Pairs (Is two) (pushed event firsts) (pushed other seconds)
-
-    set : (event other : Event) → two.run.events at ≡ event → two.serial.events place ≡ other → IsReply event other → IsBlock event other → IsPush event other →
+    set : (event other : Event) → two.run.events at ≡ event → two.serial.events place ≡ other → IsReply event other → IsBlock event other →
         Agree at place frame row
-    set event other is is_there reply block stacks = record {
+    set event other is is_there reply block = record {
       reply = subst (λ i. IsReply i (two.serial.events place)) (sym is) (subst (λ i. IsReply event i) (sym is_there) reply);
       block = subst (λ i. IsBlock i (two.serial.events place)) (sym is) (subst (λ i. IsBlock event i) (sym is_there) block);
-      stacks = subst (λ i. IsPush i (two.serial.events place)) (sym is) (subst (λ i. IsPush event i) (sym is_there) stacks);
     }
 
     its_frame : (node : ℕ) (actor : FrameId) (act : Act) → two.run.events at ≡ Acts node actor act → actor ≡ frame
@@ -162,26 +156,25 @@ module _ (two : Two) where
         (child_value finish at place node other frame row follow here there child next on on_there its))
 
     agree_at : (event other : Event) → Twins event other → two.run.events at ≡ event → two.serial.events place ≡ other → Agree at place frame row
-    unfolding reply_to children_after pushed
+    unfolding reply_to children_after
     agree_at event other (Reads node there actor second word value next) is is_there =
         set (Acts node actor (Read word value)) (Acts there second (Read word next)) is is_there
         (ap (λ i. OfAct (Value i)) (obtained node there word value next (inl (record { frame = actor; is = is })) (inl (record { frame = second; is = is_there }))))
-        pairs (λ firsts seconds each. each)
+        pairs
     agree_at event other (Adds node there actor second word value next addend) is is_there =
         set (Acts node actor (Add word value addend)) (Acts there second (Add word next addend)) is is_there
         (ap (λ i. OfAct (Value i)) (obtained node there word value next (inr (record { frame = actor; addend = addend; is = is })) (inr (record { frame = second; addend = addend; is = is_there }))))
-        pairs (λ firsts seconds each. each)
+        pairs
     agree_at event other (Writes node there actor second word value) is is_there =
-        set (Acts node actor (Write word value)) (Acts there second (Write word value)) is is_there refl pairs (λ firsts seconds each. each)
+        set (Acts node actor (Write word value)) (Acts there second (Write word value)) is is_there refl pairs
     agree_at event other (Prints node there actor second value) is is_there =
-        set (Acts node actor (Print value)) (Acts there second (Print value)) is is_there refl pairs (λ firsts seconds each. each)
+        set (Acts node actor (Print value)) (Acts there second (Print value)) is is_there refl pairs
     agree_at event other (Spawns node there actor second child next) is is_there =
-        let its = kin node there actor second child next is is_there in
-        set (Acts node actor (Spawn child)) (Acts there second (Spawn next)) is is_there refl (its, pairs) (λ firsts seconds each. (its, each))
+        set (Acts node actor (Spawn child)) (Acts there second (Spawn next)) is is_there refl (kin node there actor second child next is is_there, pairs)
     agree_at event other (Syncs node there actor second) is is_there =
-        set (Acts node actor Sync) (Acts there second Sync) is is_there (ap (λ i. OfAct (Children i)) (synced node there actor second is is_there)) tt (λ firsts seconds each. each)
+        set (Acts node actor Sync) (Acts there second Sync) is is_there (ap (λ i. OfAct (Children i)) (synced node there actor second is is_there)) tt
     agree_at event other (Ticks node there actor second) is is_there =
-        set (Tick node actor) (Tick there second) is is_there refl pairs (λ firsts seconds each. each)
+        set (Tick node actor) (Tick there second) is is_there refl pairs
 
     pub agree : Agree at place frame row
     agree = agree_at (two.run.events at) (two.serial.events place)

@@ -6,10 +6,11 @@ use Rattle.cilk_meaning.specs.Wants.{Returns}
 use Rattle.determinacy.proofs.Completed.{complete}
 use Rattle.determinacy.proofs.Items.{actor, item_is}
 use Rattle.determinacy.proofs.Rows.{when_true, when_false, either_bool, born_more, SpawnedAt, not_by}
-use Rattle.determinacy.specs.Deep.{pop, pushed, is_return, returned, stack, live, IsTop}
+use Rattle.one_node.specs.Deep.{pop, pushed, is_return, returned, stack, live, IsTop}
+use Rattle.determinacy.proofs.Twins.{Twins, Reads, Writes, Adds, Prints, Spawns, Syncs, Ticks}
 use Rattle.determinacy.specs.Ending.{is_item}
 use Rattle.determinacy.specs.Following.{Pairs}
-use Rattle.determinacy.specs.Replies.{Trace, by, want_at, Born, Obeys}
+use Rattle.determinacy.specs.Replies.{Trace, by, children_after, want_at, Born, Obeys}
 use Rattle.page_messages.specs.declared.closure.FrameId.{FrameId}
 use Rattle.span_tree.specs.Program.{Starts}
 
@@ -56,6 +57,18 @@ module _ (Related : FrameId → FrameId → Type 0) where
 
   pub none_top : (firsts seconds : List FrameId) (row : FrameId) (rows : List FrameId) → Pairs Related firsts seconds → firsts ≡ [] → seconds ≡ row ∷ rows → ⊥
   none_top firsts seconds row rows pairs none is = subst (λ i. Pairs Related [] i) is (subst (λ i. Pairs Related i seconds) none pairs)
+
+  -- twins change related stacks as they change related blocks
+  pub pushes : (event other : Event) → Twins event other → (block next_block : List FrameId) → Pairs Related (children_after event block) (children_after other next_block) →
+      (firsts seconds : List FrameId) → Pairs Related firsts seconds → Pairs Related (pushed event firsts) (pushed other seconds)
+  unfolding children_after pushed
+  pushes event other (Reads node there frame row word value next) block next_block after firsts seconds pairs = pairs
+  pushes event other (Writes node there frame row word value) block next_block after firsts seconds pairs = pairs
+  pushes event other (Adds node there frame row word value next addend) block next_block after firsts seconds pairs = pairs
+  pushes event other (Prints node there frame row value) block next_block after firsts seconds pairs = pairs
+  pushes event other (Spawns node there frame row child next) block next_block after firsts seconds pairs = (after.0, pairs)
+  pushes event other (Syncs node there frame row) block next_block after firsts seconds pairs = pairs
+  pushes event other (Ticks node there frame row) block next_block after firsts seconds pairs = pairs
 
 -- ---- the stack of an execution
 

@@ -4,17 +4,18 @@ use Rattle.backer_order.specs.Log.{main_id, Spawn, Acts, SharedMemory}
 use Rattle.backer_order.specs.Moments.{Leaves}
 use Rattle.determinacy.proofs.Following as following
 use Rattle.determinacy.proofs.Items.{actor, item_is}
-use Rattle.determinacy.proofs.Lasts.{last_one, last_more, last_new, last_split}
+use Rattle.one_node.proofs.Lasts.{last_one, last_more, last_new, last_split}
 use Rattle.determinacy.proofs.Leaving.{LeftBy, left_actor, left_across, flip_match}
 use Rattle.determinacy.proofs.Matches as matches
 use Rattle.determinacy.proofs.Matches.{Two, exchanged, Is, Alike, Meets}
 use Rattle.determinacy.proofs.Meeting.{Meet, meet_spawn}
 use Rattle.determinacy.proofs.Rows as rows
 use Rattle.determinacy.proofs.Rows.{by_acts, by_one, either_bool, not_by, born_more, SpawnedAt, born_split}
-use Rattle.determinacy.proofs.Stacks.{pops, tops_pair, no_item, stack_first, stack_item, stack_other, on_stack}
+use Rattle.one_node.proofs.Stacks.{pops, pushes, tops_pair, no_item, stack_first, stack_item, stack_other, on_stack}
 use Rattle.determinacy.proofs.Steps as steps
 use Rattle.determinacy.proofs.Steps.{Agree, SameObtained}
-use Rattle.determinacy.specs.Deep.{pushed, is_return, returned, stack, live, Deep}
+use Rattle.one_node.specs.Deep.{pushed, is_return, returned, stack, live, Deep}
+use Rattle.determinacy.proofs.Twins.{twins_of}
 use Rattle.determinacy.specs.Ending.{is_item, ItsFrame}
 use Rattle.determinacy.specs.Following.{Mains, Pairs, Level, AllFollow}
 use Rattle.determinacy.specs.Replies.{by, children, replies, want_at, Born}
@@ -207,7 +208,8 @@ module _ (two : Two) (memory : SharedMemory) where
     its_stacks =
         subst (λ i. Pairs (Is two) i (stack two.starts two.serial (suc place))) (sym (stack_item two.starts two.run now (item_is its.frame (two.run.events now) its.by_frame)))
         (subst (λ i. Pairs (Is two) (pushed (two.run.events now) (live two.starts two.run now)) i) (sym (stack_item two.starts two.serial place (item_is its.row (two.serial.events place) its.by_row)))
-        (agree.stacks (live two.starts two.run now) (live two.starts two.serial place) (lives now place lock)))
+        (pushes (Is two) (two.run.events now) (two.serial.events place) (twins_of two now place match) (children two.run.events now its.frame)
+            (children two.serial.events place its.row) agree.block (live two.starts two.run now) (live two.starts two.serial place) (lives now place lock)))
 
     pub item : Lock (suc now) (suc place)
     item = record { level = its_level; frames = its_frames; stacks = its_stacks; word = its_word }

@@ -6,7 +6,7 @@ use Rattle.backer_order.specs.Rules.{Caching}
 use Rattle.cilk_meaning.specs.declared.ends.NodeEnd.{NodeEnd}
 use Rattle.cilk_meaning.specs.declared.ends.NodeEnd.TheVariants.{Finished, Trapped, Budget}
 use Rattle.cilk_meaning.specs.Wants.{Request, Asks, Returns, Traps}
-use Rattle.determinacy.specs.Deep.{IsTop, Deep}
+use Rattle.one_node.specs.Deep.{IsTop, Deep}
 use Rattle.determinacy.specs.Ending.{is_item, all_ticks, OneHistory, MemoryOf}
 use Rattle.determinacy.specs.Replies.{Trace, by, want_at, Obeys}
 use Rattle.determinacy.specs.Serial.{LastOf, SerialReads}

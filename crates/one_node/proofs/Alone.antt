@@ -7,18 +7,18 @@ use Rattle.cilk_meaning.specs.declared.ends.NodeEnd.TheVariants.{Finished, Trapp
 use Rattle.cilk_meaning.specs.declared.ends.TrapKind.{TrapKind}
 use Rattle.cilk_meaning.specs.Wants.{Request, Asks, Returns, Traps}
 use Rattle.determinacy.proofs.Counting.{count_yes, count_no, count_zero}
-use Rattle.determinacy.proofs.Home as home
+use Rattle.one_node.proofs.Home as home
 use Rattle.determinacy.proofs.Items.{actor}
-use Rattle.determinacy.proofs.Lasts.{last_one}
-use Rattle.determinacy.proofs.Lockstep as lockstep
-use Rattle.determinacy.proofs.Lockstep.{Lock}
+use Rattle.one_node.proofs.Lasts.{last_one}
+use Rattle.one_node.proofs.Lockstep as lockstep
+use Rattle.one_node.proofs.Lockstep.{Lock}
 use Rattle.determinacy.proofs.Matches as matches
 use Rattle.determinacy.proofs.Matches.{Two, Is}
 use Rattle.determinacy.proofs.Rows.{either_bool}
-use Rattle.determinacy.proofs.Stacks.{tops_pair, top_none, none_top, on_live, nothing_live}
+use Rattle.one_node.proofs.Stacks.{tops_pair, top_none, none_top, on_live, nothing_live}
 use Rattle.determinacy.proofs.Told as told
-use Rattle.determinacy.specs.Alone.{Within, EndsAs, OneNode, Elision, AloneSerial}
-use Rattle.determinacy.specs.Deep.{live, IsTop, Deep}
+use Rattle.one_node.specs.Alone.{Within, EndsAs, OneNode, Elision, AloneSerial}
+use Rattle.one_node.specs.Deep.{live, IsTop, Deep}
 use Rattle.determinacy.specs.Ending.{is_item, all_ticks, ItsRow, OneHistory}
 use Rattle.determinacy.specs.Replies.{Trace, by, want_at, Answers, Born}
 use Rattle.determinacy.specs.Serial.{SerialReads}
