@@ -26,10 +26,17 @@ spawn_here : (trace : Trace) (now node : ℕ) (frame actor child next : FrameId)
     by frame (trace.events now) ≡ true → next ≡ child → ItsSpawn trace (suc now) frame child
 spawn_here trace now node frame actor child next is acts same =
     let actors = by_one actor frame (trace.events now) (by_acts node actor (Spawn next) (trace.events now) is) acts in
-    record { at = now; node = node; before = omega arith; is = subst (λ i. trace.events now ≡ Acts node i (Spawn child)) actors (subst (λ i. trace.events now ≡ Acts node actor (Spawn i)) same is) }
+    record {
+      at = now;
+      node = node;
+      before = omega arith;
+      is = subst (λ i. trace.events now ≡ Acts node i (Spawn child)) actors
+          (subst (λ i. trace.events now ≡ Acts node actor (Spawn i)) same is);
+    }
 
 child_at : (trace : Trace) (now : ℕ) (frame child : FrameId) (event : Event) → trace.events now ≡ event → by frame (trace.events now) ≡ true →
-    (IsOn child (children trace.events now frame) → ItsSpawn trace (suc now) frame child) → IsOn child (children_after event (children trace.events now frame)) →
+    (IsOn child (children trace.events now frame) → ItsSpawn trace (suc now) frame child) →
+    IsOn child (children_after event (children trace.events now frame)) →
     ItsSpawn trace (suc now) frame child
 unfolding children_after
 child_at trace now frame child (Acts node actor (Spawn next)) is acts old (inl same) = spawn_here trace now node frame actor child next is acts same
@@ -95,7 +102,8 @@ child_stays trace frame child at node zero is before none = absurd (omega arith)
 child_stays trace frame child at node (suc now) is before none = elim (compare at now) [
   | More3 l ↦ absurd (omega arith)
   | Same3 same ↦
-      let here = subst (λ i. IsOn child (children_after i (children trace.events at frame))) (sym is) (child_new child node frame (children trace.events at frame)) in
+      let here = subst (λ i. IsOn child (children_after i (children trace.events at frame))) (sym is)
+      (child_new child node frame (children trace.events at frame)) in
       subst (λ i. IsOn child (children trace.events (suc i) frame)) same
       (subst (λ i. IsOn child i) (sym (block_grew trace at frame (by_acts node frame (Spawn child) (trace.events at) is))) here)
   | Less3 l ↦

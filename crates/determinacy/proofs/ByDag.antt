@@ -67,14 +67,16 @@ module _ (events : Events) (memory : SharedMemory) (caching : Caching events mem
           (obtains_access events node word access value obtains) (no_race.reads other next earlier leaves)
 
       -- one that leaves a value precedes the last one in the home order
-      precedes_last : (found : LastIn events memory (suc access) word node access value) → (other next : ℕ) → next < access → IsLeaving events memory other word next →
+      precedes_last : (found : LastIn events memory (suc access) word node access value) → (other next : ℕ) → next < access →
+          IsLeaving events memory other word next →
           (next ≡ found.at) ⊎ Precedes events next (found.at)
       precedes_last found other next earlier leaves = elim (same_or_not next found.at) [
         | inl same ↦ inl same
         | inr differs ↦ elim (no_race.writes other next found.node found.at earlier found.earlier differs leaves (value, found.leaves)) [
           | inl precedes ↦ inr precedes
           | inr follows ↦
-              let after = (consistent (suc access)).dag found.node other word found.at next (omega arith) (last.leaving_access events memory caching found.node word found.at (value, found.leaves))
+              let after = (consistent (suc access)).dag found.node other word found.at next (omega arith)
+              (last.leaving_access events memory caching found.node word found.at (value, found.leaves))
               (last.leaving_access events memory caching other word next leaves) follows in
               elim (found.last other next (omega arith) leaves (before other next earlier leaves)) [
                 | inl same ↦ inl same
@@ -85,7 +87,11 @@ module _ (events : Events) (memory : SharedMemory) (caching : Caching events mem
 
       read_by_dag : LastInDag events memory word access value ⊎ NoneInDag events memory word access value
       read_by_dag = elim ((consistent (suc access)).reads word node access value (omega arith) obtains) [
-        | inr none ↦ inr (record { start = none.start; none = λ other next earlier leaves. none.none other next (omega arith) leaves (before other next earlier leaves) })
+        | inr none ↦ inr (record {
+          start = none.start;
+          none = λ other next earlier leaves. none.none other next (omega arith) leaves
+              (before other next earlier leaves);
+        })
         | inl found ↦ inl (record { node = found.node; at = found.at; earlier = found.earlier; leaves = found.leaves; last = precedes_last found })
       ]
 

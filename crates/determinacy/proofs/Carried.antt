@@ -40,10 +40,11 @@ ended starts main trace obeys frame child from node now is first =
 -- a child of a frame that has returned has returned before
 pub child_ended : (starts : Starts) (main : ℕ) (trace : Trace) → Obeys starts main trace → (frame child : FrameId) (from node now : ℕ) (value : ℤ) →
     trace.events from ≡ Acts node frame (Spawn child) → from < now → want_at starts trace now frame ≡ Some (Returns value) → Ended starts trace from now child
-child_ended starts main trace obeys frame child from node now value is before returns = elim (find_first (SyncOf trace frame) (decide_sync trace frame) from now) [
-  | inr none ↦ absurd (obeys.no_children now frame child value returns (child_stays trace frame child from node now is before none))
-  | inl first ↦ ended starts main trace obeys frame child from node now is first
-]
+child_ended starts main trace obeys frame child from node now value is before returns =
+    elim (find_first (SyncOf trace frame) (decide_sync trace frame) from now) [
+      | inr none ↦ absurd (obeys.no_children now frame child value returns (child_stays trace frame child from node now is before none))
+      | inl first ↦ ended starts main trace obeys frame child from node now is first
+    ]
 
 -- the same where the frame syncs later
 pub synced_ended : (starts : Starts) (main : ℕ) (trace : Trace) → Obeys starts main trace → (frame child : FrameId) (from node sync other : ℕ) →
@@ -106,7 +107,8 @@ module _ (two : Two) where
     done_act frame row place now value acts inside same returns born =
         let its = follow now inside frame born in
         let rows_same = matches.one_row two frame its.level.row row its.level.same same in
-        let there = subst (λ i. want_at two.starts two.serial its.place i ≡ Some (Returns value)) rows_same (steps.level_returns two now its.place frame value returns its.level) in
+        let there = subst (λ i. want_at two.starts two.serial its.place i ≡ Some (Returns value)) rows_same
+        (steps.level_returns two now its.place frame value returns its.level) in
         let alike : Alike two now frame (its.place) row = its.level.alike ∙ ap (λ i. replies two.starts two.serial its.place i) rows_same in
         elim (compare place its.place) [
           | Less3 l ↦ back two frame row now its.place place same alike l acts
@@ -122,7 +124,8 @@ module _ (two : Two) where
       pub under : Under two.run.events at frame own
 
     -- what stands below a row whose frame has returned was done below that frame
-    pub inside : (act : ℕ) (row : FrameId) (place : ℕ) → Under two.serial.events act row place → (frame : FrameId) (now : ℕ) (value : ℤ) → now ≤ end → Is two frame row →
+    pub inside : (act : ℕ) (row : FrameId) (place : ℕ) → Under two.serial.events act row place → (frame : FrameId) (now : ℕ) (value : ℤ) →
+        now ≤ end → Is two frame row →
         want_at two.starts two.run now frame ≡ Some (Returns value) → Born two.run.events now frame → Inside now frame act
     inside act row place (At is same) frame now value within its returns born =
         let done = done_act frame row place now value (by_act two.serial row place is) within its returns born in
@@ -139,7 +142,13 @@ module _ (two : Two) where
         let end' = child_ended two.starts two.main two.run two.run_obeys frame twin.child done.at twin.node now value twin.is done.before returns in
         let below = inside act child next under twin.child end'.at end'.value (omega (arith, end'.before)) twin.same end'.returns
         (inr (record { at = done.at; node = twin.node; parent = frame; before = end'.after; is = twin.is })) in
-        record { at = below.at; own = done.at; before = omega (arith, below.before, end'.before); match = below.match; under = Below twin.node twin.child below.own twin.is below.under }
+        record {
+          at = below.at;
+          own = done.at;
+          before = omega (arith, below.before, end'.before);
+          match = below.match;
+          under = Below twin.node twin.child below.own twin.is below.under;
+        }
 
     -- what precedes a match there was done here, and precedes here
     pub record Earlier (act at : ℕ) : Type 0 where
@@ -160,7 +169,8 @@ module _ (two : Two) where
       its_act = act_of_under two.serial.events act dag.frame dag.act dag.first
 
       first_back : Back two (top.frame) (dag.frame) (top.act) (dag.act)
-      first_back = back two top.frame dag.frame top.act dag.later_act dag.act top.meet.same top.meet.alike dag.order (by_act two.serial dag.frame dag.act its_act)
+      first_back = back two top.frame dag.frame top.act dag.later_act dag.act top.meet.same top.meet.alike dag.order
+          (by_act two.serial dag.frame dag.act its_act)
 
       own_earlier : act ≡ dag.act → Earlier act at
       own_earlier same =
@@ -183,16 +193,25 @@ module _ (two : Two) where
       synced : SyncAt two.serial.events (dag.frame) (dag.act) (dag.later_act) → Synced (top.frame) ((first_back).at) (top.act)
       synced sync = elim (compare sync.at dag.later_act) [
         | Less3 l ↦
-            let done = back two top.frame dag.frame top.act dag.later_act sync.at top.meet.same top.meet.alike l (by_acts sync.node dag.frame Sync (two.serial.events sync.at) sync.is) in
+            let done = back two top.frame dag.frame top.act dag.later_act sync.at top.meet.same top.meet.alike l
+            (by_acts sync.node dag.frame Sync (two.serial.events sync.at) sync.is) in
             let here = meet_sync two top.frame dag.frame done.at sync.at sync.node done.meet sync.is in
-            record { at = done.at; node = here.0; after = in_order two top.frame dag.frame first_back.at dag.act done.at sync.at first_back.meet done.meet sync.after; before = omega (arith, done.before); is = here.1 }
+            record {
+              at = done.at;
+              node = here.0;
+              after = in_order two top.frame dag.frame first_back.at dag.act done.at sync.at first_back.meet done.meet sync.after;
+              before = omega (arith, done.before);
+              is = here.1;
+            }
         | Same3 same ↦
-            let here = meet_sync two top.frame dag.frame top.act dag.later_act sync.node top.meet (subst (λ i. two.serial.events i ≡ Acts sync.node dag.frame Sync) same sync.is) in
+            let here = meet_sync two top.frame dag.frame top.act dag.later_act sync.node top.meet
+            (subst (λ i. two.serial.events i ≡ Acts sync.node dag.frame Sync) same sync.is) in
             record { at = top.act; node = here.0; after = first_back.before; before = omega arith; is = here.1 }
         | More3 l ↦ absurd (omega (arith, sync.before))
       ]
 
-      below_earlier : (other : ℕ) (child : FrameId) (next : ℕ) → two.serial.events (dag.act) ≡ Acts other dag.frame (Spawn child) → Under two.serial.events act child next →
+      below_earlier : (other : ℕ) (child : FrameId) (next : ℕ) → two.serial.events (dag.act) ≡ Acts other dag.frame (Spawn child) →
+          Under two.serial.events act child next →
           Synced (top.frame) ((first_back).at) (top.act) → Earlier act at
       below_earlier other child next is under sync =
           let done = first_back in
@@ -215,7 +234,8 @@ module _ (two : Two) where
             });
           }
 
-      across_from : Under two.serial.events act (dag.frame) (dag.act) → (act ≡ dag.act) ⊎ SyncAt two.serial.events (dag.frame) (dag.act) (dag.later_act) → Earlier act at
+      across_from : Under two.serial.events act (dag.frame) (dag.act) → (act ≡ dag.act) ⊎
+          SyncAt two.serial.events (dag.frame) (dag.act) (dag.later_act) → Earlier act at
       across_from under (inl same) = own_earlier same
       across_from (At is same) (inr sync) = own_earlier same
       across_from (Below other child next is under) (inr sync) = below_earlier other child next is under (synced sync)
@@ -223,7 +243,8 @@ module _ (two : Two) where
       pub across : Earlier act at
       across = across_from dag.first dag.serial
 
-    into_child : (act later at : ℕ) (dag : IntoChild two.serial.events act later) → (top : Raised at (dag.child) (dag.act)) → Origin two (top.frame) (dag.child) → Earlier act at
+    into_child : (act later at : ℕ) (dag : IntoChild two.serial.events act later) → (top : Raised at (dag.child) (dag.act)) →
+        Origin two (top.frame) (dag.child) → Earlier act at
     into_child act later at dag top from =
         let places = two.serial_obeys.fresh from.place act from.other dag.node from.above dag.frame dag.child from.is_there dag.is in
         let after = rows.born_before two.starts two.main two.run two.run_obeys from.at from.node from.parent top.frame top.act from.is top.meet.by_frame in

@@ -32,13 +32,22 @@ module _ (starts : Starts) (main : ℕ) (trace : Trace) (obeys : Obeys starts ma
 
   all_returned : (now : ℕ) (frame : FrameId) → Born trace.events now frame → Returned frame
   all_returned now frame (inl of_main) =
-      record { at = finish; before = omega arith; value = result; returns = subst (λ i. want_at starts trace finish i ≡ Some (Returns result)) (sym of_main) finished }
+      record {
+        at = finish;
+        before = omega arith;
+        value = result;
+        returns = subst (λ i. want_at starts trace finish i ≡ Some (Returns result)) (sym of_main) finished;
+      }
   all_returned zero frame (inr born) = absurd (omega (arith, born.before))
   all_returned (suc now) frame (inr born) =
       child_returned frame (suc now) born (all_returned now born.parent
-      (born_more trace born.at now born.parent (omega (arith, born.before)) (obeys.born born.at born.parent (by_acts born.node born.parent (Spawn frame) (trace.events born.at) born.is))))
+      (born_more trace born.at now born.parent (omega (arith, born.before))
+      (obeys.born born.at born.parent (by_acts born.node born.parent (Spawn frame) (trace.events born.at) born.is))))
 
   pub complete : Complete starts trace finish
   complete frame born =
-      let returned = all_returned finish frame born in
-      (returned.value, ap (λ i. want_of starts (trace.instance frame) i) (rows.settled starts main trace obeys frame returned.at returned.value returned.returns finish returned.before).told ∙ returned.returns)
+      let returned = all_returned finish frame born in (
+        returned.value,
+        ap (λ i. want_of starts (trace.instance frame) i)
+            (rows.settled starts main trace obeys frame returned.at returned.value returned.returns finish returned.before).told ∙ returned.returns,
+      )

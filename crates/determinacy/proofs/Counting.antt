@@ -114,7 +114,11 @@ pub fewer : (number : ℕ) (holds others : ℕ → Bool) (end : ℕ) → (map : 
     ((at : ℕ) → (within : at < number) → (is : holds at ≡ true) → (map.to at within is).at ≡ left.at → ⊥) → count holds number < count others end
 fewer number holds others end map left other =
     let before = at_most number holds (without left.at others) end (record {
-      to = λ at within is. let found = map.to at within is in record { at = found.at; inside = found.inside; is = without_other left.at found.at others (other at within is) ∙ found.is };
+      to = λ at within is. let found = map.to at within is in record {
+        at = found.at;
+        inside = found.inside;
+        is = without_other left.at found.at others (other at within is) ∙ found.is;
+      };
       one = map.one;
     }) in
     let less = one_less left.at others end left.inside left.is in

@@ -12,7 +12,8 @@ use Rattle.determinacy.specs.Replies.{Trace}
 use Rattle.determinacy.specs.Serial.{Serially}
 use Rattle.span_tree.specs.Program.{Starts}
 
-abbrev setting_of : (starts : Starts) (main : ℕ) (run serial : Trace) (memory : SharedMemory) (finish : ℕ) → Runs starts main run memory → Serially starts main serial memory finish → Setting
+abbrev setting_of : (starts : Starts) (main : ℕ) (run serial : Trace) (memory : SharedMemory) (finish : ℕ) → Runs starts main run memory →
+    Serially starts main serial memory finish → Setting
 setting_of starts main run serial memory finish runs serially = record {
   two = record { starts = starts; main = main; run = run; serial = serial; run_obeys = runs.obeys; serial_obeys = serially.obeys };
   memory = memory;

@@ -31,9 +31,11 @@ module _ (setting : Setting) (now : ℕ) (result : ℤ) (finished : want_at sett
     returns : want_at setting.two.starts setting.two.run at frame ≡ Some (Returns value)
 
   -- so each item of the row was done
-  item_done : (row : FrameId) (place : ℕ) → (whole : Whole row) → by row (setting.two.serial.events place) ≡ true → Back setting.two (whole.frame) row (whole.at) place
+  item_done : (row : FrameId) (place : ℕ) → (whole : Whole row) → by row (setting.two.serial.events place) ≡ true →
+      Back setting.two (whole.frame) row (whole.at) place
   item_done row place whole acts =
-      carried.done_act setting.two setting.finish now (induction.follows setting now) whole.frame row place whole.at whole.value acts whole.inside whole.same whole.returns whole.born
+      carried.done_act setting.two setting.finish now
+      (induction.follows setting now) whole.frame row place whole.at whole.value acts whole.inside whole.same whole.returns whole.born
 
   child_whole : (row : FrameId) (bound : ℕ) → (born : SpawnedBefore setting.two.serial.events bound row) → Whole (born.parent) → Whole row
   child_whole row bound born parent =
@@ -82,7 +84,11 @@ module _ (setting : Setting) (now : ℕ) (result : ℤ) (finished : want_at sett
 
   ticks_at_least : all_ticks setting.two.serial.events (setting.finish) ≤ all_ticks setting.two.run.events now
   ticks_at_least = at_most setting.finish (λ i. is_item (setting.two.serial.events i)) (λ i. is_item (setting.two.run.events i)) now (record {
-    to = λ place within is. let done = done_at place is in record { at = done.at; inside = done.before; is = item_is done.match.frame (setting.two.run.events done.at) done.match.by_frame };
+    to = λ place within is. let done = done_at place is in record {
+      at = done.at;
+      inside = done.before;
+      is = item_is done.match.frame (setting.two.run.events done.at) done.match.by_frame;
+    };
     one = λ place next within within_next is is_next same.
         let done = done_at place is in
         let again = done_at next is_next in
@@ -95,9 +101,11 @@ module _ (setting : Setting) (now : ℕ) (result : ℤ) (finished : want_at sett
       let row = its.level.row in
       let its_whole = whole its.place row its.level.born in
       let frames = matches.one_frame setting.two its_whole.frame frame row its_whole.same its.level.same in
-      let returns : want_at setting.two.starts setting.two.run (its_whole.at) frame ≡ Some (Returns its_whole.value) = subst (λ i. want_at setting.two.starts setting.two.run its_whole.at i ≡ Some (Returns its_whole.value)) frames its_whole.returns in
+      let returns : want_at setting.two.starts setting.two.run (its_whole.at) frame ≡ Some (Returns its_whole.value) =
+      subst (λ i. want_at setting.two.starts setting.two.run its_whole.at i ≡ Some (Returns its_whole.value)) frames its_whole.returns in
       let still = (rows.settled setting.two.starts setting.two.main setting.two.run setting.two.run_obeys frame its_whole.at its_whole.value returns now its_whole.inside).told in
-      let returns_now : want_at setting.two.starts setting.two.run now frame ≡ Some (Returns its_whole.value) = ap (λ i. want_of setting.two.starts (setting.two.run.instance frame) i) still ∙ returns in
+      let returns_now : want_at setting.two.starts setting.two.run now frame ≡ Some (Returns its_whole.value) =
+      ap (λ i. want_of setting.two.starts (setting.two.run.instance frame) i) still ∙ returns in
       let there = steps.level_returns setting.two now its.place frame its_whole.value returns_now its.level in
       let settled = (rows.settled setting.two.starts setting.two.main setting.two.serial setting.two.serial_obeys row its.place its_whole.value there setting.finish its.inside).told in
       record {

@@ -25,7 +25,8 @@ module _ (two : Two) where
     same = subst (λ i. Is two i main_id) (sym of_main) Mains;
     born = inl refl;
     alike = none_told two.starts two.run frame ∙ sym (none_told two.starts two.serial main_id);
-    block = pairs_empty (Is two) (children two.run.events 0 frame) (children two.serial.events 0 main_id) (no_children_first two.run frame) (no_children_first two.serial main_id);
+    block = pairs_empty (Is two) (children two.run.events 0 frame) (children two.serial.events 0 main_id) (no_children_first two.run frame)
+        (no_children_first two.serial main_id);
   }
 
   -- a frame and a row that were level, and have agreeing items
@@ -39,7 +40,8 @@ module _ (two : Two) where
         cons_same _ _ (replies two.starts two.run at frame) (replies two.starts two.serial place row) agree.reply alike ∙
         sym (rows.grew two.starts two.serial place row by_row);
     block = subst (λ i. Pairs (Is two) i (children two.serial.events (suc place) row)) (sym (rows.block_grew two.run at frame by_frame))
-        (subst (λ i. Pairs (Is two) (children_after (two.run.events at) (children two.run.events at frame)) i) (sym (rows.block_grew two.serial place row by_row)) agree.block);
+        (subst (λ i. Pairs (Is two) (children_after (two.run.events at) (children two.run.events at frame)) i)
+        (sym (rows.block_grew two.serial place row by_row)) agree.block);
   }
 
   -- a frame that makes no item stays level
@@ -76,16 +78,19 @@ module _ (two : Two) where
         let level = follows.level in
         let still = rows.unchanged two.starts two.serial level.row follows.place finish follows.inside quiet in
         let (value, returns) = all level.row (born_more two.serial follows.place finish level.row follows.inside level.born) in
-        is_open value (matches.want_same two frame level.row at finish (matches.same_instance two frame level.row level.same) (level.alike ∙ sym still.told) ∙ returns)
+        is_open value (matches.want_same two frame level.row at finish (matches.same_instance two frame level.row level.same)
+        (level.alike ∙ sym still.told) ∙ returns)
 
     -- a frame that has not returned wants what its row answers next
-    pub next_item : (at : ℕ) (frame : FrameId) → Follows two.starts two.run two.serial finish at frame → IsOpen two.starts two.run at frame → Found two finish at frame
+    pub next_item : (at : ℕ) (frame : FrameId) → Follows two.starts two.run two.serial finish at frame → IsOpen two.starts two.run at frame →
+        Found two finish at frame
     next_item at frame follows is_open = elim (rows.first_item two.serial follows.level.row follows.place finish follows.inside) [
       | inl item ↦ found_item at frame follows item
       | inr quiet ↦ absurd (none_left at frame follows is_open quiet)
     ]
 
-    pub find : (at : ℕ) (frame : FrameId) → Follows two.starts two.run two.serial finish at frame → by frame (two.run.events at) ≡ true → Found two finish at frame
+    pub find : (at : ℕ) (frame : FrameId) → Follows two.starts two.run two.serial finish at frame → by frame (two.run.events at) ≡ true →
+        Found two finish at frame
     find at frame follows acts =
         next_item at frame follows (λ value returns. answers_no_return two.run (two.run.events at) value
         (subst (λ i. Answers two.run (two.run.events at) i) returns (two.run_obeys.wants at frame acts)))
@@ -99,7 +104,11 @@ module _ (two : Two) where
         let found = find at frame (follow frame (two.run_obeys.born at frame acts)) acts in
         let agree = steps.agree two finish at found.place frame found.row follow found.same acts found.by_row found.alike found.block
         (obtained found.place found.inside (found_match two finish at frame acts found)) in
-        record { place = suc found.place; inside = found.inside; level = level_item at found.place frame found.row found.same acts found.by_row found.alike agree }
+        record {
+          place = suc found.place;
+          inside = found.inside;
+          level = level_item at found.place frame found.row found.same acts found.by_row found.alike agree;
+        }
 
     birth_step : (at : ℕ) (child : FrameId) → AllFollow two.starts two.run two.serial finish at → SpawnedAt two.run at child →
         Follows two.starts two.run two.serial finish (suc at) child

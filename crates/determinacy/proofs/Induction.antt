@@ -39,7 +39,8 @@ module _ (setting : Setting) where
 
   step : (now : ℕ) → ((before : ℕ) → before ≤ now → Follow before) → Follow (suc now)
   step now follow =
-      following.step setting.two setting.finish setting.all now (follow now (omega arith)) (λ place inside match node other word here there obtains obtains_there.
+      following.step setting.two setting.finish setting.all now (follow now (omega arith))
+      (λ place inside match node other word here there obtains obtains_there.
       reading.agrees setting.two setting.memory setting.finish now setting.all follow setting.free node other word place here there obtains obtains_there inside match setting.by_dag
       (setting.serial_reads other word place there obtains_there))
 
@@ -61,7 +62,8 @@ module _ (setting : Setting) where
   open_item now frame born is_open = following.next_item setting.two setting.finish setting.all now frame (follows_now now frame born) is_open
 
   -- what a frame that has not returned wants is a request
-  open_wants : (now : ℕ) (frame : FrameId) → Born setting.two.run.events now frame → IsOpen setting.two.starts setting.two.run now frame → (want : Option Want) →
+  open_wants : (now : ℕ) (frame : FrameId) → Born setting.two.run.events now frame → IsOpen setting.two.starts setting.two.run now frame →
+      (want : Option Want) →
       want_at setting.two.starts setting.two.run now frame ≡ want → (place : ℕ) × Answers setting.two.serial (setting.two.serial.events place) want
   open_wants now frame born is_open want is =
       let found = open_item now frame born is_open in
@@ -85,7 +87,8 @@ module _ (setting : Setting) where
 
   pub not_stuck : (now : ℕ) (frame : FrameId) → Born setting.two.run.events now frame → want_at setting.two.starts setting.two.run now frame ≡ None → ⊥
   not_stuck now frame born none =
-      let (place, answers) = open_wants now frame born (λ value returns. no_return_none value (want_at setting.two.starts setting.two.run now frame) none returns) None none in
+      let (place, answers) = open_wants now frame born (λ value returns. no_return_none value
+      (want_at setting.two.starts setting.two.run now frame) none returns) None none in
       told.not_none setting.two.serial (setting.two.serial.events place) answers
 
   -- ---- ticks
@@ -125,8 +128,10 @@ module _ (setting : Setting) where
       let rows_same = by_one match.row found.row (setting.two.serial.events found.place) match.by_row found.by_row in
       let frames = matches.one_frame setting.two match.frame frame found.row (subst (λ i. Is setting.two match.frame i) rows_same match.same) found.same in
       let alike : replies setting.two.starts setting.two.run at frame ≡ replies setting.two.starts setting.two.run now frame =
-      ap (λ i. replies setting.two.starts setting.two.run at i) (sym frames) ∙ match.alike ∙ ap (λ i. replies setting.two.starts setting.two.serial found.place i) rows_same ∙ sym found.alike in
-      let more = rows.grows_more setting.two.starts setting.two.run frame at now (subst (λ i. by i (setting.two.run.events at) ≡ true) frames match.by_frame) before in
+      ap (λ i. replies setting.two.starts setting.two.run at i) (sym frames) ∙ match.alike ∙
+      ap (λ i. replies setting.two.starts setting.two.serial found.place i) rows_same ∙ sym found.alike in
+      let more = rows.grows_more setting.two.starts setting.two.run frame at now
+      (subst (λ i. by i (setting.two.run.events at) ≡ true) frames match.by_frame) before in
       let lengths = ap length alike in
       omega arith
 

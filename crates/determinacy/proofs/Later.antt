@@ -17,7 +17,8 @@ module _ (starts : Starts) (main : ℕ) (trace : Trace) (obeys : Obeys starts ma
   pub under_after : (act : ℕ) (frame : FrameId) (at : ℕ) → Under trace.events act frame at → at ≤ act
   under_after act frame at (At is same) = omega (arith, same)
   under_after act frame at (Below node child next is under) =
-      let born = rows.born_before starts main trace obeys at node frame child next is (by_act trace child next (act_of_under trace.events act child next under)) in
+      let born = rows.born_before starts main trace obeys at node frame child next is
+      (by_act trace child next (act_of_under trace.events act child next under)) in
       let after = under_after act child next under in
       omega arith
 

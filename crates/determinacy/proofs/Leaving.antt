@@ -29,7 +29,8 @@ module _ (events : Events) (memory : SharedMemory) where
   same_left node other word at value next (OfAdd frame old addend is sum) (OfAdd frame' old' addend' is' sum') =
       let olds : old' ≡ old = cc in
       let addends : addend' ≡ addend = cc in
-      one_some value next (memory.sum old addend) sum (subst (λ i. memory.sum old i ≡ Some next) addends (subst (λ i. memory.sum i addend' ≡ Some next) olds sum'))
+      one_some value next (memory.sum old addend) sum (subst (λ i. memory.sum old i ≡ Some next) addends
+      (subst (λ i. memory.sum i addend' ≡ Some next) olds sum'))
 
   pub left_access : (node word at : ℕ) (value : ℤ) → Leaves events memory node word at value → IsAccess events node word at
   left_access node word at value (OfWrite wrote) = inl (inl (value, wrote))
@@ -59,11 +60,19 @@ first_same first second firsts seconds is = cc
 
 -- both items tell the same
 abbrev pub SameTold : (two : Two) (at place : ℕ) → Meets two at place → Type 0
-SameTold two at place match = reply_to (two.run.events at) (given two.starts two.run at match.frame) ≡ reply_to (two.serial.events place) (given two.starts two.serial place match.row)
+SameTold two at place match = reply_to (two.run.events at) (given two.starts two.run at match.frame) ≡ reply_to (two.serial.events place)
+    (given two.starts two.serial place match.row)
 
 abbrev pub flip_match : (two : Two) (at place : ℕ) → Meets two at place → Meets (exchanged two) place at
 flip_match two at place match =
-    record { frame = match.row; row = match.frame; same = flip two match.frame match.row match.same; by_frame = match.by_row; by_row = match.by_frame; alike = sym match.alike }
+    record {
+      frame = match.row;
+      row = match.frame;
+      same = flip two match.frame match.row match.same;
+      by_frame = match.by_row;
+      by_row = match.by_frame;
+      alike = sym match.alike;
+    }
 
 one_old : (event other : Event) (gives others : List Deposit) (node there word : ℕ) (frame row : FrameId) (old next addend : ℤ) →
     event ≡ Acts node frame (Add word old addend) → other ≡ Acts there row (Add word next addend) → reply_to event gives ≡ reply_to other others → old ≡ next
@@ -76,12 +85,15 @@ pub left_across : (two : Two) (memory : SharedMemory) (at place : ℕ) (match : 
     Leaves two.run.events memory node word at value → LeftBy two.serial.events memory word place value
 left_across two memory at place match told node word value (OfWrite wrote) =
     let want = asked two.starts two.main two.run two.run_obeys at match.frame (Acts node wrote.frame (Write word value)) wrote.is match.by_frame in
-    let (other, row, is) = was_write two.serial (two.serial.events place) word value (subst (λ i. Answers two.serial (two.serial.events place) i) want (matches.answers_here two at place match)) in
+    let (other, row, is) = was_write two.serial (two.serial.events place) word value
+    (subst (λ i. Answers two.serial (two.serial.events place) i) want (matches.answers_here two at place match)) in
     record { node = other; leaves = OfWrite (record { frame = row; is = is }) }
 left_across two memory at place match told node word value (OfAdd frame old addend is sum) =
     let want = asked two.starts two.main two.run two.run_obeys at match.frame (Acts node frame (Add word old addend)) is match.by_frame in
-    let (other, row, next, is_there) = was_add two.serial (two.serial.events place) word addend (subst (λ i. Answers two.serial (two.serial.events place) i) want (matches.answers_here two at place match)) in
-    let olds = one_old (two.run.events at) (two.serial.events place) (given two.starts two.run at match.frame) (given two.starts two.serial place match.row) node other word frame row old next addend is is_there told in
+    let (other, row, next, is_there) = was_add two.serial (two.serial.events place) word addend
+    (subst (λ i. Answers two.serial (two.serial.events place) i) want (matches.answers_here two at place match)) in
+    let olds = one_old (two.run.events at) (two.serial.events place) (given two.starts two.run at match.frame)
+    (given two.starts two.serial place match.row) node other word frame row old next addend is is_there told in
     record { node = other; leaves = OfAdd row next addend is_there (subst (λ i. memory.sum i addend ≡ Some value) olds sum) }
 
 module _ (two : Two) (memory : SharedMemory) (finish end : ℕ) (all : Complete two.starts two.serial finish)
@@ -100,19 +112,24 @@ module _ (two : Two) (memory : SharedMemory) (finish end : ℕ) (all : Complete 
   told_after : (at place : ℕ) → at < end → (match : Meets two at place) →
       replies two.starts two.run (suc at) (match.frame) ≡ replies two.starts two.serial (suc place) (match.row)
   told_after at place within match =
-      let its = follow (suc at) within match.frame (born_more two.run at (suc at) match.frame (omega arith) (two.run_obeys.born at match.frame match.by_frame)) in
+      let its = follow (suc at) within match.frame (born_more two.run at (suc at) match.frame (omega arith)
+      (two.run_obeys.born at match.frame match.by_frame)) in
       let rows_same = matches.one_row two match.frame its.level.row match.row its.level.same match.same in
-      let alike : replies two.starts two.run (suc at) (match.frame) ≡ replies two.starts two.serial (its.place) (match.row) = its.level.alike ∙ ap (λ i. replies two.starts two.serial its.place i) rows_same in
-      let latest = rows.latest two.starts two.serial match.row its.place (reply_to (two.run.events at) (given two.starts two.run at match.frame)) (replies two.starts two.run at match.frame)
+      let alike : replies two.starts two.run (suc at) (match.frame) ≡ replies two.starts two.serial (its.place) (match.row) = its.level.alike ∙
+      ap (λ i. replies two.starts two.serial its.place i) rows_same in
+      let latest = rows.latest two.starts two.serial match.row its.place (reply_to (two.run.events at) (given two.starts two.run at match.frame))
+      (replies two.starts two.run at match.frame)
       (sym alike ∙ rows.grew two.starts two.run at match.frame match.by_frame) in
       let places = rows.same_place two.starts two.serial match.row latest.at place latest.is match.by_row (latest.rest ∙ match.alike) in
       alike ∙ sym latest.whole ∙ ap (λ i. replies two.starts two.serial (suc i) match.row) places
 
   pub told_same : (at place : ℕ) → at < end → (match : Meets two at place) → SameTold two at place match
   told_same at place within match =
-      first_same (reply_to (two.run.events at) (given two.starts two.run at match.frame)) (reply_to (two.serial.events place) (given two.starts two.serial place match.row))
+      first_same (reply_to (two.run.events at) (given two.starts two.run at match.frame))
+      (reply_to (two.serial.events place) (given two.starts two.serial place match.row))
       (replies two.starts two.run at match.frame) (replies two.starts two.serial place match.row)
-      (sym (rows.grew two.starts two.run at match.frame match.by_frame) ∙ told_after at place within match ∙ rows.grew two.starts two.serial place match.row match.by_row)
+      (sym (rows.grew two.starts two.run at match.frame match.by_frame) ∙ told_after at place within match ∙
+      rows.grew two.starts two.serial place match.row match.by_row)
 
   pub left_there : (at place node word : ℕ) (value : ℤ) → at < end → Meets two at place → Leaves two.run.events memory node word at value →
       LeftBy two.serial.events memory word place value

@@ -70,11 +70,15 @@ module _ (two : Two) where
       two.serial.events place ≡ Acts other above (Spawn row) → two.run.instance parent ≡ two.serial.instance above → Alike at parent place above →
       (two.run.target child ≡ two.serial.target row) × (two.run.instance child ≡ two.serial.instance row)
   spawned_same at place node other parent above child row is is_there instance alike =
-      let here = asked two.starts two.main two.run two.run_obeys at parent (Acts node parent (Spawn child)) is (by_acts node parent (Spawn child) (two.run.events at) is) in
-      let there = asked two.starts two.main two.serial two.serial_obeys place above (Acts other above (Spawn row)) is_there (by_acts other above (Spawn row) (two.serial.events place) is_there) in
-      let (target, procedure, arguments) = one_spawn (two.run.target child) (two.serial.target row) ((two.run.instance child).procedure) ((two.serial.instance row).procedure)
+      let here = asked two.starts two.main two.run two.run_obeys at parent (Acts node parent (Spawn child)) is
+      (by_acts node parent (Spawn child) (two.run.events at) is) in
+      let there = asked two.starts two.main two.serial two.serial_obeys place above (Acts other above (Spawn row)) is_there
+      (by_acts other above (Spawn row) (two.serial.events place) is_there) in
+      let (target, procedure, arguments) = one_spawn (two.run.target child) (two.serial.target row) ((two.run.instance child).procedure)
+      ((two.serial.instance row).procedure)
       ((two.run.instance child).arguments) ((two.serial.instance row).arguments) (sym here ∙ want_same parent above at place instance alike ∙ there) in
-      let depth = two.run_obeys.deeper at node parent child is ∙ ap (λ i. suc (i.depth)) instance ∙ sym (two.serial_obeys.deeper place other above row is_there) in
+      let depth = two.run_obeys.deeper at node parent child is ∙ ap (λ i. suc (i.depth)) instance ∙
+      sym (two.serial_obeys.deeper place other above row is_there) in
       (target, same_parts (two.run.instance child) (two.serial.instance row) depth procedure arguments)
 
   pub same_instance : (frame row : FrameId) → Is frame row → two.run.instance frame ≡ two.serial.instance row
@@ -98,11 +102,23 @@ module _ (two : Two) where
   pub origin : (child row : FrameId) → Is child row → ((child ≡ main_id) × (row ≡ main_id)) ⊎ Origin child row
   origin child row Mains = inl (refl, refl)
   origin child row (Spawned at place node other parent above is is_there same alike) =
-      inr (record { at = at; place = place; node = node; other = other; parent = parent; above = above; is = is; is_there = is_there; same = same; alike = alike })
+      inr (record {
+        at = at;
+        place = place;
+        node = node;
+        other = other;
+        parent = parent;
+        above = above;
+        is = is;
+        is_there = is_there;
+        same = same;
+        alike = alike;
+      })
 
   pub same_target : (child row : FrameId) → Origin child row → two.run.target child ≡ two.serial.target row
   same_target child row from =
-      (spawned_same from.at from.place from.node from.other from.parent from.above child row from.is from.is_there (same_instance from.parent from.above from.same) from.alike).0
+      (spawned_same from.at from.place from.node from.other from.parent from.above child row from.is from.is_there
+      (same_instance from.parent from.above from.same) from.alike).0
 
   pub wants_same : (at place : ℕ) → (match : Meets at place) →
       want_at two.starts two.run at (match.frame) ≡ want_at two.starts two.serial place (match.row)
@@ -110,7 +126,8 @@ module _ (two : Two) where
 
   -- the item here answers what the row wants there
   pub answers_there : (at place : ℕ) → (match : Meets at place) → Answers two.run (two.run.events at) (want_at two.starts two.serial place (match.row))
-  answers_there at place match = subst (λ i. Answers two.run (two.run.events at) i) (wants_same at place match) (two.run_obeys.wants at match.frame match.by_frame)
+  answers_there at place match = subst (λ i. Answers two.run (two.run.events at) i) (wants_same at place match)
+      (two.run_obeys.wants at match.frame match.by_frame)
 
   -- and the item there what the frame wants here
   pub answers_here : (at place : ℕ) → (match : Meets at place) → Answers two.serial (two.serial.events place) (want_at two.starts two.run at (match.frame))
@@ -125,9 +142,11 @@ module _ (two : Two) where
       (subst (λ i. two.run.events i ≡ Acts second.node second.parent (Spawn child)) (sym same_at) second.is)).0 in
       let aboves = one second.above (subst (λ i. Is i second.above) (sym parents) second.same) in
       let alike : replies two.starts two.serial first.place first.above ≡ replies two.starts two.serial second.place first.above =
-      sym first.alike ∙ ap (λ i. replies two.starts two.run i first.parent) same_at ∙ ap (λ i. replies two.starts two.run second.at i) parents ∙ second.alike ∙ ap (λ i. replies two.starts two.serial second.place i) (sym aboves) in
+      sym first.alike ∙ ap (λ i. replies two.starts two.run i first.parent) same_at ∙ ap (λ i. replies two.starts two.run second.at i) parents ∙
+      second.alike ∙ ap (λ i. replies two.starts two.serial second.place i) (sym aboves) in
       let by_first = by_acts first.other first.above (Spawn row) (two.serial.events first.place) first.is_there in
-      let by_second = subst (λ i. by i (two.serial.events second.place) ≡ true) (sym aboves) (by_acts second.other second.above (Spawn other) (two.serial.events second.place) second.is_there) in
+      let by_second = subst (λ i. by i (two.serial.events second.place) ≡ true) (sym aboves)
+      (by_acts second.other second.above (Spawn other) (two.serial.events second.place) second.is_there) in
       let places = rows.same_place two.starts two.serial first.above first.place second.place by_first by_second alike in
       (spawn_parent (two.serial.events first.place) first.other second.other first.above second.above row other first.is_there
       (subst (λ i. two.serial.events i ≡ Acts second.other second.above (Spawn other)) (sym places) second.is_there)).1
@@ -140,7 +159,18 @@ module _ (two : Two) where
   one_row frame first other (Spawned {child} {row} at place node there parent above is is_there same alike) again = elim (origin child other again) [
     | inl mains ↦ absurd (two.run_obeys.not_main at node parent child is mains.0)
     | inr from ↦ one_row_from child row other
-        (record { at = at; place = place; node = node; other = there; parent = parent; above = above; is = is; is_there = is_there; same = same; alike = alike })
+        (record {
+          at = at;
+          place = place;
+          node = node;
+          other = there;
+          parent = parent;
+          above = above;
+          is = is;
+          is_there = is_there;
+          same = same;
+          alike = alike;
+        })
         (λ third second. one_row parent above third same second) from
   ]
 

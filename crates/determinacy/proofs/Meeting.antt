@@ -33,13 +33,15 @@ module _ (two : Two) where
 
   pub meet_act : (frame row : FrameId) (at place : ℕ) → Meet frame row at place → ActOf two.serial.events row place → ActOf two.run.events frame at
   meet_act frame row at place meet (other, act, is) =
-      let (node, actor, made, is_here) = twin_act (two.run.events at) (two.serial.events place) (twins_of two at place (as_match frame row at place meet)) other row act is in
+      let (node, actor, made, is_here) = twin_act (two.run.events at) (two.serial.events place)
+      (twins_of two at place (as_match frame row at place meet)) other row act is in
       (node, made, its_own frame actor at node made meet.by_frame is_here)
 
   pub meet_sync : (frame row : FrameId) (at place other : ℕ) → Meet frame row at place → two.serial.events place ≡ Acts other row Sync →
       (node : ℕ) × (two.run.events at ≡ Acts node frame Sync)
   meet_sync frame row at place other meet is =
-      let (node, actor, is_here) = twin_sync (two.run.events at) (two.serial.events place) (twins_of two at place (as_match frame row at place meet)) other row is in
+      let (node, actor, is_here) = twin_sync (two.run.events at) (two.serial.events place)
+      (twins_of two at place (as_match frame row at place meet)) other row is in
       (node, its_own frame actor at node Sync meet.by_frame is_here)
 
   -- the frame's child that corresponds to a row's
@@ -49,10 +51,12 @@ module _ (two : Two) where
     pub is : two.run.events at ≡ Acts node frame (Spawn child)
     pub same : Is two child next
 
-  pub meet_spawn : (frame row : FrameId) (at place other : ℕ) (next : FrameId) → Meet frame row at place → two.serial.events place ≡ Acts other row (Spawn next) →
+  pub meet_spawn : (frame row : FrameId) (at place other : ℕ) (next : FrameId) → Meet frame row at place →
+      two.serial.events place ≡ Acts other row (Spawn next) →
       Twin frame at next
   meet_spawn frame row at place other next meet is =
-      let (node, actor, child, found) = twin_spawn (two.run.events at) (two.serial.events place) (twins_of two at place (as_match frame row at place meet)) other row next is in
+      let (node, actor, child, found) = twin_spawn (two.run.events at) (two.serial.events place)
+      (twins_of two at place (as_match frame row at place meet)) other row next is in
       let is_here = its_own frame actor at node (Spawn child) meet.by_frame found in
       record { node = node; child = child; is = is_here; same = Spawned at place node other frame row is_here is meet.same meet.alike }
 
@@ -63,7 +67,8 @@ module _ (two : Two) where
     pub meet : Meet frame row at place
     pub next : Alike two (suc at) frame (suc place) row
 
-  back_here : (frame row : FrameId) (now place last : ℕ) → Is two frame row → Alike two now frame (suc last) row → by row (two.serial.events place) ≡ true → place ≡ last →
+  back_here : (frame row : FrameId) (now place last : ℕ) → Is two frame row → Alike two now frame (suc last) row →
+      by row (two.serial.events place) ≡ true → place ≡ last →
       (latest : rows.Latest two.starts two.run frame now (replies two.starts two.serial last row)) → Back frame row now place
   back_here frame row now place last same alike acts is latest = record {
     at = latest.at;
@@ -73,7 +78,12 @@ module _ (two : Two) where
   }
 
   back_sooner : (frame row : FrameId) (now sooner place : ℕ) → sooner < now → Back frame row sooner place → Back frame row now place
-  back_sooner frame row now sooner place before back' = record { at = back'.at; before = omega (arith, back'.before, before); meet = back'.meet; next = back'.next }
+  back_sooner frame row now sooner place before back' = record {
+    at = back'.at;
+    before = omega (arith, back'.before, before);
+    meet = back'.meet;
+    next = back'.next;
+  }
 
   -- a row's earlier item was done by the frame
   pub back : (frame row : FrameId) (now there place : ℕ) → Is two frame row → Alike two now frame there row → place < there →

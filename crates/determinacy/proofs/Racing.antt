@@ -26,12 +26,16 @@ record Actor (events : Events) (at : ℕ) : Type 0 where
   acts : by frame (events at) ≡ true
 
 access_actor : (events : Events) (node word at : ℕ) → IsAccess events node word at → Actor events at
-access_actor events node word at (inl (inl (value, wrote))) = record { frame = wrote.frame; acts = by_acts node wrote.frame (Write word value) (events at) wrote.is }
+access_actor events node word at (inl (inl (value, wrote))) = record {
+  frame = wrote.frame;
+  acts = by_acts node wrote.frame (Write word value) (events at) wrote.is;
+}
 access_actor events node word at (inl (inr (value, read))) = record { frame = read.frame; acts = by_acts node read.frame (Read word value) (events at) read.is }
 access_actor events node word at (inr (old, add)) = record { frame = add.frame; acts = by_acts node add.frame (Add word old add.addend) (events at) add.is }
 
 module _ (two : Two) (at place : ℕ) (match : Meets two at place) where
-  wants_there : (request : wanted.Request) → want_at two.starts two.run at (match.frame) ≡ Some (Asks request) → Answers two.serial (two.serial.events place) (Some (Asks request))
+  wants_there : (request : wanted.Request) → want_at two.starts two.run at (match.frame) ≡ Some (Asks request) →
+      Answers two.serial (two.serial.events place) (Some (Asks request))
   wants_there request is = subst (λ i. Answers two.serial (two.serial.events place) i) is (matches.answers_here two at place match)
 
   pub writer_across : (node word : ℕ) → IsWriter two.run.events node word at → (other : ℕ) × IsWriter two.serial.events other word place
@@ -60,7 +64,8 @@ module _ (setting : Setting) (now : ℕ) where
   Found at = leaving.Matched setting.two setting.memory setting.finish now setting.all (induction.follows setting now) at
 
   -- two accesses that race nowhere are ordered there, one way or the other
-  there_ordered : (node other word first second : ℕ) → (one : Found first) → (two : Found second) → first < second → IsAccess setting.two.run.events node word first →
+  there_ordered : (node other word first second : ℕ) → (one : Found first) → (two : Found second) → first < second →
+      IsAccess setting.two.run.events node word first →
       IsAccess setting.two.run.events other word second → IsWriter setting.two.run.events node word first ⊎ IsWriter setting.two.run.events other word second →
       Precedes setting.two.serial.events (one.place) (two.place) ⊎ Precedes setting.two.serial.events (two.place) (one.place)
   there_ordered node other word first second one two before access access_second (inl writes) =
@@ -69,7 +74,8 @@ module _ (setting : Setting) (now : ℕ) where
       let writer_there = writer_access setting.two.serial.events node' word one.place writer in
       elim (compare one.place two.place) [
         | Less3 l ↦ inl (setting.free node' other' word one.place two.place l two.inside writer_there reader (inl writer))
-        | Same3 same ↦ absurd (let times = matches.one_time setting.two first second one.place one.match (subst (λ i. Meets setting.two second i) (sym same) two.match) in omega arith)
+        | Same3 same ↦ absurd (let times = matches.one_time setting.two first second one.place one.match
+            (subst (λ i. Meets setting.two second i) (sym same) two.match) in omega arith)
         | More3 l ↦ inr (setting.free other' node' word two.place one.place l one.inside reader writer_there (inr writer))
       ]
   there_ordered node other word first second one two before access access_second (inr writes) =
@@ -78,7 +84,8 @@ module _ (setting : Setting) (now : ℕ) where
       let writer_there = writer_access setting.two.serial.events other' word two.place writer in
       elim (compare one.place two.place) [
         | Less3 l ↦ inl (setting.free node' other' word one.place two.place l two.inside reader writer_there (inr writer))
-        | Same3 same ↦ absurd (let times = matches.one_time setting.two first second one.place one.match (subst (λ i. Meets setting.two second i) (sym same) two.match) in omega arith)
+        | Same3 same ↦ absurd (let times = matches.one_time setting.two first second one.place one.match
+            (subst (λ i. Meets setting.two second i) (sym same) two.match) in omega arith)
         | More3 l ↦ inr (setting.free other' node' word two.place one.place l one.inside writer_there reader (inl writer))
       ]
 
@@ -89,8 +96,10 @@ module _ (setting : Setting) (now : ℕ) where
       let one = induction.matched_item setting now first actor.frame (omega arith) actor.acts in
       let two = induction.matched_item setting now second actor_second.frame within actor_second.acts in
       elim (there_ordered node other word first second one two before access access_second writes) [
-        | inl precedes ↦ (leaving.ordered setting.two setting.memory setting.finish now setting.all (induction.follows setting now) first one.place second two.place (omega arith) one.match two.match precedes).1
+        | inl precedes ↦ (leaving.ordered setting.two setting.memory setting.finish now setting.all
+            (induction.follows setting now) first one.place second two.place (omega arith) one.match two.match precedes).1
         | inr follows ↦
-            let order = leaving.ordered setting.two setting.memory setting.finish now setting.all (induction.follows setting now) second two.place first one.place (omega arith) two.match one.match follows in
+            let order = leaving.ordered setting.two setting.memory setting.finish now setting.all
+            (induction.follows setting now) second two.place first one.place (omega arith) two.match one.match follows in
             absurd (omega (arith, order.0))
       ]

@@ -211,7 +211,14 @@ module _ (starts : Starts) (trace : Trace) where
     }
     | inr none ↦
         let before = latest frame now reply earlier (sym (still starts trace now frame none) ∙ is) in
-        record { at = before.at; before = omega (arith, before.before); is = before.is; rest = before.rest; whole = before.whole ∙ sym (still starts trace now frame none) }
+        record {
+          at = before.at;
+          before = omega (arith, before.before);
+          is = before.is;
+          rest = before.rest;
+          whole = before.whole ∙
+              sym (still starts trace now frame none);
+        }
   ]
 
 -- ---- what has returned, and what is not yet born
@@ -276,6 +283,10 @@ pub born_split : (trace : Trace) (now : ℕ) (frame : FrameId) → Born trace.ev
 born_split trace now frame (inl of_main) = inl (inl of_main)
 born_split trace now frame (inr born) = elim (compare born.at now) [
   | Less3 l ↦ inl (inr (record { at = born.at; node = born.node; parent = born.parent; before = l; is = born.is }))
-  | Same3 same ↦ inr (record { node = born.node; parent = born.parent; is = subst (λ i. trace.events i ≡ Acts born.node born.parent (Spawn frame)) same born.is })
+  | Same3 same ↦ inr (record {
+    node = born.node;
+    parent = born.parent;
+    is = subst (λ i. trace.events i ≡ Acts born.node born.parent (Spawn frame)) same born.is;
+  })
   | More3 l ↦ absurd (omega (arith, born.before))
 ]

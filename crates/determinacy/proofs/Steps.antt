@@ -33,7 +33,8 @@ pairs_deposits Related gives others (first ∷ firsts) (second ∷ seconds) pair
     let rest = pairs_deposits Related gives others firsts seconds pairs.1 (λ i j on on_there related. each i j (inr on) (inr on_there) related) in
     ap (λ i. i ++ gives first ∷ []) rest ∙ ap (λ i. deposits others seconds ++ i ∷ []) one
 
-same_value : (want other : Option Want) (value next : ℤ) → want ≡ Some (Returns value) → other ≡ Some (Returns next) → value ≡ next → value_in want ≡ value_in other
+same_value : (want other : Option Want) (value next : ℤ) → want ≡ Some (Returns value) → other ≡ Some (Returns next) → value ≡ next →
+    value_in want ≡ value_in other
 unfolding value_in
 same_value want other value next is is_there same = ap value_in is ∙ same ∙ sym (ap value_in is_there)
 
@@ -85,7 +86,8 @@ module _ (two : Two) where
       sym (matches.want_same two frame level.row now place (matches.same_instance two frame level.row level.same) level.alike) ∙ returns
 
   -- as many replies, so the same value
-  child_value : (finish at place node other : ℕ) (frame row : FrameId) → AllFollow two.starts two.run two.serial finish at → two.run.events at ≡ Acts node frame Sync →
+  child_value : (finish at place node other : ℕ) (frame row : FrameId) → AllFollow two.starts two.run two.serial finish at →
+      two.run.events at ≡ Acts node frame Sync →
       two.serial.events place ≡ Acts other row Sync → (child next : FrameId) → IsOn child (children two.run.events at frame) →
       IsOn next (children two.serial.events place row) → Is two child next →
       value_in (want_at two.starts two.run at child) ≡ value_in (want_at two.starts two.serial place next)
@@ -95,7 +97,8 @@ module _ (two : Two) where
       let born = child_born two.run at frame child on in
       let its = follow child (inr (record { at = born.at; node = born.node; parent = frame; before = born.before; is = born.is })) in
       let its_row = matches.one_row two child its.level.row next its.level.same same in
-      let there = subst (λ i. want_at two.starts two.serial its.place i ≡ Some (Returns value)) its_row (level_returns at its.place child value returns its.level) in
+      let there = subst (λ i. want_at two.starts two.serial its.place i ≡ Some (Returns value)) its_row
+      (level_returns at its.place child value returns its.level) in
       same_value (want_at two.starts two.run at child) (want_at two.starts two.serial place next) value value' returns returns'
       (one_value two.starts two.main two.serial two.serial_obeys next its.place place value value' there returns')
 
@@ -109,11 +112,13 @@ module _ (two : Two) where
   -- What both items tell, and how they change the block.
   pub record Agree (at place : ℕ) (frame row : FrameId) : Type 0 where
     pub reply : reply_to (two.run.events at) (given two.starts two.run at frame) ≡ reply_to (two.serial.events place) (given two.starts two.serial place row)
-    pub block : Pairs (Is two) (children_after (two.run.events at) (children two.run.events at frame)) (children_after (two.serial.events place) (children two.serial.events place row))
+    pub block : Pairs (Is two) (children_after (two.run.events at) (children two.run.events at frame))
+        (children_after (two.serial.events place) (children two.serial.events place row))
 
   -- both obtain the same
   abbrev pub SameObtained : ℕ → ℕ → Type 0
-  SameObtained at place = (node other word : ℕ) (here there : ℤ) → Obtains two.run.events node word at here → Obtains two.serial.events other word place there → here ≡ there
+  SameObtained at place = (node other word : ℕ) (here there : ℤ) → Obtains two.run.events node word at here →
+      Obtains two.serial.events other word place there → here ≡ there
 
   module _ (finish at place : ℕ) (frame row : FrameId) (follow : AllFollow two.starts two.run two.serial finish at) (same : Is two frame row)
       (by_frame : by frame (two.run.events at) ≡ true) (by_row : by row (two.serial.events place) ≡ true) (alike : Alike two at frame place row)
@@ -159,11 +164,13 @@ module _ (two : Two) where
     unfolding reply_to children_after
     agree_at event other (Reads node there actor second word value next) is is_there =
         set (Acts node actor (Read word value)) (Acts there second (Read word next)) is is_there
-        (ap (λ i. OfAct (Value i)) (obtained node there word value next (inl (record { frame = actor; is = is })) (inl (record { frame = second; is = is_there }))))
+        (ap (λ i. OfAct (Value i)) (obtained node there word value next (inl (record { frame = actor; is = is }))
+        (inl (record { frame = second; is = is_there }))))
         pairs
     agree_at event other (Adds node there actor second word value next addend) is is_there =
         set (Acts node actor (Add word value addend)) (Acts there second (Add word next addend)) is is_there
-        (ap (λ i. OfAct (Value i)) (obtained node there word value next (inr (record { frame = actor; addend = addend; is = is })) (inr (record { frame = second; addend = addend; is = is_there }))))
+        (ap (λ i. OfAct (Value i)) (obtained node there word value next (inr (record { frame = actor; addend = addend; is = is }))
+        (inr (record { frame = second; addend = addend; is = is_there }))))
         pairs
     agree_at event other (Writes node there actor second word value) is is_there =
         set (Acts node actor (Write word value)) (Acts there second (Write word value)) is is_there refl pairs
@@ -184,8 +191,16 @@ module _ (two : Two) where
   pub level_birth : (at place node : ℕ) (frame child row : FrameId) → two.run.events at ≡ Acts node frame (Spawn child) → Is two frame row →
       by row (two.serial.events place) ≡ true → Alike two at frame place row → Level two.starts two.run two.serial (suc at) (suc place) child
   level_birth at place node frame child row is same by_row alike =
-      let match : Meets two at place = record { frame = frame; row = row; same = same; by_frame = by_acts node frame (Spawn child) (two.run.events at) is; by_row = by_row; alike = alike } in
-      let (other, actor, next, is_there) = twin_spawn (two.serial.events place) (two.run.events at) (twins_back (two.run.events at) (two.serial.events place) (twins_of two at place match)) node frame child is in
+      let match : Meets two at place = record {
+        frame = frame;
+        row = row;
+        same = same;
+        by_frame = by_acts node frame (Spawn child) (two.run.events at) is;
+        by_row = by_row;
+        alike = alike;
+      } in
+      let (other, actor, next, is_there) = twin_spawn (two.serial.events place) (two.run.events at)
+      (twins_back (two.run.events at) (two.serial.events place) (twins_of two at place match)) node frame child is in
       let actors = by_one actor row (two.serial.events place) (by_acts other actor (Spawn next) (two.serial.events place) is_there) by_row in
       let there = subst (λ i. two.serial.events place ≡ Acts other i (Spawn next)) actors is_there in
       let fresh = rows.unborn two.starts two.main two.run two.run_obeys at node frame child is in

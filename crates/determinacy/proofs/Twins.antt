@@ -51,7 +51,8 @@ module _ (run serial : Trace) where
 
 pub twins_of : (two : Two) (at place : ℕ) → Meets two at place → Twins (two.run.events at) (two.serial.events place)
 twins_of two at place match =
-    twins two.run two.serial (two.run.events at) (two.serial.events place) (want_at two.starts two.serial place match.row) (matches.answers_there two at place match)
+    twins two.run two.serial (two.run.events at) (two.serial.events place) (want_at two.starts two.serial place match.row)
+    (matches.answers_there two at place match)
     (two.serial_obeys.wants place match.row match.by_row)
 
 -- ---- what one of two twins says of the other

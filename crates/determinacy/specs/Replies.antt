@@ -82,10 +82,10 @@ want_of starts instance told = serve.now (state_of starts instance told)
 -- what the frame was told before `now`, the latest first; at a Sync the children give back what they returned
 unfoldable pub replies : Starts → Trace → ℕ → FrameId → List Reply
 replies starts trace zero frame = []
-replies starts trace (suc now) frame =
-    cond (by frame (trace.events now))
-    (reply_to (trace.events now) (deposits (λ child. (trace.target child, value_in (want_of starts (trace.instance child) (replies starts trace now child)))) (children trace.events now frame))
-    ∷ replies starts trace now frame)
+replies starts trace (suc now) frame = cond (by frame (trace.events now))
+    (reply_to (trace.events now)
+        (deposits (λ child. (trace.target child, value_in (want_of starts (trace.instance child) (replies starts trace now child))))
+            (children trace.events now frame)) ∷ replies starts trace now frame)
     (replies starts trace now frame)
 
 -- the frame's instance as it is at `now`, and what it wants then

@@ -78,14 +78,18 @@ module _ (race : Race) where
       (lockstep.lives race.two race.memory now place lock) top.1 top_there.1)
 
   -- where the other has no frame left there is no top, and the other way round
-  no_top : (now place : ℕ) (frame : FrameId) (value : ℤ) → Locks now place → Top now frame → want_at race.two.starts race.two.serial place main_id ≡ Some (Returns value) → ⊥
+  no_top : (now place : ℕ) (frame : FrameId) (value : ℤ) → Locks now place → Top now frame →
+      want_at race.two.starts race.two.serial place main_id ≡ Some (Returns value) → ⊥
   no_top now place frame value lock top finished =
-      top_none (Is race.two) (live race.two.starts race.two.run now) (live race.two.starts race.two.serial place) frame top.0 (lockstep.lives race.two race.memory now place lock) top.1
+      top_none (Is race.two) (live race.two.starts race.two.run now) (live race.two.starts race.two.serial place) frame top.0
+      (lockstep.lives race.two race.memory now place lock) top.1
       (nothing_live race.two.starts race.two.main race.two.serial race.two.serial_obeys place value finished)
 
-  no_top_there : (now place : ℕ) (row : FrameId) (value : ℤ) → Locks now place → TopThere place row → want_at race.two.starts race.two.run now main_id ≡ Some (Returns value) → ⊥
+  no_top_there : (now place : ℕ) (row : FrameId) (value : ℤ) → Locks now place → TopThere place row →
+      want_at race.two.starts race.two.run now main_id ≡ Some (Returns value) → ⊥
   no_top_there now place row value lock top finished =
-      none_top (Is race.two) (live race.two.starts race.two.run now) (live race.two.starts race.two.serial place) row top.0 (lockstep.lives race.two race.memory now place lock)
+      none_top (Is race.two) (live race.two.starts race.two.run now) (live race.two.starts race.two.serial place) row top.0
+      (lockstep.lives race.two race.memory now place lock)
       (nothing_live race.two.starts race.two.main race.two.run race.two.run_obeys now value finished) top.1
 
   -- an item of the run does not find the other at its end
@@ -94,17 +98,21 @@ module _ (race : Race) where
   not_ended now frame Finished (value, finished) lock acts ticks = no_top now race.finish frame value lock (race.deep now frame acts) finished
   not_ended now frame (Trapped kind) (row, top, traps) lock acts ticks =
       told.no_trap race.two.run (race.two.run.events now) kind
-      (subst (λ i. Answers race.two.run (race.two.run.events now) i) (tops_alike now race.finish frame row lock (race.deep now frame acts) top ∙ traps) (race.two.run_obeys.wants now frame acts))
+      (subst (λ i. Answers race.two.run (race.two.run.events now) i) (tops_alike now race.finish frame row lock (race.deep now frame acts) top ∙
+      traps) (race.two.run_obeys.wants now frame acts))
   not_ended now frame Budget (row, request, top, wants, full) lock acts ticks =
       let left = race.within now frame acts in let spent = all_items race.finish (omega arith) in omega (arith, full)
 
   -- nor is the run at its end where the other makes an item
-  not_ended_there : (now place : ℕ) (row : FrameId) (end : NodeEnd) → Ends now end → Locks now place → by row (race.two.serial.events place) ≡ true → place < race.finish →
+  not_ended_there : (now place : ℕ) (row : FrameId) (end : NodeEnd) → Ends now end → Locks now place → by row (race.two.serial.events place) ≡ true →
+      place < race.finish →
       all_ticks race.two.run.events now ≡ place → ⊥
-  not_ended_there now place row Finished (value, finished) lock acts inside ticks = no_top_there now place row value lock (race.deep_there place row acts) finished
+  not_ended_there now place row Finished (value, finished) lock acts inside ticks =
+      no_top_there now place row value lock (race.deep_there place row acts) finished
   not_ended_there now place row (Trapped kind) (frame, top, traps) lock acts inside ticks =
       told.no_trap race.two.serial (race.two.serial.events place) kind
-      (subst (λ i. Answers race.two.serial (race.two.serial.events place) i) (sym (tops_alike now place frame row lock top (race.deep_there place row acts)) ∙ traps)
+      (subst (λ i. Answers race.two.serial (race.two.serial.events place) i)
+      (sym (tops_alike now place frame row lock top (race.deep_there place row acts)) ∙ traps)
       (race.two.serial_obeys.wants place row acts))
   not_ended_there now place row Budget (frame, request, top, wants, full) lock acts inside ticks =
       let left = race.within_there place row acts in let spent = all_items place (omega arith) in omega (arith, full)
@@ -123,7 +131,8 @@ module _ (race : Race) where
             let acting = actor (race.two.run.events now) is in
             absurd (not_ended now acting.frame end ends (subst (λ i. Locks now i) same locked.lock) acting.acts same)
         | Less3 l ↦
-            let its = lockstep.both race.two race.memory race.deep race.deep_there now (all_ticks race.two.run.events now) locked.lock is (race.items (all_ticks race.two.run.events now) l) in
+            let its = lockstep.both race.two race.memory race.deep race.deep_there now (all_ticks race.two.run.events now) locked.lock is
+            (race.items (all_ticks race.two.run.events now) l) in
             record {
               inside = omega arith;
               lock = subst (λ i. Locks (suc now) i) (sym more)
@@ -174,12 +183,20 @@ module _ (race : Race) where
       absurd (trap_request kind request (sym traps ∙ sym (tops_alike now place frame row lock top top_there) ∙ wants))
   ends_alike now place lock Budget Budget here there = refl
 
-  lock_row : (now place : ℕ) → Locks now place → (frame : FrameId) → Born race.two.run.events now frame → ItsRow race.two.starts race.two.run race.two.serial now place frame
+  lock_row : (now place : ℕ) → Locks now place → (frame : FrameId) → Born race.two.run.events now frame →
+      ItsRow race.two.starts race.two.run race.two.serial now place frame
   lock_row now place lock frame born =
       let level = lock.level frame born in
-      record { row = level.row; born = level.born; same = level.same; alike = level.alike; instance = matches.same_instance race.two frame level.row level.same }
+      record {
+        row = level.row;
+        born = level.born;
+        same = level.same;
+        alike = level.alike;
+        instance = matches.same_instance race.two frame level.row level.same;
+      }
 
-  lock_history : (now : ℕ) → Locks now (race.finish) → all_ticks race.two.run.events now ≡ race.finish → OneHistory race.two.starts race.two.run race.two.serial now (race.finish)
+  lock_history : (now : ℕ) → Locks now (race.finish) → all_ticks race.two.run.events now ≡ race.finish →
+      OneHistory race.two.starts race.two.run race.two.serial now (race.finish)
   lock_history now lock ticks = record {
     rows = lock_row now race.finish lock;
     frames = lock.frames;
@@ -188,7 +205,8 @@ module _ (race : Race) where
     ticks = ticks ∙ sym (all_items race.finish (omega arith));
   }
 
-abbrev race_of : (starts : Starts) (main : ℕ) (run serial : Trace) (memory : SharedMemory) (budget finish : ℕ) (end : NodeEnd) → OneNode starts main run memory budget →
+abbrev race_of : (starts : Starts) (main : ℕ) (run serial : Trace) (memory : SharedMemory) (budget finish : ℕ) (end : NodeEnd) →
+    OneNode starts main run memory budget →
     Elision starts main serial memory budget finish end → Race
 race_of starts main run serial memory budget finish end alone elision = record {
   two = record { starts = starts; main = main; run = run; serial = serial; run_obeys = alone.obeys; serial_obeys = elision.obeys };
@@ -213,5 +231,6 @@ alone_serial starts main run serial memory budget now finish end other alone end
       end_is = ends_alike race now finish lock other end ends elision.ends;
       ticks = ticks;
       history = lock_history race now lock ticks;
-      word = λ word here there at_home last. last_one run.events memory word now here there (home.memory_at run.events memory alone.caching alone.one now word here at_home) (lock.word word there last);
+      word = λ word here there at_home last. last_one run.events memory word now here there
+          (home.memory_at run.events memory alone.caching alone.one now word here at_home) (lock.word word there last);
     }

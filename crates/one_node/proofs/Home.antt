@@ -19,8 +19,24 @@ module _ (events : Events) (memory : SharedMemory) (caching : Caching events mem
     | inl (moment, early, is) ↦
         let has = pages.never_fall events memory caching node word at next moment access access_next before is in
         elim (compare has.at moment) [
-          | Less3 l ↦ inl (inl (record { first = has.at; second = moment; first_is = has.moment; second_is = is; first_in = omega arith; second_in = early; order = inl l }))
-          | Same3 l ↦ inl (inl (record { first = has.at; second = moment; first_is = has.moment; second_is = is; first_in = omega arith; second_in = early; order = inr (l, before) }))
+          | Less3 l ↦ inl (inl (record {
+            first = has.at;
+            second = moment;
+            first_is = has.moment;
+            second_is = is;
+            first_in = omega arith;
+            second_in = early;
+            order = inl l;
+          }))
+          | Same3 l ↦ inl (inl (record {
+            first = has.at;
+            second = moment;
+            first_is = has.moment;
+            second_is = is;
+            first_in = omega arith;
+            second_in = early;
+            order = inr (l, before);
+          }))
           | More3 l ↦ absurd (omega (arith, has.before))
         ]
     | inr none ↦ elim (last.decide_moment events memory caching now node word at (omega arith) access) [
@@ -37,10 +53,12 @@ module _ (events : Events) (memory : SharedMemory) (caching : Caching events mem
         subst (λ i. Before events memory now word node at i next) same
         (own_before now node word at next inside access (subst (λ i. IsAccess events i word next) (sym same) access_next) sooner)
 
-    left_before : (now node other word at next : ℕ) (value second : ℤ) → next < now → Leaves events memory node word at value → Leaves events memory other word next second → at < next →
+    left_before : (now node other word at next : ℕ) (value second : ℤ) → next < now → Leaves events memory node word at value →
+        Leaves events memory other word next second → at < next →
         Before events memory now word node at other next
     left_before now node other word at next value second inside left left_next sooner =
-        before now node other word at next inside (left_access events memory node word at value left) (left_access events memory other word next second left_next) sooner
+        before now node other word at next inside (left_access events memory node word at value left)
+        (left_access events memory other word next second left_next) sooner
 
     -- each read gives the word as it is in the order of positions
     pub serial_reads : SerialReads events memory
@@ -48,7 +66,8 @@ module _ (events : Events) (memory : SharedMemory) (caching : Caching events mem
       | inr none ↦ inr (record {
         start = none.start;
         none = λ next sooner (other, (second, leaves)). none.none other next (omega arith) (second, leaves)
-            (before (suc at) other node word next at (omega arith) (left_access events memory other word next second leaves) (obtains_access events node word at value obtains) sooner);
+            (before (suc at) other node word next at (omega arith) (left_access events memory other word next second leaves)
+            (obtains_access events node word at value obtains) sooner);
       })
       | inl found ↦ inl (record {
         node = found.node;
@@ -57,7 +76,8 @@ module _ (events : Events) (memory : SharedMemory) (caching : Caching events mem
         leaves = found.leaves;
         none = λ next after sooner (other, (second, leaves)).
             elim (found.last other next (omega arith) (second, leaves)
-            (before (suc at) other node word next at (omega arith) (left_access events memory other word next second leaves) (obtains_access events node word at value obtains) sooner)) [
+            (before (suc at) other node word next at (omega arith) (left_access events memory other word next second leaves)
+            (obtains_access events node word at value obtains) sooner)) [
               | inl same ↦ absurd (omega arith)
               | inr back ↦ before_asym events memory caching (suc at) word other next found.node found.at back
                   (left_before (suc at) found.node other word found.at next value second (omega arith) found.leaves leaves after)

@@ -13,7 +13,8 @@ module _ (events : Events) (memory : SharedMemory) (word : ℕ) where
   last_one now value second (inl last) (inr none) = absurd (none.none last.at last.before (last.node, (value, last.leaves)))
   last_one now value second (inl last) (inl again) = elim (compare last.at again.at) [
     | Less3 l ↦ absurd (last.none again.at l again.before (again.node, (second, again.leaves)))
-    | Same3 same ↦ same_left events memory last.node again.node word again.at value second (subst (λ i. Leaves events memory last.node word i value) same last.leaves) again.leaves
+    | Same3 same ↦ same_left events memory last.node again.node word again.at value second
+        (subst (λ i. Leaves events memory last.node word i value) same last.leaves) again.leaves
     | More3 l ↦ absurd (again.none last.at l last.before (last.node, (value, last.leaves)))
   ]
 
@@ -50,7 +51,13 @@ module _ (events : Events) (memory : SharedMemory) (word : ℕ) where
   last_split now value (inl last) = elim (compare last.at now) [
     | Same3 same ↦ inl (record { node = last.node; leaves = subst (λ i. Leaves events memory last.node word i value) same last.leaves })
     | Less3 l ↦ inr (
-      inl (record { node = last.node; at = last.at; before = l; leaves = last.leaves; none = λ at after inside leaves. last.none at after (omega arith) leaves }),
+      inl (record {
+        node = last.node;
+        at = last.at;
+        before = l;
+        leaves = last.leaves;
+        none = λ at after inside leaves. last.none at after (omega arith) leaves;
+      }),
       λ leaves. last.none now l (omega arith) leaves,
     )
     | More3 l ↦ absurd (omega (arith, last.before))

@@ -48,7 +48,8 @@ module _ (two : Two) (memory : SharedMemory) where
 
   pub lives : (now place : ℕ) → Lock now place → Pairs (Is two) (live two.starts two.run now) (live two.starts two.serial place)
   lives now place lock =
-      pops (Is two) (returned two.starts two.run now) (returned two.starts two.serial place) (stack two.starts two.run now) (stack two.starts two.serial place) lock.stacks
+      pops (Is two) (returned two.starts two.run now) (returned two.starts two.serial place) (stack two.starts two.run now)
+      (stack two.starts two.serial place) lock.stacks
       (λ frame row on same. ap is_return (lock_want now place frame row lock (on_stack two.starts two.run now frame on) same))
 
   first_stacks : Pairs (Is two) (stack two.starts two.run 0) (stack two.starts two.serial 0)
@@ -103,7 +104,8 @@ module _ (two : Two) (memory : SharedMemory) where
     pub by_frame : by frame (two.run.events now) ≡ true
     pub by_row : by row (two.serial.events place) ≡ true
 
-  pub both : Deep two.starts two.run → Deep two.starts two.serial → (now place : ℕ) → Lock now place → is_item (two.run.events now) ≡ true → is_item (two.serial.events place) ≡ true →
+  pub both : Deep two.starts two.run → Deep two.starts two.serial → (now place : ℕ) → Lock now place → is_item (two.run.events now) ≡ true →
+      is_item (two.serial.events place) ≡ true →
       Both now place
   both deep deep_there now place lock is is_there =
       let here = actor (two.run.events now) is in
@@ -115,7 +117,8 @@ module _ (two : Two) (memory : SharedMemory) where
         row = there.frame;
         by_frame = here.acts;
         by_row = there.acts;
-        same = tops_pair (Is two) (live two.starts two.run now) (live two.starts two.serial place) here.frame there.frame top.0 top_there.0 (lives now place lock) top.1 top_there.1;
+        same = tops_pair (Is two) (live two.starts two.run now) (live two.starts two.serial place) here.frame there.frame top.0 top_there.0
+            (lives now place lock) top.1 top_there.1;
       }
 
   -- a frame and a row that make no item stay level
@@ -130,7 +133,8 @@ module _ (two : Two) (memory : SharedMemory) where
         (subst (λ i. Pairs (Is two) (children two.run.events now frame) i) (sym (rows.block_still two.serial place level.row none_there)) level.block);
   }
 
-  module _ (run_reads : SerialReads two.run.events memory) (serial_reads : SerialReads two.serial.events memory) (now place : ℕ) (lock : Lock now place) (its : Both now place) where
+  module _ (run_reads : SerialReads two.run.events memory) (serial_reads : SerialReads two.serial.events memory) (now place : ℕ)
+      (lock : Lock now place) (its : Both now place) where
     born : Born two.run.events now (its.frame)
     born = two.run_obeys.born now its.frame its.by_frame
 
@@ -146,11 +150,13 @@ module _ (two : Two) (memory : SharedMemory) where
     pairs : Pairs (Is two) (children two.run.events now (its.frame)) (children two.serial.events place (its.row))
     pairs =
         let level = lock.level its.frame born in
-        subst (λ i. Pairs (Is two) (children two.run.events now its.frame) (children two.serial.events place i)) (matches.one_row two its.frame level.row its.row level.same its.same) level.block
+        subst (λ i. Pairs (Is two) (children two.run.events now its.frame) (children two.serial.events place i))
+        (matches.one_row two its.frame level.row its.row level.same its.same) level.block
 
     obtained : SameObtained two now place
     obtained node other' word here there obtains obtains_there =
-        last_one two.run.events memory word now here there (run_reads node word now here obtains) (lock.word word there (serial_reads other' word place there obtains_there))
+        last_one two.run.events memory word now here there (run_reads node word now here obtains)
+        (lock.word word there (serial_reads other' word place there obtains_there))
 
     agree : Agree two now place (its.frame) (its.row)
     agree = steps.agree two place now place its.frame its.row follow its.same its.by_frame its.by_row alike pairs obtained
@@ -163,15 +169,18 @@ module _ (two : Two) (memory : SharedMemory) where
         let here : by frame (two.run.events now) ≡ true = subst (λ i. by i (two.run.events now) ≡ true) (sym frames) its.by_frame in
         cc
 
-    old_level : (frame : FrameId) → by frame (two.run.events now) ≡ false → Born two.run.events now frame → Level two.starts two.run two.serial (suc now) (suc place) frame
+    old_level : (frame : FrameId) → by frame (two.run.events now) ≡ false → Born two.run.events now frame →
+        Level two.starts two.run two.serial (suc now) (suc place) frame
     old_level frame none old =
         let level = lock.level frame old in
         both_still now place frame none level (not_by two.serial level.row place (λ acts. other_row frame level.row level.same none acts))
 
     new_level : (frame : FrameId) → SpawnedAt two.run now frame → Level two.starts two.run two.serial (suc now) (suc place) frame
     new_level frame spawned =
-        let parents = by_one spawned.parent its.frame (two.run.events now) (by_acts spawned.node spawned.parent (Spawn frame) (two.run.events now) spawned.is) its.by_frame in
-        steps.level_birth two now place spawned.node its.frame frame its.row (subst (λ i. two.run.events now ≡ Acts spawned.node i (Spawn frame)) parents spawned.is) its.same its.by_row alike
+        let parents = by_one spawned.parent its.frame (two.run.events now)
+        (by_acts spawned.node spawned.parent (Spawn frame) (two.run.events now) spawned.is) its.by_frame in
+        steps.level_birth two now place spawned.node its.frame frame its.row
+        (subst (λ i. two.run.events now ≡ Acts spawned.node i (Spawn frame)) parents spawned.is) its.same its.by_row alike
 
     its_level : (frame : FrameId) → Born two.run.events (suc now) frame → Level two.starts two.run two.serial (suc now) (suc place) frame
     its_level frame its_born = elim (either_bool (by frame (two.run.events now))) [
@@ -182,13 +191,23 @@ module _ (two : Two) (memory : SharedMemory) where
 
     new_frame : (row : FrameId) → SpawnedAt two.serial place row → ItsFrame two.starts two.run two.serial (suc now) row
     new_frame row spawned =
-        let parents = by_one spawned.parent its.row (two.serial.events place) (by_acts spawned.node spawned.parent (Spawn row) (two.serial.events place) spawned.is) its.by_row in
+        let parents = by_one spawned.parent its.row (two.serial.events place)
+        (by_acts spawned.node spawned.parent (Spawn row) (two.serial.events place) spawned.is) its.by_row in
         let meet : Meet two (its.frame) (its.row) now place = record { same = its.same; by_frame = its.by_frame; by_row = its.by_row; alike = alike } in
-        let twin = meet_spawn two its.frame its.row now place spawned.node row meet (subst (λ i. two.serial.events place ≡ Acts spawned.node i (Spawn row)) parents spawned.is) in
-        record { frame = twin.child; born = inr (record { at = now; node = twin.node; parent = its.frame; before = omega arith; is = twin.is }); same = twin.same }
+        let twin = meet_spawn two its.frame its.row now place spawned.node row meet
+        (subst (λ i. two.serial.events place ≡ Acts spawned.node i (Spawn row)) parents spawned.is) in
+        record {
+          frame = twin.child;
+          born = inr (record { at = now; node = twin.node; parent = its.frame; before = omega arith; is = twin.is });
+          same = twin.same;
+        }
 
     its_frames : (row : FrameId) → Born two.serial.events (suc place) row → ItsFrame two.starts two.run two.serial (suc now) row
-    its_frames row its_born = elim (born_split two.serial place row its_born) [ inl old ↦ later_frame now row (lock.frames row old) | inr spawned ↦ new_frame row spawned ]
+    its_frames row its_born = elim (born_split two.serial place row its_born) [
+      | inl old ↦ later_frame now row (lock.frames row old)
+      | inr spawned ↦
+          new_frame row spawned
+    ]
 
     left_here : (node word : ℕ) (value : ℤ) → Leaves two.serial.events memory node word place value → LeftBy two.run.events memory word now value
     left_here node word value leaves = left_across (exchanged two) memory place now (flip_match two now place match) (sym agree.reply) node word value leaves
@@ -206,10 +225,12 @@ module _ (two : Two) (memory : SharedMemory) where
 
     its_stacks : Pairs (Is two) (stack two.starts two.run (suc now)) (stack two.starts two.serial (suc place))
     its_stacks =
-        subst (λ i. Pairs (Is two) i (stack two.starts two.serial (suc place))) (sym (stack_item two.starts two.run now (item_is its.frame (two.run.events now) its.by_frame)))
-        (subst (λ i. Pairs (Is two) (pushed (two.run.events now) (live two.starts two.run now)) i) (sym (stack_item two.starts two.serial place (item_is its.row (two.serial.events place) its.by_row)))
+        subst (λ i. Pairs (Is two) i (stack two.starts two.serial (suc place)))
+        (sym (stack_item two.starts two.run now (item_is its.frame (two.run.events now) its.by_frame)))
+        (subst (λ i. Pairs (Is two) (pushed (two.run.events now) (live two.starts two.run now)) i)
+        (sym (stack_item two.starts two.serial place (item_is its.row (two.serial.events place) its.by_row)))
         (pushes (Is two) (two.run.events now) (two.serial.events place) (twins_of two now place match) (children two.run.events now its.frame)
-            (children two.serial.events place its.row) agree.block (live two.starts two.run now) (live two.starts two.serial place) (lives now place lock)))
+        (children two.serial.events place its.row) agree.block (live two.starts two.run now) (live two.starts two.serial place) (lives now place lock)))
 
     pub item : Lock (suc now) (suc place)
     item = record { level = its_level; frames = its_frames; stacks = its_stacks; word = its_word }

@@ -42,24 +42,30 @@ module _ (Related : FrameId → FrameId → Type 0) where
       let same = each frame row (inl refl) pairs.0 in
       let below = pops first second frames rows pairs.1 (λ i j on related. each i j (inr on) related) in
       elim (either_bool (first frame)) [
-        | inl is ↦ subst (λ i. Pairs Related i (cond (second row) (pop second rows) (row ∷ rows))) (sym (when_true (first frame) (pop first frames) (frame ∷ frames) is))
+        | inl is ↦ subst (λ i. Pairs Related i (cond (second row) (pop second rows) (row ∷ rows)))
+            (sym (when_true (first frame) (pop first frames) (frame ∷ frames) is))
             (subst (λ i. Pairs Related (pop first frames) i) (sym (when_true (second row) (pop second rows) (row ∷ rows) (sym same ∙ is))) below)
-        | inr is ↦ subst (λ i. Pairs Related i (cond (second row) (pop second rows) (row ∷ rows))) (sym (when_false (first frame) (pop first frames) (frame ∷ frames) is))
+        | inr is ↦ subst (λ i. Pairs Related i (cond (second row) (pop second rows) (row ∷ rows)))
+            (sym (when_false (first frame) (pop first frames) (frame ∷ frames) is))
             (subst (λ i. Pairs Related (frame ∷ frames) i) (sym (when_false (second row) (pop second rows) (row ∷ rows) (sym same ∙ is))) pairs)
       ]
 
-  pub tops_pair : (firsts seconds : List FrameId) (frame row : FrameId) (frames rows : List FrameId) → Pairs Related firsts seconds → firsts ≡ frame ∷ frames → seconds ≡ row ∷ rows →
+  pub tops_pair : (firsts seconds : List FrameId) (frame row : FrameId) (frames rows : List FrameId) → Pairs Related firsts seconds →
+      firsts ≡ frame ∷ frames → seconds ≡ row ∷ rows →
       Related frame row
-  tops_pair firsts seconds frame row frames rows pairs is is_there = (subst (λ i. Pairs Related (frame ∷ frames) i) is_there (subst (λ i. Pairs Related i seconds) is pairs)).0
+  tops_pair firsts seconds frame row frames rows pairs is is_there = (subst (λ i. Pairs Related (frame ∷ frames) i) is_there
+      (subst (λ i. Pairs Related i seconds) is pairs)).0
 
-  pub top_none : (firsts seconds : List FrameId) (frame : FrameId) (frames : List FrameId) → Pairs Related firsts seconds → firsts ≡ frame ∷ frames → seconds ≡ [] → ⊥
+  pub top_none : (firsts seconds : List FrameId) (frame : FrameId) (frames : List FrameId) → Pairs Related firsts seconds → firsts ≡ frame ∷ frames →
+      seconds ≡ [] → ⊥
   top_none firsts seconds frame frames pairs is none = subst (λ i. Pairs Related (frame ∷ frames) i) none (subst (λ i. Pairs Related i seconds) is pairs)
 
   pub none_top : (firsts seconds : List FrameId) (row : FrameId) (rows : List FrameId) → Pairs Related firsts seconds → firsts ≡ [] → seconds ≡ row ∷ rows → ⊥
   none_top firsts seconds row rows pairs none is = subst (λ i. Pairs Related [] i) is (subst (λ i. Pairs Related i seconds) none pairs)
 
   -- twins change related stacks as they change related blocks
-  pub pushes : (event other : Event) → Twins event other → (block next_block : List FrameId) → Pairs Related (children_after event block) (children_after other next_block) →
+  pub pushes : (event other : Event) → Twins event other → (block next_block : List FrameId) →
+      Pairs Related (children_after event block) (children_after other next_block) →
       (firsts seconds : List FrameId) → Pairs Related firsts seconds → Pairs Related (pushed event firsts) (pushed other seconds)
   unfolding children_after pushed
   pushes event other (Reads node there frame row word value next) block next_block after firsts seconds pairs = pairs
@@ -78,7 +84,8 @@ no_item trace at none frame = not_by trace frame at (λ acts. let is = item_is f
 pushed_on : (trace : Trace) (at : ℕ) (event : Event) → trace.events at ≡ event → (frames : List FrameId) (frame : FrameId) → IsOn frame (pushed event frames) →
     IsOn frame frames ⊎ SpawnedAt trace at frame
 unfolding pushed
-pushed_on trace at (Acts node actor (Spawn child)) is frames frame (inl same) = inr (record { node = node; parent = actor; is = is ∙ ap (λ i. Acts node actor (Spawn i)) same })
+pushed_on trace at (Acts node actor (Spawn child)) is frames frame (inl same) =
+    inr (record { node = node; parent = actor; is = is ∙ ap (λ i. Acts node actor (Spawn i)) same })
 pushed_on trace at (Acts node actor (Spawn child)) is frames frame (inr on) = inl on
 pushed_on trace at (Acts node actor (Read word value)) is frames frame on = inl on
 pushed_on trace at (Acts node actor (Write word value)) is frames frame on = inl on
@@ -90,11 +97,13 @@ pushed_on trace at event is frames frame on = inl on
 module _ (starts : Starts) (trace : Trace) where
   pub stack_item : (at : ℕ) → is_item (trace.events at) ≡ true → stack starts trace (suc at) ≡ pushed (trace.events at) (live starts trace at)
   unfolding stack
-  stack_item at is = when_true (is_item (trace.events at)) (pushed (trace.events at) (pop (returned starts trace at) (stack starts trace at))) (stack starts trace at) is
+  stack_item at is = when_true (is_item (trace.events at)) (pushed (trace.events at) (pop (returned starts trace at) (stack starts trace at)))
+      (stack starts trace at) is
 
   pub stack_other : (at : ℕ) → is_item (trace.events at) ≡ false → stack starts trace (suc at) ≡ stack starts trace at
   unfolding stack
-  stack_other at is = when_false (is_item (trace.events at)) (pushed (trace.events at) (pop (returned starts trace at) (stack starts trace at))) (stack starts trace at) is
+  stack_other at is = when_false (is_item (trace.events at)) (pushed (trace.events at) (pop (returned starts trace at) (stack starts trace at)))
+      (stack starts trace at) is
 
   pub stack_first : stack starts trace 0 ≡ main_id ∷ []
   unfolding stack
@@ -115,14 +124,17 @@ module _ (starts : Starts) (trace : Trace) where
   ]
 
   pub on_live : (now : ℕ) (frame : FrameId) → IsTop starts trace now frame → Born trace.events now frame
-  on_live now frame top = on_stack now frame (pop_on (returned starts trace now) (stack starts trace now) frame (subst (λ i. IsOn frame i) (sym top.1) (inl refl)))
+  on_live now frame top = on_stack now frame (pop_on (returned starts trace now) (stack starts trace now) frame
+      (subst (λ i. IsOn frame i) (sym top.1) (inl refl)))
 
-is_returned : (starts : Starts) (trace : Trace) (now : ℕ) (frame : FrameId) (value : ℤ) → want_at starts trace now frame ≡ Some (Returns value) → returned starts trace now frame ≡ true
+is_returned : (starts : Starts) (trace : Trace) (now : ℕ) (frame : FrameId) (value : ℤ) → want_at starts trace now frame ≡ Some (Returns value) →
+    returned starts trace now frame ≡ true
 unfolding is_return
 is_returned starts trace now frame value returns = ap is_return returns
 
 -- where `main` has returned no frame is left
-pub nothing_live : (starts : Starts) (main : ℕ) (trace : Trace) → Obeys starts main trace → (now : ℕ) (result : ℤ) → want_at starts trace now main_id ≡ Some (Returns result) →
+pub nothing_live : (starts : Starts) (main : ℕ) (trace : Trace) → Obeys starts main trace → (now : ℕ) (result : ℤ) →
+    want_at starts trace now main_id ≡ Some (Returns result) →
     live starts trace now ≡ []
 nothing_live starts main trace obeys now result finished =
     pop_all (returned starts trace now) (stack starts trace now) (λ frame on.

@@ -22,7 +22,8 @@ abbrev pub EndsAs : Starts → Trace → ℕ → ℕ → NodeEnd → Type 0
 EndsAs starts trace budget now Finished = (value : ℤ) × (want_at starts trace now main_id ≡ Some (Returns value))
 EndsAs starts trace budget now (Trapped kind) = (frame : FrameId) × IsTop starts trace now frame × (want_at starts trace now frame ≡ Some (Traps kind))
 EndsAs starts trace budget now Budget =
-    (frame : FrameId) × (request : Request) × IsTop starts trace now frame × (want_at starts trace now frame ≡ Some (Asks request)) × (all_ticks trace.events now ≡ budget)
+    (frame : FrameId) × (request : Request) × IsTop starts trace now frame × (want_at starts trace now frame ≡ Some (Asks request)) ×
+    (all_ticks trace.events now ≡ budget)
 
 -- A run depth first under the rules for pages, in which each word is accessed by one node alone.
 pub record OneNode (starts : Starts) (main : ℕ) (trace : Trace) (memory : SharedMemory) (budget : ℕ) : Type 0 where
