@@ -1,5 +1,5 @@
 -- Where `main` has returned, each frame has.
-use Rattle.std.proofs.Common.{◌≡◌, ℕ, zero, suc, ◌≤◌, inl, inr, ℤ, Some, sym, ◌∙◌, ap, subst, arith}
+use Rattle.std.proofs.Common.{◌≡◌, ℕ, zero, suc, ◌≤◌, inl, inr, ℤ, Some, sym, subst, arith}
 use Rattle.backer_order.proofs.Search.{Less3, Same3, More3, compare}
 use Rattle.backer_order.specs.Log.{main_id, Spawn}
 use Rattle.cilk_meaning.specs.Wants.{Returns}
@@ -7,7 +7,7 @@ use Rattle.determinacy.proofs.Carried.{child_ended}
 use Rattle.determinacy.proofs.Rows as rows
 use Rattle.determinacy.proofs.Rows.{by_acts, born_more}
 use Rattle.determinacy.specs.Following.{Complete}
-use Rattle.determinacy.specs.Replies.{Trace, want_of, want_at, SpawnedBefore, Born, Obeys}
+use Rattle.determinacy.specs.Replies.{Trace, want_at, SpawnedBefore, Born, Obeys}
 use Rattle.page_messages.specs.declared.closure.FrameId.{FrameId}
 use Rattle.span_tree.specs.Program.{Starts}
 
@@ -46,8 +46,5 @@ module _ (starts : Starts) (main : ℕ) (trace : Trace) (obeys : Obeys starts ma
 
   pub complete : Complete starts trace finish
   complete frame born =
-      let returned = all_returned finish frame born in (
-        returned.value,
-        ap (λ i. want_of starts (trace.instance frame) i)
-            (rows.settled starts main trace obeys frame returned.at returned.value returned.returns finish returned.before).told ∙ returned.returns,
-      )
+      let returned = all_returned finish frame born in
+      (returned.value, rows.still_returned starts main trace obeys frame returned.at returned.value returned.returns finish returned.before)

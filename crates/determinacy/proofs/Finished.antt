@@ -1,5 +1,5 @@
 -- A finished run has the history of the serial execution.
-use Rattle.std.proofs.Common.{◌≡◌, ℕ, zero, suc, ◌<◌, ◌≤◌, inl, inr, ℤ, true, Some, refl, sym, ◌∙◌, ap, subst, arith}
+use Rattle.std.proofs.Common.{◌≡◌, ℕ, zero, suc, ◌<◌, ◌≤◌, inl, inr, ℤ, true, Some, refl, sym, ◌∙◌, subst, arith}
 use Rattle.backer_order.specs.Log.{main_id, Spawn}
 use Rattle.cilk_meaning.specs.Wants.{Returns}
 use Rattle.determinacy.proofs.Carried as carried
@@ -16,7 +16,7 @@ use Rattle.determinacy.proofs.Rows.{by_acts, born_more}
 use Rattle.determinacy.proofs.Steps as steps
 use Rattle.determinacy.specs.Ending.{is_item, all_ticks, ItsRow, ItsFrame, OneHistory}
 use Rattle.determinacy.specs.Following.{Mains}
-use Rattle.determinacy.specs.Replies.{by, want_of, want_at, SpawnedBefore, Born}
+use Rattle.determinacy.specs.Replies.{by, want_at, SpawnedBefore, Born}
 use Rattle.page_messages.specs.declared.closure.FrameId.{FrameId}
 
 module _ (setting : Setting) (now : ℕ) (result : ℤ) (finished : want_at setting.two.starts setting.two.run now main_id ≡ Some (Returns result)) where
@@ -41,7 +41,8 @@ module _ (setting : Setting) (now : ℕ) (result : ℤ) (finished : want_at sett
   child_whole row bound born parent =
       let done = item_done born.parent born.at parent (by_acts born.node born.parent (Spawn row) (setting.two.serial.events born.at) born.is) in
       let twin = meet_spawn setting.two parent.frame born.parent done.at born.at born.node row done.meet born.is in
-      let ended = child_ended setting.two.starts setting.two.main setting.two.run setting.two.run_obeys parent.frame twin.child done.at twin.node parent.at parent.value twin.is done.before parent.returns in
+      let ended = child_ended setting.two.starts setting.two.main setting.two.run setting.two.run_obeys
+      parent.frame twin.child done.at twin.node parent.at parent.value twin.is done.before parent.returns in
       record {
         frame = twin.child;
         at = ended.at;
@@ -101,18 +102,17 @@ module _ (setting : Setting) (now : ℕ) (result : ℤ) (finished : want_at sett
       let row = its.level.row in
       let its_whole = whole its.place row its.level.born in
       let frames = matches.one_frame setting.two its_whole.frame frame row its_whole.same its.level.same in
-      let returns : want_at setting.two.starts setting.two.run (its_whole.at) frame ≡ Some (Returns its_whole.value) =
-      subst (λ i. want_at setting.two.starts setting.two.run its_whole.at i ≡ Some (Returns its_whole.value)) frames its_whole.returns in
-      let still = (rows.settled setting.two.starts setting.two.main setting.two.run setting.two.run_obeys frame its_whole.at its_whole.value returns now its_whole.inside).told in
-      let returns_now : want_at setting.two.starts setting.two.run now frame ≡ Some (Returns its_whole.value) =
-      ap (λ i. want_of setting.two.starts (setting.two.run.instance frame) i) still ∙ returns in
+      let returns = subst (λ i. want_at setting.two.starts setting.two.run its_whole.at i ≡ Some (Returns its_whole.value)) frames its_whole.returns in
+      let returns_now = rows.still_returned setting.two.starts setting.two.main setting.two.run setting.two.run_obeys
+      frame its_whole.at its_whole.value returns now its_whole.inside in
       let there = steps.level_returns setting.two now its.place frame its_whole.value returns_now its.level in
-      let settled = (rows.settled setting.two.starts setting.two.main setting.two.serial setting.two.serial_obeys row its.place its_whole.value there setting.finish its.inside).told in
+      let settled = rows.settled setting.two.starts setting.two.main setting.two.serial setting.two.serial_obeys
+      row its.place its_whole.value there setting.finish its.inside in
       record {
         row = row;
         born = born_more setting.two.serial its.place setting.finish row its.inside its.level.born;
         same = its.level.same;
-        alike = its.level.alike ∙ sym settled;
+        alike = its.level.alike ∙ sym settled.told;
         instance = matches.same_instance setting.two frame row its.level.same;
       }
 

@@ -18,7 +18,7 @@ use Rattle.determinacy.specs.Replies.{want_at}
 use Rattle.determinacy.specs.Serial.{LastSerial, LastOf}
 
 module _ (setting : Setting) (caching : Caching setting.two.run.events setting.memory)
-      (consistent : (now : ℕ) → Consistent setting.two.run.events setting.memory now)
+    (consistent : (now : ℕ) → Consistent setting.two.run.events setting.memory now)
     (now : ℕ) (result : ℤ) (finished : want_at setting.two.starts setting.two.run now main_id ≡ Some (Returns result)) where
   module _ (word : ℕ) (here there : ℤ) where
     abbrev Left : ℕ → ℤ → Type 0
@@ -26,7 +26,7 @@ module _ (setting : Setting) (caching : Caching setting.two.run.events setting.m
 
     its_left : (node at : ℕ) (value : ℤ) → at < now → Leaves setting.two.run.events setting.memory node word at value → Left at value
     its_left node at value before leaves = leaving.left setting.two setting.memory setting.finish now setting.all
-          (induction.follows setting now) at node word value before leaves
+        (induction.follows setting now) at node word value before leaves
 
     record Done (place : ℕ) (value : ℤ) : Type 0 where
       at : ℕ
@@ -41,22 +41,22 @@ module _ (setting : Setting) (caching : Caching setting.two.run.events setting.m
         let actor = left_actor setting.two.serial.events setting.memory node word place value leaves in
         let found = finish.all_done setting now result finished place actor.frame actor.acts in
         let left = leaving.left_here setting.two setting.memory setting.finish now setting.all
-              (induction.follows setting now) found.at place node word value found.before found.match leaves in
+        (induction.follows setting now) found.at place node word value found.before found.match leaves in
         record { at = found.at; before = found.before; match = found.match; node = left.node; leaves = left.leaves }
 
     -- an earlier one there is before in the home order, so it is not the last one
     not_earlier : (last : LastHome setting.two.run.events setting.memory now word here) → (found : Left (last.at) here) →
-          (serial : LastSerial setting.two.serial.events setting.memory word (setting.finish) there) →
+        (serial : LastSerial setting.two.serial.events setting.memory word (setting.finish) there) →
         (behind : Done (serial.at) there) → found.place < serial.at → here ≡ there
     not_earlier last found serial behind l =
         let precedes = setting.free found.node serial.node word found.place serial.at l serial.before
-              (left_access setting.two.serial.events setting.memory found.node word found.place here found.leaves)
+        (left_access setting.two.serial.events setting.memory found.node word found.place here found.leaves)
         (left_access setting.two.serial.events setting.memory serial.node word serial.at there serial.leaves)
         (inl (left_writer setting.two.serial.events setting.memory found.node word found.place here found.leaves)) in
         let order = leaving.ordered setting.two setting.memory setting.finish now setting.all
-              (induction.follows setting now) last.at found.place behind.at serial.at (omega (arith, behind.before)) found.match behind.match precedes in
+        (induction.follows setting now) last.at found.place behind.at serial.at (omega (arith, behind.before)) found.match behind.match precedes in
         let before = (consistent now).dag last.node behind.node word last.at behind.at behind.before
-              (left_access setting.two.run.events setting.memory last.node word last.at here last.leaves)
+        (left_access setting.two.run.events setting.memory last.node word last.at here last.leaves)
         (left_access setting.two.run.events setting.memory behind.node word behind.at there behind.leaves) order.1 in
         elim (last.last behind.node behind.at behind.before (there, behind.leaves)) [
           | inl same ↦ absurd (omega (arith, order.0, same))
@@ -64,7 +64,7 @@ module _ (setting : Setting) (caching : Caching setting.two.run.events setting.m
         ]
 
     last_ones : LastHome setting.two.run.events setting.memory now word here →
-          LastSerial setting.two.serial.events setting.memory word (setting.finish) there → here ≡ there
+        LastSerial setting.two.serial.events setting.memory word (setting.finish) there → here ≡ there
     last_ones last serial =
         let found = its_left last.node last.at here last.inside last.leaves in
         elim (compare found.place serial.at) [
@@ -75,7 +75,7 @@ module _ (setting : Setting) (caching : Caching setting.two.run.events setting.m
         ]
 
     pub same_memory : MemoryOf setting.two.run.events setting.memory now word here →
-          LastOf setting.two.serial.events setting.memory word (setting.finish) there → here ≡ there
+        LastOf setting.two.serial.events setting.memory word (setting.finish) there → here ≡ there
     same_memory (inr none) (inr none_there) = none.start ∙ sym none_there.start
     same_memory (inr none) (inl serial) =
         let found = done serial.at serial.node there serial.leaves in

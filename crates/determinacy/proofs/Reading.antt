@@ -18,7 +18,7 @@ module _ (two : Two) (memory : SharedMemory) (finish end : ℕ) (all : Complete 
     (follow : (now : ℕ) → now ≤ end → AllFollow two.starts two.run two.serial finish now) (free : RaceFree two.serial.events finish) where
   -- the access at the end, and the one that it matches
   module _ (node other word place : ℕ) (here there : ℤ) (obtains : Obtains two.run.events node word end here)
-        (obtains_there : Obtains two.serial.events other word place there)
+      (obtains_there : Obtains two.serial.events other word place there)
       (inside : place < finish) (match : Meets two end place) where
     access_there : IsAccess two.serial.events other word place
     access_there = obtains_access two.serial.events other word place there obtains_there
@@ -49,7 +49,7 @@ module _ (two : Two) (memory : SharedMemory) (finish end : ℕ) (all : Complete 
       | Same3 same ↦ absurd (let times = matches.one_time two at end found.place found.match (subst (λ i. Meets two end i) (sym same) match) in omega arith)
       | More3 l ↦
           let order = leaving.ordered two memory finish end all follow end place at found.place (omega arith) match found.match
-                (free_behind found.place found.node value l found.inside found.leaves) in
+          (free_behind found.place found.node value l found.inside found.leaves) in
           absurd (omega (arith, order.0))
     ]
 
@@ -59,11 +59,11 @@ module _ (two : Two) (memory : SharedMemory) (finish end : ℕ) (all : Complete 
     left_ordered at next value second within within_next differs found again = elim (compare found.place again.place) [
       | Less3 l ↦ inl ((leaving.ordered two memory finish end all follow at found.place next again.place (omega arith) found.match again.match
           (free_of found.place again.place found.node again.node value l again.inside found.leaves
-                (left_access two.serial.events memory again.node word again.place second again.leaves))).1)
+          (left_access two.serial.events memory again.node word again.place second again.leaves))).1)
       | Same3 same ↦ absurd (differs (matches.one_time two at next found.place found.match (subst (λ i. Meets two next i) (sym same) again.match)))
       | More3 l ↦ inr ((leaving.ordered two memory finish end all follow next again.place at found.place (omega arith) again.match found.match
           (free_of again.place found.place again.node found.node second l found.inside again.leaves
-                (left_access two.serial.events memory found.node word found.place value found.leaves))).1)
+          (left_access two.serial.events memory found.node word found.place value found.leaves))).1)
     ]
 
     no_race : NoRaceAt two.run.events memory word end
@@ -73,7 +73,7 @@ module _ (two : Two) (memory : SharedMemory) (finish end : ℕ) (all : Complete 
           (leaving.ordered two memory finish end all follow at found.place end place (omega arith) found.match match ((left_before at value within found).1)).1;
       writes = λ actor at actor' next within within_next differs (value, leaves) (second, leaves').
           left_ordered at next value second within within_next differs (its_left at actor value within leaves)
-                (its_left next actor' second within_next leaves');
+          (its_left next actor' second within_next leaves');
     }
 
     -- what leaves a value serially before was done here
@@ -87,7 +87,7 @@ module _ (two : Two) (memory : SharedMemory) (finish end : ℕ) (all : Complete 
     done : (at actor : ℕ) (value : ℤ) → at < place → Leaves two.serial.events memory actor word at value → Done at value
     done at actor value before leaves =
         let earlier = carried.carried two finish end follow at place end (omega arith) match
-              (free_of at place actor other value before inside leaves access_there) in
+        (free_of at place actor other value before inside leaves access_there) in
         let found = leaving.left_here two memory finish end all follow earlier.when at actor word value earlier.before earlier.match leaves in
         record { when = earlier.when; before = earlier.before; match_here = earlier.match; node_here = found.node; leaves = found.leaves }
 
@@ -98,13 +98,13 @@ module _ (two : Two) (memory : SharedMemory) (finish end : ℕ) (all : Complete 
         let behind = done last.at last.node there last.before last.leaves in
         elim (compare found.place last.at) [
           | Same3 same ↦ same_left two.serial.events memory found.node last.node word last.at here there
-                (subst (λ i. Leaves two.serial.events memory found.node word i here) same found.leaves) last.leaves
+              (subst (λ i. Leaves two.serial.events memory found.node word i here) same found.leaves) last.leaves
           | More3 l ↦ absurd (last.none found.place l before.0 (found.node, (here, found.leaves)))
           | Less3 l ↦
               let order = leaving.ordered two memory finish end all follow dag.at found.place behind.when last.at
-                    (omega (arith, behind.before)) found.match behind.match_here
+              (omega (arith, behind.before)) found.match behind.match_here
               (free_of found.place last.at found.node last.node here l (omega (arith, last.before, inside)) found.leaves
-                    (left_access two.serial.events memory last.node word last.at there last.leaves)) in
+              (left_access two.serial.events memory last.node word last.at there last.leaves)) in
               elim (dag.last behind.node_here behind.when behind.before (there, behind.leaves)) [
                 | inl same ↦ absurd (omega (arith, order.0, same))
                 | inr sooner ↦ let back = later two.starts two.main two.run two.run_obeys behind.when dag.at sooner in absurd (omega (arith, order.0))
@@ -112,7 +112,7 @@ module _ (two : Two) (memory : SharedMemory) (finish end : ℕ) (all : Complete 
         ]
 
     both : LastInDag two.run.events memory word end here ⊎ NoneInDag two.run.events memory word end here →
-          LastOf two.serial.events memory word place there → here ≡ there
+        LastOf two.serial.events memory word place there → here ≡ there
     both (inr none) (inr none_there) = none.start ∙ sym none_there.start
     both (inr none) (inl last) =
         let found = done last.at last.node there last.before last.leaves in

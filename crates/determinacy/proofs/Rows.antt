@@ -257,6 +257,11 @@ module _ (starts : Starts) (main : ℕ) (trace : Trace) (obeys : Obeys starts ma
   settled frame now value returns at after =
       unchanged starts trace frame now at after (λ i from to is. no_more frame now value returns i from is)
 
+  pub still_returned : (frame : FrameId) (now : ℕ) (value : ℤ) → want_at starts trace now frame ≡ Some (Returns value) → (at : ℕ) → now ≤ at →
+      want_at starts trace at frame ≡ Some (Returns value)
+  still_returned frame now value returns at after =
+      ap (λ i. want_of starts (trace.instance frame) i) (settled frame now value returns at after).told ∙ returns
+
   pub born_before : (at node : ℕ) (frame child : FrameId) (later : ℕ) → trace.events at ≡ Acts node frame (Spawn child) →
       by child (trace.events later) ≡ true → at < later
   born_before at node frame child later is acts = elim (obeys.born later child acts) [

@@ -84,8 +84,8 @@ unfoldable pub replies : Starts → Trace → ℕ → FrameId → List Reply
 replies starts trace zero frame = []
 replies starts trace (suc now) frame = cond (by frame (trace.events now))
     (reply_to (trace.events now)
-        (deposits (λ child. (trace.target child, value_in (want_of starts (trace.instance child) (replies starts trace now child))))
-            (children trace.events now frame)) ∷ replies starts trace now frame)
+    (deposits (λ child. (trace.target child, value_in (want_of starts (trace.instance child) (replies starts trace now child))))
+    (children trace.events now frame)) ∷ replies starts trace now frame)
     (replies starts trace now frame)
 
 -- the frame's instance as it is at `now`, and what it wants then
