@@ -1,0 +1,5 @@
+pub mod Home
+pub mod Lasts
+pub mod Stacks
+pub mod Lockstep
+pub mod Alone
