@@ -1,2 +1,3 @@
 pub mod Under
-pub mod NoRace
+pub mod NotParallel
+pub mod Races

@@ -1,5 +1,5 @@
 -- The way in a history to what lies at or below an act of a frame.
-use Rattle.std.proofs.Common.{◌≡◌, ℕ, ◌<◌, List, [], ◌∷◌, ◌++◌, length, refl, sym, ◌∙◌, ap, subst, append_assoc, arith}
+use Rattle.std.proofs.Common.{◌≡◌, ℕ, ◌<◌, List, [], ◌∷◌, ◌++◌, refl, ◌∙◌, ap, subst, append_assoc, arith}
 use Rattle.page_messages.specs.declared.closure.FrameId.{FrameId}
 use Rattle.span_tree.specs.declared.act.Place.{Place}
 use Rattle.span_tree.specs.Dag.{way}
@@ -13,6 +13,9 @@ use Rattle.backer_order.specs.Edges.{ActOf}
 use Rattle.backer_order.specs.Dag.{Under, At, Below}
 use Rattle.word_order.proofs.Rows.{place_in}
 use Rattle.word_order.proofs.Places.{AreRows, place_for, act_here, place_there}
+
+pub one_frame : (node other : ℕ) (frame second : FrameId) (act next : log.Act) (event : log.Event) → event ≡ log.Acts node frame act → event ≡ log.Acts other second next → frame ≡ second
+one_frame node other frame second act next event is is' = cc
 
 -- each frame acts behind its spawn
 abbrev pub ActBehindSpawns : Events → Type 0
@@ -46,9 +49,6 @@ module _ (events : Events) (now : ℕ) (frames : List FrameId) (history : Histor
 
   pub own : (at node : ℕ) (frame : FrameId) (act : log.Act) → at < now → events at ≡ log.Acts node frame act → Through (its_place frame at) frame at
   own at node frame act inside is = record { node = node; done = act; inside = inside; is = is; rest = []; way_is = own_way at node frame act inside is }
-
-  one_frame : (node other : ℕ) (frame second : FrameId) (act next : log.Act) (event : log.Event) → event ≡ log.Acts node frame act → event ≡ log.Acts other second next → frame ≡ second
-  one_frame node other frame second act next event is is' = cc
 
   module _ (behind : ActBehindSpawns events) where
     -- what lies below a child lies below its spawn
