@@ -1,3 +1,4 @@
 pub mod Under
 pub mod NotParallel
 pub mod Races
+pub mod RunAs
