@@ -2,3 +2,4 @@ pub mod Under
 pub mod NotParallel
 pub mod Races
 pub mod RunAs
+pub mod Blocks
