@@ -3,3 +3,4 @@ pub mod NotParallel
 pub mod Races
 pub mod RunAs
 pub mod Blocks
+pub mod Alone
