@@ -1,5 +1,5 @@
 -- The acts of a frame before each position are those of the alone run of its row.
-use Rattle.std.proofs.Common.{◌≡◌, ◌⊎◌, inl, inr, ℕ, zero, suc, ◌<◌, ◌≤◌, List, [], ◌∷◌, ◌++◌, Option, Some, true, false, cond, length, refl, sym, ◌∙◌, ap, subst, arith, rules}
+use Rattle.std.proofs.Common.{◌≡◌, inl, inr, ℕ, zero, suc, ◌<◌, ◌≤◌, List, [], ◌∷◌, ◌++◌, Option, Some, true, false, cond, length, refl, sym, ◌∙◌, ap, subst, arith, rules}
 use Rattle.std.specs.Prelude.{slice_get, ℤ}
 use Rattle.page_messages.specs.declared.closure.FrameId.{FrameId}
 use Rattle.cilk_meaning.specs.Instance.{Meaning}
@@ -8,18 +8,16 @@ use Rattle.cilk_meaning.specs.Wants as wanted
 use Rattle.cilk_meaning.specs.Wants.{Want, Request, Asks, Deposit, Answer, Value, Children, Done}
 use Rattle.span_tree.specs.declared.act.Act as row
 use Rattle.span_tree.specs.declared.act.Place.{Place}
-use Rattle.span_tree.specs.History.{History, row_at}
+use Rattle.span_tree.specs.History.{History}
 use Rattle.span_tree.specs.Program as program
 use Rattle.span_tree.specs.Program.{Starts, Block, IsAnswered, IsChild, AloneRun, Begins, Ticks}
 use Rattle.cluster_rules.specs.Histories.{row_number}
-use Rattle.cluster_rules.specs.Lives.{same_frame}
-use Rattle.backer_order.specs.Log as log
 use Rattle.backer_order.specs.Log.{Act, Read, Write, Add, Print, Spawn, Sync, Event, Nothing, Acts, Tick, Drop, TakeUp, OwnFetch, OwnReconcile, Post, Took, End}
 use Rattle.backer_order.specs.Edges.{IsOn}
-use Rattle.determinacy.specs.Replies.{Trace, Reply, by, children, children_after, reply_to, answer_of, behind, state_of, state_at, replies, want_at, Answers, Obeys}
-use Rattle.determinacy.proofs.Rows.{either_bool, same_is, by_acts, given, grew, still, block_grew, block_still}
+use Rattle.determinacy.specs.Replies.{Trace, Reply, by, children, children_after, reply_to, answer_of, behind, state_at, replies, want_at, Answers, Obeys}
+use Rattle.determinacy.proofs.Rows.{either_bool, same_is, given, grew, still, block_grew, block_still}
 use Rattle.determinacy.proofs.Matches.{asked}
-use Rattle.word_order.proofs.Rows.{shown, act_by, acts_before, act_next, number_get}
+use Rattle.word_order.proofs.Rows.{shown, act_by, acts_before, number_get}
 use Rattle.word_order.proofs.Places.{AreRows, number_is}
 use Rattle.trace_rows.proofs.RunAs.{RunAs, row_of_child}
 use Rattle.trace_rows.proofs.Blocks.{returned, block_of, have_returned, spawned_by}
@@ -67,7 +65,8 @@ module _ (starts : Starts) (main : ℕ) (trace : Trace) (obeys : Obeys starts ma
 
   -- so behind this event, which is the frame's
   abbrev RunsBehind : ℕ → Event → List row.Act → Type 0
-  RunsBehind at event acts = Runs acts (block_of starts trace now frames (children_after event (children trace.events at frame))) (serve.after (goes_at at) (answer_of (reply_to event (given starts trace at frame))))
+  RunsBehind at event acts =
+      Runs acts (block_of starts trace now frames (children_after event (children trace.events at frame))) (serve.after (goes_at at) (answer_of (reply_to event (given starts trace at frame))))
 
   own_row : row_number frames frame ≡ number
   own_row = number_is trace.events now frames history rows number frame is_row
@@ -105,7 +104,8 @@ module _ (starts : Starts) (main : ℕ) (trace : Trace) (obeys : Obeys starts ma
     act_step node Sync is want =
         made wanted.Sync (shown frames Sync) (Children (given starts trace at frame)) [] want
         (program.Sync (block_at at) (given starts trace at frame)
-        (have_returned starts main trace obeys now frames at (children trace.events at frame) (omega (arith, inside)) (λ child on. (let it = obeys.joined at node frame child is on in (there child on, it.0, it.1)))))
+        (have_returned starts main trace obeys now frames at (children trace.events at frame) (omega (arith, inside))
+        (λ child on. (let it = obeys.joined at node frame child is on in (there child on, it.0, it.1)))))
       where
         there : (child : FrameId) → IsOn child (children trace.events at frame) → row_number frames child < length frames
         there child on =

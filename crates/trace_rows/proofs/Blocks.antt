@@ -1,15 +1,15 @@
 -- The children of a frame's block, as rows: where they have returned to a Sync, their rows have these values.
-use Rattle.std.proofs.Common.{◌≡◌, ◌⊎◌, inl, inr, ℕ, zero, suc, ◌<◌, ◌≤◌, List, [], ◌∷◌, ◌++◌, Option, Some, None, true, false, refl, sym, ◌∙◌, ap, subst, length, arith}
+use Rattle.std.proofs.Common.{◌≡◌, inl, inr, ℕ, zero, suc, ◌<◌, ◌≤◌, List, [], ◌∷◌, ◌++◌, Option, Some, None, true, refl, sym, ◌∙◌, ap, subst, length, arith}
 use Rattle.std.specs.Prelude.{slice_get, ℤ}
 use Rattle.page_messages.specs.declared.closure.FrameId.{FrameId}
 use Rattle.cilk_meaning.specs.Wants.{Want, Asks, Returns, Traps, Deposit}
 use Rattle.span_tree.specs.Program.{Starts, Block, HaveReturned}
 use Rattle.cluster_rules.specs.Histories.{row_number}
 use Rattle.cluster_rules.specs.Lives as lives
-use Rattle.backer_order.specs.Log.{Act, Read, Write, Add, Print, Spawn, Sync, Event, Nothing, Acts, Tick, Drop, TakeUp, OwnFetch, OwnReconcile, Post, Took, End, Events}
+use Rattle.backer_order.specs.Log.{Read, Write, Add, Print, Spawn, Sync, Event, Nothing, Acts, Tick, Drop, TakeUp, OwnFetch, OwnReconcile, Post, Took, End, Events}
 use Rattle.backer_order.specs.Edges.{IsOn}
-use Rattle.determinacy.specs.Replies.{Trace, by, children, children_after, value_in, deposits, want_of, want_at, SpawnedBefore, Obeys}
-use Rattle.determinacy.proofs.Rows.{either_bool, same_is, by_acts, block_grew, block_still, settled}
+use Rattle.determinacy.specs.Replies.{Trace, by, children, children_after, value_in, deposits, want_of, want_at, Obeys}
+use Rattle.determinacy.proofs.Rows.{either_bool, same_is, block_grew, block_still, settled}
 use Rattle.word_order.proofs.Rows.{number_get}
 
 -- ---- what has returned

@@ -1,5 +1,5 @@
 -- Where main has returned, so has each frame: a frame returns behind the children of its last block, and they behind theirs.
-use Rattle.std.proofs.Common.{◌≡◌, ◌⊎◌, inl, inr, ℕ, zero, suc, ◌<◌, ◌≤◌, List, [], ◌∷◌, Some, true, false, refl, sym, ◌∙◌, ap, subst, arith}
+use Rattle.std.proofs.Common.{◌≡◌, ◌⊎◌, inl, inr, ℕ, zero, suc, ◌<◌, List, Some, true, refl, sym, ◌∙◌, ap, subst, arith}
 use Rattle.std.specs.Prelude.{slice_get, ℤ}
 use Rattle.page_messages.specs.declared.closure.FrameId.{FrameId}
 use Rattle.cilk_meaning.specs.Wants.{Returns}

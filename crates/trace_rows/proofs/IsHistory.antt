@@ -1,5 +1,5 @@
 -- The rows of an execution's frames are a history of its program, and a complete one where main has returned.
-use Rattle.std.proofs.Common.{◌≡◌, ℕ, ◌<◌, ◌≤◌, List, [], Option, Some, None, length, refl, sym, ◌∙◌, ap, subst, arith}
+use Rattle.std.proofs.Common.{◌≡◌, ℕ, ◌<◌, List, Option, Some, None, length, sym, ◌∙◌, ap, subst, arith}
 use Rattle.std.specs.Prelude.{slice_get, slice_index_or, ℤ}
 use Rattle.std.proofs.lemmas.Option.{slice_get-get_or}
 use Rattle.page_messages.specs.declared.closure.FrameId.{FrameId}
@@ -33,7 +33,8 @@ module _ (starts : Starts) (main : ℕ) (trace : Trace) (obeys : Obeys starts ma
   same_run number depth procedure proc arguments args acts made frame one two three alone =
       subst (λ it. AloneRun history values number (starts depth it args) made (block_of starts trace now frames (children trace.events now frame)) (state_at starts trace now frame)) (sym one)
       (subst (λ it. AloneRun history values number (starts depth procedure it) made (block_of starts trace now frames (children trace.events now frame)) (state_at starts trace now frame)) (sym two)
-      (subst (λ it. AloneRun history values number (starts depth procedure arguments) it (block_of starts trace now frames (children trace.events now frame)) (state_at starts trace now frame)) (sym three) alone))
+      (subst (λ it. AloneRun history values number (starts depth procedure arguments) it (block_of starts trace now frames (children trace.events now frame)) (state_at starts trace now frame))
+      (sym three) alone))
 
   is_row_with : (number : ℕ) (frame : FrameId) → slice_get frames number ≡ Some frame → IsRowOf starts history values number
   is_row_with number frame is = record {

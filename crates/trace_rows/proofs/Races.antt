@@ -38,7 +38,8 @@ module _ (events : Events) (now : ℕ) (frames : List FrameId) (history : Histor
 
   writes : (word node at : ℕ) (frame : FrameId) (done : log.Act) → events at ≡ log.Acts node frame done → changes word (shown frames done) ≡ true → IsWriter events node word at
   writes word node at frame (log.Write other value) is it = inl (value, record { frame = frame; is = is ∙ ap (λ one. log.Acts node frame (log.Write one value)) (sym (word_is word other it)) })
-  writes word node at frame (log.Add other old addend) is it = inr (old, record { frame = frame; addend = addend; is = is ∙ ap (λ one. log.Acts node frame (log.Add one old addend)) (sym (word_is word other it)) })
+  writes word node at frame (log.Add other old addend) is it =
+      inr (old, record { frame = frame; addend = addend; is = is ∙ ap (λ one. log.Acts node frame (log.Add one old addend)) (sym (word_is word other it)) })
   writes word node at frame (log.Read other value) is it = absurd cc
   writes word node at frame (log.Print value) is it = absurd cc
   writes word node at frame (log.Spawn child) is it = absurd cc
@@ -79,7 +80,8 @@ module _ (events : Events) (now : ℕ) (frames : List FrameId) (history : Histor
       | Same3 same ↦ (
           let one = is_place events now frames word history rows first in
           let two = is_place events now frames word history rows second in
-          not_parallel_in_row history rows.numbered (its_place word first) (its_place word second) one two (ap (λ (it : Place). it.row) (one_place events now frames word history rows first second same)) parallel)
+          not_parallel_in_row history rows.numbered (its_place word first) (its_place word second) one two
+          (ap (λ (it : Place). it.row) (one_place events now frames word history rows first second same)) parallel)
       | More3 more ↦ ordered word second first (free second.node first.node word second.at first.at more first.inside second.is first.is (turned writer))
           (parallel_is_symmetric history (its_place word first) (its_place word second) parallel)
     ]
@@ -111,12 +113,14 @@ module _ (events : Events) (now : ℕ) (frames : List FrameId) (history : Histor
       let one = act_of events now frames word first in
       let two = act_of events now frames word second in
       let change : (is_change history word (its_place word first) ≡ true) ⊎ (is_change history word (its_place word second) ≡ true) =
-          elim writer [ inl it ↦ inl (is_changed word node first it) | inr it ↦ inr (is_changed word other second it) ] in
+      elim writer [ inl it ↦ inl (is_changed word node first it) | inr it ↦ inr (is_changed word other second it) ] in
       precedes events now frames history rows (its_place word first) (its_place word second) at later
       (stands_at events now frames word history rows first) (stands_at events now frames word history rows second)
-      (is_place events now frames word history rows first) (is_place events now frames word history rows second)
-      (serial at later node other one.frame two.frame one.done two.done less inside one.is two.is, λ parallel. none word (its_place word first) (its_place word second)
-      (record { first = is_accessed events now frames word history rows first; second = is_accessed events now frames word history rows second; change = change; parallel = parallel }))
+      (is_place events now frames word history rows first) (is_place events now frames word history rows second) (
+        serial at later node other one.frame two.frame one.done two.done less inside one.is two.is,
+        λ parallel. none word (its_place word first) (its_place word second)
+            (record { first = is_accessed events now frames word history rows first; second = is_accessed events now frames word history rows second; change = change; parallel = parallel }),
+      )
 
 module _ (starts : Starts) (main : ℕ) (trace : Trace) (obeys : Obeys starts main trace) (now : ℕ) (frames : List FrameId) (history : History)
     (rows : AreRows trace.events now frames history) where

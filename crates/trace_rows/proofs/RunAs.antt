@@ -1,18 +1,18 @@
 -- The rows of a history run what the frames of an execution run: main and each child have their depths.
 use Rattle.std.proofs.Common.{◌≡◌, ℕ, zero, suc, ◌<◌, List, Some, length, refl, sym, ◌∙◌, ap, subst, arith}
-use Rattle.std.specs.Prelude.{slice_get, ℤ}
+use Rattle.std.specs.Prelude.{slice_get}
 use Rattle.std.proofs.lemmas.Option.{slice_get_within}
 use Rattle.page_messages.specs.declared.closure.FrameId.{FrameId}
 use Rattle.span_tree.specs.declared.act.Act.TheVariants as act
 use Rattle.span_tree.specs.declared.act.Place.{Place}
-use Rattle.span_tree.specs.History.{History, IsParent, row_at}
+use Rattle.span_tree.specs.History.{History, row_at}
 use Rattle.span_tree.specs.Program.{Starts, HasDepth, Main, Child}
 use Rattle.span_tree.proofs.Ways.{some_same}
 use Rattle.cluster_rules.specs.Histories.{row_number}
 use Rattle.backer_order.specs.Log.{main_id, Spawn, Acts}
 use Rattle.determinacy.specs.Replies.{Instance, Trace, Obeys}
 use Rattle.word_order.proofs.Rows.{number_get}
-use Rattle.word_order.proofs.Places.{AreRows, act_here, number_is, place_for, stands, spawned_there}
+use Rattle.word_order.proofs.Places.{AreRows, act_here, place_for, stands, spawned_there}
 
 -- A row has the procedure and the arguments of its frame, and `main` has a row.
 pub record RunAs (trace : Trace) (frames : List FrameId) (history : History) : Type 0 where
@@ -63,7 +63,9 @@ module _ (starts : Starts) (main : ℕ) (trace : Trace) (obeys : Obeys starts ma
 
   pub row_of_child : (at node : ℕ) (frame child : FrameId) → at < now → trace.events at ≡ Acts node frame (Spawn child) → Row at frame child
   row_of_child at node frame child inside is =
-      let child_is = rows.numbered.child (place_for trace.events now frames history rows frame at) (row_number frames child) (act_here trace.events now frames history rows at node frame (Spawn child) inside is) in
+      let child_is =
+      rows.numbered.child (place_for trace.events now frames history rows frame at) (row_number frames child)
+      (act_here trace.events now frames history rows at node frame (Spawn child) inside is) in
       record { there = (let less = child_is.0 in let count = rows.count in omega (arith, less, count)); named = child_is.1.named }
 
   module _ (runs : RunAs trace frames history) where

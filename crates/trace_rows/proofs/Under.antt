@@ -59,7 +59,7 @@ module _ (events : Events) (now : ℕ) (frames : List FrameId) (history : Histor
         let inside : at < now = omega (arith, earlier, later) in
         let parent = (rows.numbered.child (its_place frame at) (row_number frames child) (act_here events now frames history rows at node frame (log.Spawn child) inside is)).1 in
         let up : row_of child ≡ row_of frame ++ index frame at ∷ [] =
-            row_way_is history rows.numbered (row_number frames child) (its_place frame at) parent.named ∙ own_way at node frame (log.Spawn child) inside is in
+        row_way_is history rows.numbered (row_number frames child) (its_place frame at) parent.named ∙ own_way at node frame (log.Spawn child) inside is in
         record {
           node = node;
           done = log.Spawn child;
