@@ -1,3 +1,4 @@
 pub mod Extending
 pub mod Logs
 pub mod Sound
+pub mod Synced
