@@ -1,3 +1,4 @@
+pub mod Childless
 pub mod Extending
 pub mod Logs
 pub mod Sound
