@@ -109,14 +109,13 @@ up_to first second (suc now) earlier inside extends = elim (later_or earlier now
 abbrev pub gives : Starts → Trace → ℕ → FrameId → Deposit
 gives starts trace now child = (trace.target child, value_in (want_at starts trace now child))
 
-as_deposit : Option ℕ → ℤ → Deposit
+abbrev pub as_deposit : Option ℕ → ℤ → Deposit
 as_deposit target value = (target, value)
 
 -- a child gives back the same, where it was told the same
 given_same : (starts : Starts) (first second : Trace) (now : ℕ) (child : FrameId) → second.instance child ≡ first.instance child →
     second.target child ≡ first.target child → replies starts second now child ≡ replies starts first now child →
     gives starts second now child ≡ gives starts first now child
-unfolding as_deposit
 given_same starts first second now child instance target told =
     ap (λ i. as_deposit i (value_in (want_at starts second now child))) target
     ∙ ap (λ i. as_deposit (first.target child) (value_in (want_of starts i (replies starts second now child)))) instance

@@ -2,4 +2,5 @@ pub mod Childless
 pub mod Extending
 pub mod Logs
 pub mod Sound
+pub mod Standing
 pub mod Synced
