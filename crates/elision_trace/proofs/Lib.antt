@@ -4,3 +4,4 @@ pub mod Logs
 pub mod Sound
 pub mod Standing
 pub mod Synced
+pub mod Waiting
