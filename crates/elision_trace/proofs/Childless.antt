@@ -54,7 +54,7 @@ pub first_state : (starts : Starts) (trace : Trace) (frame : FrameId) →
 unfolding behind replies
 first_state starts trace frame = refl
 
-first_block : (trace : Trace) (frame : FrameId) → children trace.events 0 frame ≡ []
+pub first_block : (trace : Trace) (frame : FrameId) → children trace.events 0 frame ≡ []
 unfolding children
 first_block trace frame = refl
 

@@ -1,8 +1,10 @@
 pub mod Childless
 pub mod Extending
 pub mod Logs
+pub mod Obeying
 pub mod Service
 pub mod Sound
+pub mod Spawning
 pub mod Standing
 pub mod Synced
 pub mod Waiting

@@ -27,38 +27,38 @@ use Rattle.span_tree.specs.Program.{Starts}
 
 -- ---- items of a row
 
-by_act : (row : ℕ) (act : world.Act) → by (frame_at row) (event_of (world.Acts row act)) ≡ true
+pub by_act : (row : ℕ) (act : world.Act) → by (frame_at row) (event_of (world.Acts row act)) ≡ true
 unfolding by
 by_act row act = same_self (frame_at row)
 
-by_tick : (row : ℕ) → by (frame_at row) (event_of (world.Ticks row)) ≡ true
+pub by_tick : (row : ℕ) → by (frame_at row) (event_of (world.Ticks row)) ≡ true
 unfolding by
 by_tick row = same_self (frame_at row)
 
 -- an event that neither spawns nor syncs, and what its row is told
-record Plain (event : world.Event) (answer : Answer) : Type 0 where
+pub record Plain (event : world.Event) (answer : Answer) : Type 0 where
   no_spawn : (node : ℕ) (parent child : FrameId) → event_of event ≡ log.Acts node parent (Spawn child) → ⊥
   no_sync : (node : ℕ) (parent : FrameId) → event_of event ≡ log.Acts node parent Sync → ⊥
   block : (frames : List FrameId) → children_after (event_of event) frames ≡ frames
   told : (gave : List Deposit) → answer_of (reply_to (event_of event) gave) ≡ answer
 
-plain_read : (row word : ℕ) (value : ℤ) → Plain (world.Acts row (world.Read word value)) (wanted.Value value)
+pub plain_read : (row word : ℕ) (value : ℤ) → Plain (world.Acts row (world.Read word value)) (wanted.Value value)
 unfolding children_after reply_to
 plain_read row word value = record { no_spawn = λ node parent child is. absurd cc; no_sync = λ node parent is. absurd cc; block = λ frames. refl; told = λ gave. refl }
 
-plain_write : (row word : ℕ) (value : ℤ) → Plain (world.Acts row (world.Write word value)) wanted.Done
+pub plain_write : (row word : ℕ) (value : ℤ) → Plain (world.Acts row (world.Write word value)) wanted.Done
 unfolding children_after reply_to
 plain_write row word value = record { no_spawn = λ node parent child is. absurd cc; no_sync = λ node parent is. absurd cc; block = λ frames. refl; told = λ gave. refl }
 
-plain_add : (row word : ℕ) (old addend : ℤ) → Plain (world.Acts row (world.Add word old addend)) (wanted.Value old)
+pub plain_add : (row word : ℕ) (old addend : ℤ) → Plain (world.Acts row (world.Add word old addend)) (wanted.Value old)
 unfolding children_after reply_to
 plain_add row word old addend = record { no_spawn = λ node parent child is. absurd cc; no_sync = λ node parent is. absurd cc; block = λ frames. refl; told = λ gave. refl }
 
-plain_print : (row : ℕ) (value : ℤ) → Plain (world.Acts row (world.Print value)) wanted.Done
+pub plain_print : (row : ℕ) (value : ℤ) → Plain (world.Acts row (world.Print value)) wanted.Done
 unfolding children_after reply_to
 plain_print row value = record { no_spawn = λ node parent child is. absurd cc; no_sync = λ node parent is. absurd cc; block = λ frames. refl; told = λ gave. refl }
 
-plain_tick : (row : ℕ) → Plain (world.Ticks row) wanted.Done
+pub plain_tick : (row : ℕ) → Plain (world.Ticks row) wanted.Done
 unfolding children_after reply_to
 plain_tick row = record { no_spawn = λ node parent child is. absurd cc; no_sync = λ node parent is. absurd cc; block = λ frames. refl; told = λ gave. refl }
 
@@ -70,21 +70,21 @@ sync_told : (row : ℕ) (gave : List Deposit) → answer_of (reply_to (event_of 
 unfolding reply_to
 sync_told row gave = refl
 
-spawn_block : (row child procedure : ℕ) (arguments : List ℤ) (frames : List FrameId) →
+pub spawn_block : (row child procedure : ℕ) (arguments : List ℤ) (frames : List FrameId) →
     children_after (event_of (world.Acts row (world.Spawn child procedure arguments))) frames ≡ frame_at child ∷ frames
 unfolding children_after
 spawn_block row child procedure arguments frames = refl
 
-spawn_told : (row child procedure : ℕ) (arguments : List ℤ) (gave : List Deposit) →
+pub spawn_told : (row child procedure : ℕ) (arguments : List ℤ) (gave : List Deposit) →
     answer_of (reply_to (event_of (world.Acts row (world.Spawn child procedure arguments))) gave) ≡ wanted.Done
 unfolding reply_to
 spawn_told row child procedure arguments gave = refl
 
-spawns_child : (row child procedure : ℕ) (arguments : List ℤ) (node : ℕ) (parent other : FrameId) →
+pub spawns_child : (row child procedure : ℕ) (arguments : List ℤ) (node : ℕ) (parent other : FrameId) →
     event_of (world.Acts row (world.Spawn child procedure arguments)) ≡ log.Acts node parent (Spawn other) → (other ≡ frame_at child) × (parent ≡ frame_at row)
 spawns_child row child procedure arguments node parent other is = (cc, cc)
 
-no_sync_spawn : (row child procedure : ℕ) (arguments : List ℤ) (node : ℕ) (parent : FrameId) →
+pub no_sync_spawn : (row child procedure : ℕ) (arguments : List ℤ) (node : ℕ) (parent : FrameId) →
     event_of (world.Acts row (world.Spawn child procedure arguments)) ≡ log.Acts node parent Sync → ⊥
 no_sync_spawn row child procedure arguments node parent is = cc
 
@@ -109,12 +109,12 @@ module _ (starts : Starts) (main : ℕ) where
     pub waits : AllWait starts (so_far s.world.log) (length s.world.log) s.running.row s.waiting
 
   -- what the running row wants
-  its_want : (s : State) → Good s → (request : Request) → serve.now s.running.goes ≡ Some (Asks request) →
+  pub its_want : (s : State) → Good s → (request : Request) → serve.now s.running.goes ≡ Some (Asks request) →
       want_at starts (so_far s.world.log) (length s.world.log) (frame_at s.running.row) ≡ Some (Asks request)
   its_want s good request is = ap (λ i. serve.now i) (sym good.top.goes) ∙ is
 
   -- the state behind an event of the running row, which goes on with this answer
-  abbrev with_answer : State → world.Event → Answer → List Deposit → (ℕ → ℤ) → State
+  abbrev pub with_answer : State → world.Event → Answer → List Deposit → (ℕ → ℤ) → State
   with_answer s event answer kept memory = record {
     running = answered answer kept s.running;
     waiting = s.waiting;
@@ -144,7 +144,7 @@ module _ (starts : Starts) (main : ℕ) where
         block_moved starts main (so_far s.world.log) (so_far (event ∷ s.world.log)) (length s.world.log) (event_of event) good.sound plain_one (frame_at s.running.row) plain_allowed
         ∙ plain.block (children (events_in s.world.log) (length s.world.log) (frame_at s.running.row))
 
-    plain_step : (memory : ℕ → ℤ) → Good (with_answer s event answer s.running.kept memory)
+    pub plain_step : (memory : ℕ → ℤ) → Good (with_answer s event answer s.running.kept memory)
     plain_step memory = record {
       sound = sound_more starts main (so_far s.world.log) (so_far (event ∷ s.world.log)) (length s.world.log) (event_of event) good.sound plain_one (frame_at s.running.row) plain_allowed;
       numbered = numbered_more starts main (so_far s.world.log) (so_far (event ∷ s.world.log)) (length s.world.log) (event_of event) good.sound plain_one
@@ -179,7 +179,7 @@ module _ (starts : Starts) (main : ℕ) where
       not_main = λ node parent child same other. no_spawn_sync s.running.row node parent child same;
     }
 
-    sync_step : Good (with_answer s sync (wanted.Children s.running.kept) [] s.world.memory)
+    pub sync_step : Good (with_answer s sync (wanted.Children s.running.kept) [] s.world.memory)
     sync_step = record {
       sound = sound_more starts main (so_far s.world.log) (so_far (sync ∷ s.world.log)) (length s.world.log) (event_of sync) good.sound sync_one (frame_at s.running.row) sync_allowed;
       numbered = numbered_more starts main (so_far s.world.log) (so_far (sync ∷ s.world.log)) (length s.world.log) (event_of sync) good.sound sync_one
