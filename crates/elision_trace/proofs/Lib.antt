@@ -1,5 +1,6 @@
 pub mod Childless
 pub mod Extending
+pub mod Lasting
 pub mod Logs
 pub mod Obeying
 pub mod Service
