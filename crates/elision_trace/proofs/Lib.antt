@@ -9,3 +9,4 @@ pub mod Spawning
 pub mod Standing
 pub mod Synced
 pub mod Waiting
+pub mod Reading
