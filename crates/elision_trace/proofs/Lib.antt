@@ -10,3 +10,4 @@ pub mod Standing
 pub mod Synced
 pub mod Waiting
 pub mod Reading
+pub mod Remembering

@@ -23,15 +23,15 @@ use Rattle.elision_trace.specs.Tracing.{frame_at, event_of, events_in}
 use Rattle.page_messages.specs.declared.closure.FrameId.{FrameId}
 use Rattle.span_tree.specs.Program.{Starts}
 
-no_obtains : (node word : ℕ) (value : ℤ) → ObtainsBy Nothing node word value → ⊥
+pub no_obtains : (node word : ℕ) (value : ℤ) → ObtainsBy Nothing node word value → ⊥
 no_obtains node word value (inl read) = let is = read.1 in cc
 no_obtains node word value (inr add) = let is = add.2 in cc
 
 module _ (memory : SharedMemory) where
   -- what an event gives is the word before it, and what it leaves, the word after it
   pub record Steps (event : world.Event) (before behind : ℕ → ℤ) : Type 0 where
-    obtains : (node word : ℕ) (value : ℤ) → ObtainsBy (event_of event) node word value → value ≡ before word
-    words : (word : ℕ) → ((node : ℕ) × LeavesBy memory (event_of event) node word (behind word))
+    pub obtains : (node word : ℕ) (value : ℤ) → ObtainsBy (event_of event) node word value → value ≡ before word
+    pub words : (word : ℕ) → ((node : ℕ) × LeavesBy memory (event_of event) node word (behind word))
         ⊎ (((node : ℕ) (value : ℤ) → LeavesBy memory (event_of event) node word value → ⊥) × (behind word ≡ before word))
 
   pub record Reads (words : ℕ → ℤ) (events : List world.Event) : Type 0 where
@@ -80,7 +80,7 @@ module _ (memory : SharedMemory) where
 
   -- ---- each event
 
-  read_steps : (row word : ℕ) (words : ℕ → ℤ) → Steps (world.Acts row (world.Read word (words word))) words words
+  pub read_steps : (row word : ℕ) (words : ℕ → ℤ) → Steps (world.Acts row (world.Read word (words word))) words words
   read_steps row word words = record { obtains = obtains; words = λ other. inr ((λ node value leaves. quiet node other value leaves), refl) }
     where
       obtains : (node other : ℕ) (value : ℤ) → ObtainsBy (event_of (world.Acts row (world.Read word (words word)))) node other value → value ≡ words other
@@ -92,7 +92,7 @@ module _ (memory : SharedMemory) where
       quiet node other value (inr add) = let is = add.3 in cc
 
   -- an event that touches no word
-  quiet_steps : (event : world.Event) (words : ℕ → ℤ) → ((node word : ℕ) (frame : FrameId) (value : ℤ) → event_of event ≡ log.Acts node frame (log.Read word value) → ⊥) →
+  pub quiet_steps : (event : world.Event) (words : ℕ → ℤ) → ((node word : ℕ) (frame : FrameId) (value : ℤ) → event_of event ≡ log.Acts node frame (log.Read word value) → ⊥) →
       ((node word : ℕ) (frame : FrameId) (value : ℤ) → event_of event ≡ log.Acts node frame (log.Write word value) → ⊥) →
       ((node word : ℕ) (frame : FrameId) (old addend : ℤ) → event_of event ≡ log.Acts node frame (log.Add word old addend) → ⊥) → Steps event words words
   quiet_steps event words no_read no_write no_add = record { obtains = obtains; words = λ other. inr ((λ node value leaves. quiet node other value leaves), refl) }
@@ -105,13 +105,13 @@ module _ (memory : SharedMemory) where
       quiet node other value (inl write) = no_write node other write.0 value write.1
       quiet node other value (inr add) = no_add node other add.0 add.1 add.2 add.3
 
-  word_here : (word other : ℕ) (value : ℤ) (words : ℕ → ℤ) → (other == word) ≡ true → with_word word value words other ≡ value
+  pub word_here : (word other : ℕ) (value : ℤ) (words : ℕ → ℤ) → (other == word) ≡ true → with_word word value words other ≡ value
   word_here word other value words is = ap (λ i. if i then value else words other) is
 
-  word_there : (word other : ℕ) (value : ℤ) (words : ℕ → ℤ) → (other == word) ≡ false → with_word word value words other ≡ words other
+  pub word_there : (word other : ℕ) (value : ℤ) (words : ℕ → ℤ) → (other == word) ≡ false → with_word word value words other ≡ words other
   word_there word other value words is = ap (λ i. if i then value else words other) is
 
-  write_steps : (row word : ℕ) (value : ℤ) (words : ℕ → ℤ) → Steps (world.Acts row (world.Write word value)) words (with_word word value words)
+  pub write_steps : (row word : ℕ) (value : ℤ) (words : ℕ → ℤ) → Steps (world.Acts row (world.Write word value)) words (with_word word value words)
   write_steps row word value words = record { obtains = obtains; words = left }
     where
       event : log.Event
@@ -133,9 +133,9 @@ module _ (memory : SharedMemory) where
         | inr differ ↦ inr ((λ node got. only node other got differ), word_there word other value words differ)
       ]
 
-  sum_fits : (old addend : ℤ) → fits (old +ℤ addend) ≡ true → sum_in old addend ≡ Some (sum_or_old old addend)
+  pub sum_fits : (old addend : ℤ) → fits (old +ℤ addend) ≡ true → sum_in old addend ≡ Some (sum_or_old old addend)
   sum_fits old addend is =
       ap (λ i. if i then Some (old +ℤ addend) else None) is ∙ ap (λ i. Some i) (sym (ap (λ i. if i then old +ℤ addend else old) is))
 
-  sum_lost : (old addend : ℤ) → fits (old +ℤ addend) ≡ false → (sum_in old addend ≡ None) × (sum_or_old old addend ≡ old)
+  pub sum_lost : (old addend : ℤ) → fits (old +ℤ addend) ≡ false → (sum_in old addend ≡ None) × (sum_or_old old addend ≡ old)
   sum_lost old addend is = (ap (λ i. if i then Some (old +ℤ addend) else None) is, ap (λ i. if i then old +ℤ addend else old) is)
