@@ -1,13 +1,15 @@
 pub mod Childless
+pub mod Elisions
 pub mod Extending
+pub mod Items
 pub mod Lasting
 pub mod Logs
 pub mod Obeying
+pub mod Reading
+pub mod Remembering
 pub mod Service
 pub mod Sound
 pub mod Spawning
 pub mod Standing
 pub mod Synced
 pub mod Waiting
-pub mod Reading
-pub mod Remembering
