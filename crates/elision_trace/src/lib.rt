@@ -1,2 +1,6 @@
 //! The serial elision as an execution: its log tells the events of one node, whose positions are the serial order.
 #![tactic(auto)]
+
+mod laws;
+
+pub use laws::{elision_obeys, elision_reads, elision_remembers, elision_returns, elision_ticks};

@@ -1,0 +1,28 @@
+//! Laws of the elision as an execution, each the contract of a function that does nothing.
+
+ghost use Rattle.elision_trace.specs.Laws.{ElisionObeys, ElisionReads, ElisionRemembers, ElisionReturns, ElisionTicks};
+
+/// The elision of a parted program is an execution of it.
+pub fn elision_obeys()
+    ensures { ElisionObeys }
+{}
+
+/// Each read and each add gives the word as it is in the order of positions.
+pub fn elision_reads()
+    ensures { ElisionReads }
+{}
+
+/// The elision leaves in each word its last value.
+pub fn elision_remembers()
+    ensures { ElisionRemembers }
+{}
+
+/// Where the elision finished, `main` has returned.
+pub fn elision_returns()
+    ensures { ElisionReturns }
+{}
+
+/// Each position of the elision is an item, and so a tick.
+pub fn elision_ticks()
+    ensures { ElisionTicks }
+{}
