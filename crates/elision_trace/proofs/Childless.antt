@@ -1,7 +1,7 @@
 -- In a trace whose items answer what their frames want, what has returned has no children, where the program is parted.
-use Rattle.std.proofs.Common.{◌≡◌, ◌⊎◌, inl, inr, ℕ, zero, suc, ℤ, Bool, true, false, List, [], ◌∷◌, Option, Some, refl, sym, ap, ◌∙◌, subst}
+use Rattle.std.proofs.Common.{◌≡◌, inl, inr, ℕ, zero, suc, ℤ, Bool, true, false, List, [], ◌∷◌, Some, refl, sym, ap, ◌∙◌, subst}
 use Rattle.backer_order.specs.Edges.{IsOn}
-use Rattle.backer_order.specs.Log.{Read, Write, Add, Print, Spawn, Sync, Event, Nothing, Acts, Tick, Drop, TakeUp, OwnFetch, OwnReconcile, Post, Took, End}
+use Rattle.backer_order.specs.Log.{Read, Write, Add, Print, Spawn, Sync, Event, Acts, Tick}
 use Rattle.cilk_meaning.specs.Instance.{Limits, Meaning, wants_within}
 use Rattle.cilk_meaning.specs.Parted.{IsParted}
 use Rattle.cilk_meaning.specs.Resolved.{Program}
@@ -10,7 +10,7 @@ use Rattle.cilk_meaning.specs.Wants as wanted
 use Rattle.cilk_meaning.specs.Wants.{Request, Want, Asks, Returns, Deposit, Answer, suits}
 use Rattle.cilk_meaning.proofs.Asks.{out_after}
 use Rattle.determinacy.proofs.Rows.{either_bool, grew, still, block_grew, block_still, given}
-use Rattle.determinacy.specs.Replies.{Trace, Reply, OfAct, answer_of, by, children_after, children, reply_to, behind, state_of, replies, want_at, state_at, Answers}
+use Rattle.determinacy.specs.Replies.{Trace, Reply, answer_of, by, children_after, children, reply_to, behind, state_of, replies, want_at, state_at, Answers}
 use Rattle.elision_trace.proofs.Synced.{CleanAt, Clean, starts_clean}
 use Rattle.page_messages.specs.declared.closure.FrameId.{FrameId}
 use Rattle.span_tree.specs.Program.{Starts}
@@ -64,7 +64,7 @@ pub state_grew : (starts : Starts) (trace : Trace) (at : ℕ) (frame : FrameId) 
 state_grew starts trace at frame is =
     ap (λ i. state_of starts (trace.instance frame) i) (grew starts trace at frame is)
     ∙ behind_more (starts (trace.instance frame).depth (trace.instance frame).procedure (trace.instance frame).arguments)
-      (reply_to (trace.events at) (given starts trace at frame)) (replies starts trace at frame)
+    (reply_to (trace.events at) (given starts trace at frame)) (replies starts trace at frame)
 
 pub state_still : (starts : Starts) (trace : Trace) (at : ℕ) (frame : FrameId) → by frame (trace.events at) ≡ false →
     state_at starts trace (suc at) frame ≡ state_at starts trace at frame
@@ -87,13 +87,13 @@ module _ (most : Limits) (program : Program) (parted : IsParted program) (trace 
     | inr quiet ↦
         let before : Clean count (has_some (children trace.events at frame)) (state_at starts trace at frame) = all_clean at frame count in
         let stated : Clean count (has_some (children trace.events at frame)) (state_at starts trace (suc at) frame) =
-            subst (λ i. Clean count (has_some (children trace.events at frame)) i) (sym (state_still starts trace at frame quiet)) before in
+        subst (λ i. Clean count (has_some (children trace.events at frame)) i) (sym (state_still starts trace at frame quiet)) before in
         subst (λ i. Clean count (has_some i) (state_at starts trace (suc at) frame)) (sym (block_still trace at frame quiet)) stated
     | inl is ↦
         let behind = item_clean trace (trace.events at) count (children trace.events at frame) (state_at starts trace at frame) (given starts trace at frame)
-            (wants at frame is) (all_clean at frame (suc count)) in
+        (wants at frame is) (all_clean at frame (suc count)) in
         let stated : Clean count (has_some (children_after (trace.events at) (children trace.events at frame))) (state_at starts trace (suc at) frame) =
-            subst (λ i. Clean count (has_some (children_after (trace.events at) (children trace.events at frame))) i) (sym (state_grew starts trace at frame is)) behind in
+        subst (λ i. Clean count (has_some (children_after (trace.events at) (children trace.events at frame))) i) (sym (state_grew starts trace at frame is)) behind in
         subst (λ i. Clean count (has_some i) (state_at starts trace (suc at) frame)) (sym (block_grew trace at frame is)) stated
   ]
 
@@ -106,5 +106,5 @@ module _ (most : Limits) (program : Program) (parted : IsParted program) (trace 
   no_children at frame child value returns on =
       let clean : Clean 1 (has_some (children trace.events at frame)) (state_at starts trace at frame) = all_clean at frame 1 in
       let none : CleanAt (Clean 0) (Some (Returns value)) (has_some (children trace.events at frame)) (state_at starts trace at frame) =
-          subst (λ i. CleanAt (Clean 0) i (has_some (children trace.events at frame)) (state_at starts trace at frame)) returns clean in
+      subst (λ i. CleanAt (Clean 0) i (has_some (children trace.events at frame)) (state_at starts trace at frame)) returns clean in
       none_on (children trace.events at frame) child none on

@@ -1,9 +1,8 @@
 -- What holds of services holds of the serial elision.
-use Rattle.std.proofs.Common.{◌≡◌, ℕ, ℤ, sym, ap, ◌∙◌, subst}
+use Rattle.std.proofs.Common.{ℕ, ℤ, sym, subst}
 use Rattle.backer_order.specs.Log.{SharedMemory}
 use Rattle.cilk_meaning.proofs.Elisions.{elision_is_service}
 use Rattle.cilk_meaning.specs.Instance.{Limits, wants_within}
-use Rattle.cilk_meaning.specs.Parted.{IsParted}
 use Rattle.cilk_meaning.specs.Resolved.{Program}
 use Rattle.cilk_meaning.specs.World.{End}
 use Rattle.elision_trace.proofs.Childless.{no_children}
@@ -14,7 +13,6 @@ use Rattle.elision_trace.proofs.Reading.{Reads}
 use Rattle.elision_trace.proofs.Remembering.{service_reads}
 use Rattle.elision_trace.proofs.Sound.{obeys}
 use Rattle.elision_trace.specs.Laws.{end_of, elision_trace, finish_of, Begins, ElisionObeys, ElisionReads, ElisionRemembers, ElisionReturns, ElisionTicks}
-use Rattle.elision_trace.specs.Tracing.{events_in}
 
 module _ (most : Limits) (program : Program) (start : ℕ → ℤ) (budget : ℕ) where
   pub ended : Ended (wants_within most program) program.main (end_of most program start budget)

@@ -1,11 +1,11 @@
 -- A trace that goes on as another does up to a position tells its frames the same up to there.
-use Rattle.std.proofs.Common.{◌≡◌, ℕ, zero, suc, ◌<◌, ◌≤◌, ◌⊎◌, inl, inr, ℤ, Bool, true, false, cond, Option, Some, List, [], ◌∷◌, ◌++◌, refl, sym, ◌∙◌, ap, subst, arith}
+use Rattle.std.proofs.Common.{◌≡◌, ℕ, zero, suc, ◌<◌, ◌≤◌, ◌⊎◌, inl, inr, ℤ, Option, List, [], ◌∷◌, ◌++◌, refl, sym, ◌∙◌, ap, subst, arith}
 use Rattle.backer_order.proofs.Search.{Less3, Same3, More3, compare}
 use Rattle.backer_order.specs.Edges.{IsOn}
-use Rattle.backer_order.specs.Log.{main_id, Act, Read, Write, Add, Print, Spawn, Sync, Event, Nothing, Acts, Tick, Drop, TakeUp, OwnFetch, OwnReconcile, Post, Took, End, Events}
-use Rattle.cilk_meaning.specs.Wants.{Deposit, Returns}
-use Rattle.determinacy.proofs.Rows.{either_bool, when_true, when_false, by_acts, grew, still, block_grew, block_still, given}
-use Rattle.determinacy.specs.Replies.{Instance, Trace, Reply, by, children_after, children, value_in, deposits, reply_to, want_of, replies, want_at, state_of, state_at, SpawnedBefore, Born}
+use Rattle.backer_order.specs.Log.{Read, Write, Add, Print, Spawn, Sync, Event, Nothing, Acts, Tick, Drop, TakeUp, OwnFetch, OwnReconcile, Post, Took, End, Events}
+use Rattle.cilk_meaning.specs.Wants.{Deposit}
+use Rattle.determinacy.proofs.Rows.{either_bool, grew, still, block_grew, block_still, given}
+use Rattle.determinacy.specs.Replies.{Trace, by, children_after, children, value_in, deposits, reply_to, want_of, replies, want_at, state_of, state_at, SpawnedBefore}
 use Rattle.page_messages.specs.declared.closure.FrameId.{FrameId}
 use Rattle.span_tree.specs.Program.{Starts}
 
@@ -72,9 +72,9 @@ module _ (trace : Trace) where
     | inl is ↦
         let behind : IsOn child (children_after (trace.events now) (children trace.events now frame)) = subst (λ i. IsOn child i) (block_grew trace now frame is) on in
         elim (child_or (trace.events now) (children trace.events now frame) child behind) [
-        | inl before ↦ spawned_more trace.events now child (child_spawned now frame child before)
-        | inr spawned ↦ record { at = now; node = spawned.0; parent = spawned.1; before = omega arith; is = spawned.2 }
-      ]
+          | inl before ↦ spawned_more trace.events now child (child_spawned now frame child before)
+          | inr spawned ↦ record { at = now; node = spawned.0; parent = spawned.1; before = omega arith; is = spawned.2 }
+        ]
   ]
 
 -- The second goes on as the first does, up to this position.
@@ -132,13 +132,13 @@ module _ (starts : Starts) (first second : Trace) where
       let here = extends.events now (omega arith) in
       let before = block_same now (shorter first second now extends) frame in
       elim (either_bool (by frame (first.events now))) [
-      | inl is ↦
-          block_grew second now frame (ap (by frame) here ∙ is)
-          ∙ ap (λ i. children_after i (children second.events now frame)) here
-          ∙ ap (λ i. children_after (first.events now) i) before
-          ∙ sym (block_grew first now frame is)
-      | inr quiet ↦ block_still second now frame (ap (by frame) here ∙ quiet) ∙ before ∙ sym (block_still first now frame quiet)
-    ]
+        | inl is ↦
+            block_grew second now frame (ap (by frame) here ∙ is)
+            ∙ ap (λ i. children_after i (children second.events now frame)) here
+            ∙ ap (λ i. children_after (first.events now) i) before
+            ∙ sym (block_grew first now frame is)
+        | inr quiet ↦ block_still second now frame (ap (by frame) here ∙ quiet) ∙ before ∙ sym (block_still first now frame quiet)
+      ]
 
   pub told_same : (now : ℕ) → Extends first second now → (frame : FrameId) → replies starts second now frame ≡ replies starts first now frame
   told_same zero extends frame = none_told starts second frame ∙ sym (none_told starts first frame)
@@ -147,19 +147,19 @@ module _ (starts : Starts) (first second : Trace) where
       let fewer = shorter first second now extends in
       let before = told_same now fewer frame in
       elim (either_bool (by frame (first.events now))) [
-      | inr quiet ↦ still starts second now frame (ap (by frame) here ∙ quiet) ∙ before ∙ sym (still starts first now frame quiet)
-      | inl is ↦
-          grew starts second now frame (ap (by frame) here ∙ is)
-          ∙ ap (λ i. reply_to i (given starts second now frame) ∷ replies starts second now frame) here
-          ∙ ap (λ i. reply_to (first.events now) i ∷ replies starts second now frame)
+        | inr quiet ↦ still starts second now frame (ap (by frame) here ∙ quiet) ∙ before ∙ sym (still starts first now frame quiet)
+        | inl is ↦
+            grew starts second now frame (ap (by frame) here ∙ is)
+            ∙ ap (λ i. reply_to i (given starts second now frame) ∷ replies starts second now frame) here
+            ∙ ap (λ i. reply_to (first.events now) i ∷ replies starts second now frame)
             (ap (deposits (gives starts second now)) (block_same now fewer frame)
             ∙ deposits_same (gives starts second now) (gives starts first now)
-              (children first.events now frame)
-              (λ child on. (let spawned = child_spawned first now frame child on in
-              given_same starts first second now child (fewer.instance child spawned) (fewer.target child spawned) (told_same now fewer child))))
-          ∙ ap (λ i. reply_to (first.events now) (given starts first now frame) ∷ i) before
-          ∙ sym (grew starts first now frame is)
-    ]
+            (children first.events now frame)
+            (λ child on. (let spawned = child_spawned first now frame child on in
+            given_same starts first second now child (fewer.instance child spawned) (fewer.target child spawned) (told_same now fewer child))))
+            ∙ ap (λ i. reply_to (first.events now) (given starts first now frame) ∷ i) before
+            ∙ sym (grew starts first now frame is)
+      ]
 
   pub state_same : (now : ℕ) → Extends first second now → (frame : FrameId) → second.instance frame ≡ first.instance frame →
       state_at starts second now frame ≡ state_at starts first now frame

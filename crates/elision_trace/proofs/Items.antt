@@ -1,7 +1,6 @@
 -- Each event of a log is an item.
-use Rattle.std.proofs.Common.{◌≡◌, ℕ, zero, suc, ◌<◌, ◌≤◌, Bool, true, List, [], ◌∷◌, length, refl, sym, ◌∙◌, ap, arith}
+use Rattle.std.proofs.Common.{◌≡◌, ℕ, zero, suc, ◌<◌, Bool, true, List, [], ◌∷◌, length, refl, ◌∙◌, ap, arith}
 use Rattle.backer_order.proofs.Search.{Less3, Same3, More3, compare}
-use Rattle.backer_order.specs.Log.{Events}
 use Rattle.cilk_meaning.specs.World.{Event, Acts, Ticks}
 use Rattle.determinacy.proofs.Rows.{when_true}
 use Rattle.determinacy.specs.Ending.{count, is_item, all_ticks}

@@ -1,9 +1,9 @@
 -- The last value of a word in the order of positions, with one event more.
-use Rattle.std.proofs.Common.{◌≡◌, ◌≢◌, ℕ, suc, ◌<◌, ◌≤◌, ◌⊎◌, inl, inr, ℤ, Option, Some, refl, sym, ◌∙◌, ap, subst, arith}
+use Rattle.std.proofs.Common.{◌≡◌, ℕ, suc, ◌<◌, ◌⊎◌, inl, inr, ℤ, Some, refl, sym, ◌∙◌, ap, subst, arith}
 use Rattle.backer_order.proofs.Search.{Less3, Same3, More3, compare}
-use Rattle.backer_order.specs.Log.{Read, Write, Add, Event, Nothing, Acts, Events, SharedMemory}
-use Rattle.backer_order.specs.Moments.{NoneBetween, Wrote, HasRead, HasAdd, Obtains, Leaves, OfWrite, OfAdd, IsLeaving}
-use Rattle.determinacy.specs.Serial.{Leaving, LastSerial, NoneSerial, LastOf}
+use Rattle.backer_order.specs.Log.{Read, Write, Add, Event, Acts, Events, SharedMemory}
+use Rattle.backer_order.specs.Moments.{Obtains, Leaves, OfWrite, OfAdd}
+use Rattle.determinacy.specs.Serial.{Leaving, LastOf}
 use Rattle.page_messages.specs.declared.closure.FrameId.{FrameId}
 
 -- what an event gives of a word, and what it leaves there

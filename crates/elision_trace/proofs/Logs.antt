@@ -1,5 +1,5 @@
 -- The trace of a log with one event more is that of the log, with one event more.
-use Rattle.std.proofs.Common.{◌≡◌, ◌≢◌, ℕ, zero, suc, ◌<◌, ◌≤◌, ◌⊎◌, inl, inr, ℤ, Bool, true, false, cond, Option, List, [], ◌∷◌, length, refl, sym, ◌∙◌, ap, subst, arith}
+use Rattle.std.proofs.Common.{◌≡◌, ◌≢◌, ℕ, suc, ◌≤◌, inl, inr, ℤ, true, false, List, [], ◌∷◌, length, refl, sym, ◌∙◌, ap, subst, arith}
 use Rattle.std.proofs.lemmas.Bool.{eqb-true, eqb-false}
 use Rattle.std.specs.Prelude.{◌==◌}
 use Rattle.backer_order.specs.Log as log
@@ -10,7 +10,7 @@ use Rattle.cluster_rules.specs.Lives.{same_frame}
 use Rattle.determinacy.proofs.Rows.{either_bool, when_true, when_false, same_is, same_self}
 use Rattle.determinacy.specs.Replies.{Instance, Trace, want_at, SpawnedBefore}
 use Rattle.elision_trace.proofs.Sound.{OneMore}
-use Rattle.elision_trace.specs.Tracing.{frame_at, event_of, events_in, instance_after, instance_in, target_in_want, target_after, target_in, trace_in}
+use Rattle.elision_trace.specs.Tracing.{frame_at, event_of, events_in, instance_after, instance_in, target_in_want, target_after, trace_in}
 use Rattle.page_messages.specs.declared.closure.FrameId.{FrameId}
 use Rattle.span_tree.specs.Program.{Starts}
 
@@ -91,7 +91,7 @@ module _ (starts : Starts) (main : ℕ) (events : List Event) (event : Event)
   keeps_spawned : (frame : FrameId) → SpawnedBefore (events_in events) (length events) frame → Keeps event frame
   keeps_spawned frame spawned = record {
     other = λ row child procedure arguments is same.
-      (new 0 (frame_at row) (frame_at child) (spawn_is row child procedure arguments event is)).1 (subst (λ i. SpawnedBefore (events_in events) (length events) i) same spawned);
+        (new 0 (frame_at row) (frame_at child) (spawn_is row child procedure arguments event is)).1 (subst (λ i. SpawnedBefore (events_in events) (length events) i) same spawned);
   }
 
   keeps_main : Keeps event main_id

@@ -1,9 +1,7 @@
 -- The trace of a service is sound, and where it finished `main` has returned.
-use Rattle.std.proofs.Common.{◌≡◌, ◌≢◌, ℕ, suc, ◌<◌, ◌≤◌, ◌⊎◌, inl, inr, ℤ, true, Option, Some, List, [], ◌∷◌, length, refl, sym, ◌∙◌, ap, subst, arith}
-use Rattle.backer_order.specs.Edges.{IsOn}
+use Rattle.std.proofs.Common.{◌≡◌, ℕ, ◌<◌, inl, inr, ℤ, true, Some, List, [], ◌∷◌, length, refl, sym, ◌∙◌, ap, subst, arith}
 use Rattle.backer_order.specs.Log.{main_id, Act, Spawn, Sync, Nothing, Acts}
 use Rattle.cilk_meaning.proofs.Keeps.{IsInvariant, serve_keeps}
-use Rattle.cilk_meaning.specs.declared.ends.NodeEnd.{NodeEnd}
 use Rattle.cilk_meaning.specs.declared.ends.NodeEnd.TheVariants.{Finished, Trapped, Budget}
 use Rattle.cilk_meaning.specs.Serve as serve
 use Rattle.cilk_meaning.specs.Serve.{Entry, Parent, State, with_child, served, serve, first_state}
@@ -11,15 +9,15 @@ use Rattle.cilk_meaning.specs.Wants as wanted
 use Rattle.cilk_meaning.specs.Wants.{Request, Asks, Returns}
 use Rattle.cilk_meaning.specs.World as world
 use Rattle.cilk_meaning.specs.World.{World, End}
-use Rattle.determinacy.specs.Replies.{Trace, by, children, want_at, state_at, SpawnedBefore}
+use Rattle.determinacy.specs.Replies.{by, want_at}
 use Rattle.elision_trace.proofs.Childless as childless
 use Rattle.elision_trace.proofs.Extending.{gives, deposits_none}
 use Rattle.elision_trace.proofs.Service.{Good, so_far, its_want, by_act, by_tick, plain_read, plain_write, plain_add, plain_print, plain_tick, plain_step, sync_step}
 use Rattle.elision_trace.proofs.Sound.{Sound}
 use Rattle.elision_trace.proofs.Spawning.{spawn_step}
 use Rattle.elision_trace.proofs.Standing.{Stands}
-use Rattle.elision_trace.proofs.Waiting.{AllWait, stands_again}
-use Rattle.elision_trace.specs.Tracing.{frame_at, event_of, events_in, trace_in}
+use Rattle.elision_trace.proofs.Waiting.{stands_again}
+use Rattle.elision_trace.specs.Tracing.{frame_at, trace_in}
 use Rattle.page_messages.specs.declared.closure.FrameId.{FrameId}
 use Rattle.span_tree.specs.Program.{Starts}
 
@@ -122,7 +120,6 @@ module _ (starts : Starts) (main : ℕ) where
   pub record Ended (e : End) : Type 0 where
     pub sound : Sound starts main (so_far starts main e.world.log) (length e.world.log)
     pub finished : e.end ≡ Finished → (value : ℤ) × (want_at starts (so_far starts main e.world.log) (length e.world.log) main_id ≡ Some (Returns value))
-
 
   finished_good : (entry : Entry) (value : ℤ) (made : World) → serve.now entry.goes ≡ Some (Returns value) → Good starts main (state entry [] made) →
       Ended (record { end = Finished; world = made })

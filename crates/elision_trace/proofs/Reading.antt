@@ -1,27 +1,21 @@
 -- The service reads the last value of each word, and leaves it in memory.
-use Rattle.std.proofs.Common.{◌≡◌, ◌≢◌, ℕ, suc, ◌<◌, ◌≤◌, ◌⊎◌, inl, inr, ℤ, Bool, true, false, Option, Some, None, List, [], ◌∷◌, length, refl, sym, ◌∙◌, ap, subst, arith}
+use Rattle.std.proofs.Common.{◌≡◌, ℕ, suc, ◌<◌, ◌≤◌, ◌⊎◌, inl, inr, ℤ, true, false, Some, None, List, ◌∷◌, length, refl, sym, ◌∙◌, ap, subst, arith}
 use Rattle.std.proofs.lemmas.Bool.{eqb-true, eqb-false}
 use Rattle.std.specs.Prelude.{◌==◌, ◌+ℤ◌, if◌then◌else◌}
 use Rattle.backer_order.proofs.Search.{Less3, Same3, More3, compare}
 use Rattle.backer_order.specs.Log as log
 use Rattle.backer_order.specs.Log.{Nothing, Events, SharedMemory}
-use Rattle.backer_order.specs.Moments.{Obtains, IsLeaving}
-use Rattle.cilk_meaning.proofs.Keeps.{IsInvariant, serve_keeps}
-use Rattle.cilk_meaning.specs.Instance.{Meaning}
-use Rattle.cilk_meaning.specs.Serve.{Entry, Parent, State, served, serve, first_state}
+use Rattle.backer_order.specs.Moments.{Obtains}
 use Rattle.cilk_meaning.specs.Values.{fits}
-use Rattle.cilk_meaning.specs.Wants as wanted
-use Rattle.cilk_meaning.specs.Wants.{Request}
 use Rattle.cilk_meaning.specs.World as world
 use Rattle.cilk_meaning.specs.World.{World, End, with_word, sum_or_old}
 use Rattle.cluster_rules.specs.Home.{sum_in}
 use Rattle.determinacy.proofs.Rows.{either_bool}
-use Rattle.determinacy.specs.Serial.{Leaving, LastOf, SerialReads}
+use Rattle.determinacy.specs.Serial.{LastOf, SerialReads}
 use Rattle.elision_trace.proofs.Lasting.{ObtainsBy, LeavesBy, obtains_by, leaves_by, leaves_from, last_same, last_quiet, last_here, obtains_from}
 use Rattle.elision_trace.proofs.Logs.{event_here, event_there, nothing_from}
 use Rattle.elision_trace.specs.Tracing.{frame_at, event_of, events_in}
 use Rattle.page_messages.specs.declared.closure.FrameId.{FrameId}
-use Rattle.span_tree.specs.Program.{Starts}
 
 pub no_obtains : (node word : ℕ) (value : ℤ) → ObtainsBy Nothing node word value → ⊥
 no_obtains node word value (inl read) = let is = read.1 in cc
@@ -52,24 +46,26 @@ module _ (memory : SharedMemory) where
           (leaves_from memory (events_in (event ∷ events)) (length events) (event_of event) left.0 word (behind word) (event_here event events) left.1)
       | inr quiet ↦
           let same : LastOf (events_in (event ∷ events)) memory word (length events) (before word) =
-              last_same memory (events_in events) (events_in (event ∷ events)) word (length events) (before word) agrees (reads.holds word) in
+          last_same memory (events_in events) (events_in (event ∷ events)) word (length events) (before word) agrees (reads.holds word) in
           subst (λ i. LastOf (events_in (event ∷ events)) memory word (suc (length events)) i) (sym quiet.1)
           (last_quiet memory (events_in (event ∷ events)) word (length events) (before word)
-            (λ leaving. quiet.0 leaving.0 leaving.1.0 (leaves_by memory (events_in (event ∷ events)) (length events) (event_of event) leaving.0 word leaving.1.0 (event_here event events) leaving.1.1))
-            same)
+          (λ leaving. quiet.0 leaving.0 leaving.1.0
+          (leaves_by memory (events_in (event ∷ events)) (length events) (event_of event) leaving.0 word leaving.1.0 (event_here event events) leaving.1.1))
+          same)
     ]
 
     reads_more : (before behind : ℕ → ℤ) → Reads before events → Steps event before behind → SerialReads (events_in (event ∷ events)) memory
     reads_more before behind reads steps node word at value obtains = elim (compare at (length events)) [
       | Less3 l ↦
           let old : Obtains (events_in events) node word at value =
-              obtains_from (events_in events) at (events_in events at) node word value refl (obtains_by (events_in (event ∷ events)) at (events_in events at) node word value (agrees at l) obtains) in
+          obtains_from (events_in events) at (events_in events at) node word value refl
+          (obtains_by (events_in (event ∷ events)) at (events_in events at) node word value (agrees at l) obtains) in
           last_same memory (events_in events) (events_in (event ∷ events)) word at value (λ i below. agrees_below at i (omega arith) below) (reads.reads node word at value old)
       | Same3 same ↦
           let now : Obtains (events_in (event ∷ events)) node word (length events) value = subst (λ i. Obtains (events_in (event ∷ events)) node word i value) same obtains in
           let is = steps.obtains node word value (obtains_by (events_in (event ∷ events)) (length events) (event_of event) node word value (event_here event events) now) in
           let here : LastOf (events_in (event ∷ events)) memory word (length events) (before word) =
-              last_same memory (events_in events) (events_in (event ∷ events)) word (length events) (before word) agrees (reads.holds word) in
+          last_same memory (events_in events) (events_in (event ∷ events)) word (length events) (before word) agrees (reads.holds word) in
           let its : LastOf (events_in (event ∷ events)) memory word (length events) value = subst (λ i. LastOf (events_in (event ∷ events)) memory word (length events) i) (sym is) here in
           subst (λ i. LastOf (events_in (event ∷ events)) memory word i value) (sym same) its
       | More3 l ↦ absurd (no_obtains node word value (obtains_by (events_in (event ∷ events)) at Nothing node word value (nothing_from (event ∷ events) at (omega arith)) obtains))
@@ -128,8 +124,14 @@ module _ (memory : SharedMemory) where
       left : (other : ℕ) → ((node : ℕ) × LeavesBy memory (event_of (world.Acts row (world.Write word value))) node other (with_word word value words other))
           ⊎ (((node : ℕ) (got : ℤ) → LeavesBy memory (event_of (world.Acts row (world.Write word value))) node other got → ⊥) × (with_word word value words other ≡ words other))
       left other = elim (either_bool (other == word)) [
-        | inl is ↦ inl (0, inl (frame_at row, ap (λ i. log.Acts 0 (frame_at row) (log.Write i value)) (sym (eqb-true other word is))
-            ∙ ap (λ i. log.Acts 0 (frame_at row) (log.Write other i)) (sym (word_here word other value words is))))
+        | inl is ↦ inl (
+          0,
+          inl (
+            frame_at row,
+            ap (λ i. log.Acts 0 (frame_at row) (log.Write i value)) (sym (eqb-true other word is))
+                ∙ ap (λ i. log.Acts 0 (frame_at row) (log.Write other i)) (sym (word_here word other value words is)),
+          ),
+        )
         | inr differ ↦ inr ((λ node got. only node other got differ), word_there word other value words differ)
       ]
 

@@ -1,10 +1,9 @@
 -- Each read of a service gives the last value of its word, and its memory holds the last values at the end.
-use Rattle.std.proofs.Common.{◌≡◌, ℕ, zero, suc, ◌<◌, ◌⊎◌, inl, inr, ℤ, Bool, true, false, Option, Some, None, List, [], ◌∷◌, length, refl, sym, ◌∙◌, ap, subst, arith}
+use Rattle.std.proofs.Common.{◌≡◌, ℕ, zero, ◌<◌, ◌⊎◌, inl, inr, ℤ, true, false, Some, None, List, [], refl, sym, ◌∙◌, ap, arith}
 use Rattle.std.proofs.lemmas.Bool.{eqb-true, eqb-false}
 use Rattle.std.specs.Prelude.{◌==◌, ◌+ℤ◌}
 use Rattle.backer_order.specs.Log as log
 use Rattle.backer_order.specs.Log.{Nothing, Event, SharedMemory}
-use Rattle.backer_order.specs.Moments.{Obtains}
 use Rattle.cilk_meaning.proofs.Keeps.{IsInvariant, serve_keeps}
 use Rattle.cilk_meaning.specs.Serve.{State, served, serve, first_state}
 use Rattle.cilk_meaning.specs.Values.{fits}
@@ -55,11 +54,20 @@ module _ (memory : SharedMemory) (sums : (old addend : ℤ) → memory.sum old a
         ⊎ (((node : ℕ) (value : ℤ) → LeavesBy memory event node other value → ⊥) × (behind other ≡ words other))
 
     left_here : (other : ℕ) → (other == word) ≡ true → (is_fit : (fits (words word +ℤ addend) ≡ true) ⊎ (fits (words word +ℤ addend) ≡ false)) → Left other
-    left_here other is (inl fit) = inl (0, inr (frame_at row, words word, addend,
+    left_here other is (inl fit) = inl (
+      0,
+      inr (
+        frame_at row,
+        words word,
+        addend,
         ap (λ i. log.Acts 0 (frame_at row) (log.Add i (words word) addend)) (sym (eqb-true other word is)),
-        sums (words word) addend ∙ sum_fits memory (words word) addend fit ∙ ap (λ i. Some i) (sym (word_here memory word other (sum_or_old (words word) addend) words is))))
-    left_here other is (inr lost) = inr ((λ node value. no_sum lost other node value),
-        word_here memory word other (sum_or_old (words word) addend) words is ∙ (sum_lost memory (words word) addend lost).1 ∙ ap words (sym (eqb-true other word is)))
+        sums (words word) addend ∙ sum_fits memory (words word) addend fit ∙ ap (λ i. Some i) (sym (word_here memory word other (sum_or_old (words word) addend) words is)),
+      ),
+    )
+    left_here other is (inr lost) = inr (
+      (λ node value. no_sum lost other node value),
+      word_here memory word other (sum_or_old (words word) addend) words is ∙ (sum_lost memory (words word) addend lost).1 ∙ ap words (sym (eqb-true other word is)),
+    )
 
     left : (other : ℕ) → Left other
     left other = elim (either_bool (other == word)) [
@@ -131,4 +139,5 @@ module _ (memory : SharedMemory) (sums : (old addend : ℤ) → memory.sum old a
     pub service_reads : (words : ℕ → ℤ) → ((word : ℕ) → memory.start word ≡ words word) → (budget : ℕ) →
         Reads memory (serve starts budget (first_state starts main words)).world.memory (serve starts budget (first_state starts main words)).world.log
     service_reads words start budget =
-        serve_keeps starts (λ left s. Reads memory s.world.memory s.world.log) (λ e. Reads memory e.world.memory e.world.log) reads_kept budget (first_state starts main words) (first_reads words start)
+        serve_keeps starts (λ left s. Reads memory s.world.memory s.world.log) (λ e. Reads memory e.world.memory e.world.log) reads_kept
+        budget (first_state starts main words) (first_reads words start)

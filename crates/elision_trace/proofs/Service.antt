@@ -1,12 +1,8 @@
 -- The service makes a sound trace: an induction along it.
-use Rattle.std.proofs.Common.{◌≡◌, ◌≢◌, ℕ, suc, ◌<◌, ◌≤◌, ◌⊎◌, inl, inr, ℤ, true, Option, Some, List, [], ◌∷◌, length, refl, sym, ◌∙◌, ap, subst, arith}
+use Rattle.std.proofs.Common.{◌≡◌, ℕ, suc, ◌<◌, ℤ, true, Some, List, [], ◌∷◌, length, refl, sym, ◌∙◌, ap, subst, arith}
 use Rattle.backer_order.specs.Edges.{IsOn}
 use Rattle.backer_order.specs.Log as log
 use Rattle.backer_order.specs.Log.{main_id, Spawn, Sync, Nothing}
-use Rattle.cilk_meaning.proofs.Keeps.{IsInvariant, serve_keeps}
-use Rattle.cilk_meaning.specs.declared.ends.NodeEnd.{NodeEnd}
-use Rattle.cilk_meaning.specs.declared.ends.NodeEnd.TheVariants.{Finished, Trapped, Budget}
-use Rattle.cilk_meaning.specs.declared.ends.TrapKind.{TrapKind}
 use Rattle.cilk_meaning.specs.Serve as serve
 use Rattle.cilk_meaning.specs.Serve.{Entry, Parent, State, answered, with_child, served, first_state}
 use Rattle.cilk_meaning.specs.Wants as wanted
@@ -14,14 +10,13 @@ use Rattle.cilk_meaning.specs.Wants.{Request, Want, Asks, Returns, Deposit, Answ
 use Rattle.cilk_meaning.specs.World as world
 use Rattle.cilk_meaning.specs.World.{World, End}
 use Rattle.determinacy.proofs.Rows.{same_self}
-use Rattle.determinacy.specs.Replies.{Instance, Trace, answer_of, by, children_after, children, deposits, reply_to, replies, want_of, want_at, state_at, Answers, SpawnedBefore, Born}
-use Rattle.elision_trace.proofs.Childless as childless
-use Rattle.elision_trace.proofs.Extending.{gives, deposits_none}
-use Rattle.elision_trace.proofs.Logs.{child_instance, child_target, one_more}
+use Rattle.determinacy.specs.Replies.{Trace, answer_of, by, children_after, children, deposits, reply_to, want_at, Answers}
+use Rattle.elision_trace.proofs.Extending.{gives}
+use Rattle.elision_trace.proofs.Logs.{one_more}
 use Rattle.elision_trace.proofs.Sound.{Sound, OneMore, Allowed, sound_more}
-use Rattle.elision_trace.proofs.Standing.{Stands, unborn, block_moved, stands_acted, stands_synced}
-use Rattle.elision_trace.proofs.Waiting.{Waits, AllWait, IsRow, Numbered, same_row, wait_still, numbered_more, stands_again}
-use Rattle.elision_trace.specs.Tracing.{frame_at, act_of, event_of, events_in, instance_in, target_in_want, trace_in}
+use Rattle.elision_trace.proofs.Standing.{Stands, block_moved, stands_acted, stands_synced}
+use Rattle.elision_trace.proofs.Waiting.{AllWait, Numbered, wait_still, numbered_more}
+use Rattle.elision_trace.specs.Tracing.{frame_at, event_of, events_in, trace_in}
 use Rattle.page_messages.specs.declared.closure.FrameId.{FrameId}
 use Rattle.span_tree.specs.Program.{Starts}
 
@@ -151,8 +146,8 @@ module _ (starts : Starts) (main : ℕ) where
           s.world.rows s.world.rows (omega arith) good.numbered (λ node parent child is. absurd (plain.no_spawn node parent child is));
       below = good.below;
       top =
-        subst (λ i. Stands starts (so_far (event ∷ s.world.log)) (suc (length s.world.log)) (answered answer s.running.kept s.running) (length s.waiting) i) (sym plain_block)
-        (stands_acted starts main (so_far s.world.log) (so_far (event ∷ s.world.log)) (length s.world.log) (event_of event) good.sound plain_one s.running (length s.waiting)
+          subst (λ i. Stands starts (so_far (event ∷ s.world.log)) (suc (length s.world.log)) (answered answer s.running.kept s.running) (length s.waiting) i) (sym plain_block)
+          (stands_acted starts main (so_far s.world.log) (so_far (event ∷ s.world.log)) (length s.world.log) (event_of event) good.sound plain_one s.running (length s.waiting)
           plain_allowed answer (plain.told _) (children (events_in s.world.log) (length s.world.log) (frame_at s.running.row)) good.top);
       waits = wait_still starts main (so_far s.world.log) (so_far (event ∷ s.world.log)) (length s.world.log) (event_of event) good.sound plain_one s.running.row plain_allowed
           s.running.row s.waiting (omega arith) good.waits;
@@ -173,7 +168,7 @@ module _ (starts : Starts) (main : ℕ) where
       born = good.top.born;
       answers = its_want s good wanted.Sync is;
       joined = λ node parent child same on. good.top.returned child
-        (subst (λ i. IsOn child (children (events_in s.world.log) (length s.world.log) i)) (syncs_row s.running.row node parent same) on);
+          (subst (λ i. IsOn child (children (events_in s.world.log) (length s.world.log) i)) (syncs_row s.running.row node parent same) on);
       deeper = λ node parent child same. absurd (no_spawn_sync s.running.row node parent child same);
       fresh = λ node parent child same spawned. no_spawn_sync s.running.row node parent child same;
       not_main = λ node parent child same other. no_spawn_sync s.running.row node parent child same;
@@ -186,10 +181,10 @@ module _ (starts : Starts) (main : ℕ) where
           s.world.rows s.world.rows (omega arith) good.numbered (λ node parent child same. absurd (no_spawn_sync s.running.row node parent child same));
       below = good.below;
       top =
-        subst (λ i. Stands starts (so_far (sync ∷ s.world.log)) (suc (length s.world.log)) (answered (wanted.Children s.running.kept) [] s.running) (length s.waiting) i)
-        (sym (block_moved starts main (so_far s.world.log) (so_far (sync ∷ s.world.log)) (length s.world.log) (event_of sync) good.sound sync_one (frame_at s.running.row) sync_allowed
+          subst (λ i. Stands starts (so_far (sync ∷ s.world.log)) (suc (length s.world.log)) (answered (wanted.Children s.running.kept) [] s.running) (length s.waiting) i)
+          (sym (block_moved starts main (so_far s.world.log) (so_far (sync ∷ s.world.log)) (length s.world.log) (event_of sync) good.sound sync_one (frame_at s.running.row) sync_allowed
           ∙ sync_block s.running.row (children (events_in s.world.log) (length s.world.log) (frame_at s.running.row))))
-        (stands_synced starts main (so_far s.world.log) (so_far (sync ∷ s.world.log)) (length s.world.log) (event_of sync) good.sound sync_one s.running (length s.waiting)
+          (stands_synced starts main (so_far s.world.log) (so_far (sync ∷ s.world.log)) (length s.world.log) (event_of sync) good.sound sync_one s.running (length s.waiting)
           sync_allowed (wanted.Children s.running.kept)
           (sync_told s.running.row (deposits (gives starts (so_far s.world.log) (length s.world.log)) (children (events_in s.world.log) (length s.world.log) (frame_at s.running.row)))
           ∙ ap (λ i. wanted.Children i) (sym good.top.kept))

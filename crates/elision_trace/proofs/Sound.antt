@@ -1,5 +1,5 @@
 -- A sound trace stays so with one item more that answers what its frame wants.
-use Rattle.std.proofs.Common.{◌≡◌, ◌≢◌, ℕ, suc, ◌<◌, ◌≤◌, ◌⊎◌, inl, inr, ℤ, true, Option, Some, [], List, refl, sym, ◌∙◌, ap, subst, arith}
+use Rattle.std.proofs.Common.{◌≡◌, ◌≢◌, ℕ, suc, ◌<◌, ◌≤◌, ◌⊎◌, inl, inr, ℤ, true, Option, Some, [], refl, sym, ◌∙◌, ap, subst, arith}
 use Rattle.backer_order.proofs.Search.{Less3, Same3, More3, compare}
 use Rattle.backer_order.specs.Edges.{IsOn}
 use Rattle.backer_order.specs.Log.{main_id, Act, Read, Write, Add, Print, Spawn, Sync, Event, Nothing, Acts, Tick}
@@ -135,7 +135,7 @@ module _ (starts : Starts) (main : ℕ) (trace more : Trace) (now : ℕ) (event 
       | inl old ↦ subst (λ i. Answers more i (want_at starts more at actor)) (sym (one.extends.events at old.0)) (wants_old at actor old.0 old.1)
       | inr new ↦
           let want : want_at starts more now frame ≡ want_at starts trace now frame =
-              want_same starts trace more now one.extends frame (instance_born frame allowed.born) in
+          want_same starts trace more now one.extends frame (instance_born frame allowed.born) in
           let answers : Answers more event (want_at starts more now frame) = subst (λ i. Answers more event i) (sym want) allowed.answers in
           let there : Answers more (more.events now) (want_at starts more now frame) = subst (λ i. Answers more i (want_at starts more now frame)) (sym one.here) answers in
           let actor_there : Answers more (more.events now) (want_at starts more now actor) = subst (λ i. Answers more (more.events now) (want_at starts more now i)) (sym new.1) there in
@@ -190,7 +190,7 @@ module _ (starts : Starts) (main : ℕ) (trace more : Trace) (now : ℕ) (event 
         (value : ℤ) × (want_at starts more at child ≡ Some (Returns value))
     joined_there at actor child inside on returned =
         let there : IsOn child (children trace.events at actor) =
-            subst (λ i. IsOn child i) (block_same starts trace more at (up_to trace more now at inside one.extends) actor) on in
+        subst (λ i. IsOn child i) (block_same starts trace more at (up_to trace more now at inside one.extends) actor) on in
         let value = returned there in (value.0, child_wants at actor child inside there ∙ value.1)
 
     joined : (at node : ℕ) (actor child : FrameId) → more.events at ≡ Acts node actor Sync → IsOn child (children more.events at actor) →
@@ -221,6 +221,12 @@ pub obeys : (starts : Starts) (main : ℕ) (trace : Trace) (now : ℕ) → Sound
     ((now : ℕ) (frame child : FrameId) (value : ℤ) → want_at starts trace now frame ≡ Some (Returns value) → IsOn child (children trace.events now frame) → ⊥) →
     Obeys starts main trace
 obeys starts main trace now sound none = record {
-  main_is = sound.main_is; wants = sound.wants; deeper = sound.deeper; fresh = sound.fresh; not_main = sound.not_main; born = sound.born;
-  joined = sound.joined; no_children = none;
+  main_is = sound.main_is;
+  wants = sound.wants;
+  deeper = sound.deeper;
+  fresh = sound.fresh;
+  not_main = sound.not_main;
+  born = sound.born;
+  joined = sound.joined;
+  no_children = none;
 }

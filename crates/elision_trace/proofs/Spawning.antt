@@ -1,8 +1,7 @@
 -- A spawn in the service: the child stands for a frame that was told nothing, and its parent waits for it.
-use Rattle.std.proofs.Common.{◌≡◌, ◌≢◌, ℕ, suc, ◌<◌, ◌≤◌, ◌⊎◌, inl, inr, ℤ, Option, Some, List, [], ◌∷◌, length, refl, sym, ◌∙◌, ap, subst, arith}
+use Rattle.std.proofs.Common.{◌≡◌, ◌≢◌, ℕ, suc, inr, ℤ, Option, Some, List, [], ◌∷◌, length, sym, ◌∙◌, ap, subst, arith}
 use Rattle.backer_order.specs.Log as log
 use Rattle.backer_order.specs.Log.{main_id, Spawn}
-use Rattle.cilk_meaning.specs.Instance.{Meaning}
 use Rattle.cilk_meaning.specs.Serve as serve
 use Rattle.cilk_meaning.specs.Serve.{Entry, Parent, State, answered, served}
 use Rattle.cilk_meaning.specs.Wants as wanted
@@ -17,7 +16,7 @@ use Rattle.elision_trace.proofs.Service.{Good, so_far, its_want, by_act, spawn_b
 use Rattle.elision_trace.proofs.Sound.{Sound, OneMore, Allowed, sound_more}
 use Rattle.elision_trace.proofs.Standing.{Stands, unborn, block_moved, stands_acted}
 use Rattle.elision_trace.proofs.Waiting.{Waits, IsRow, same_row, wait_still, numbered_more}
-use Rattle.elision_trace.specs.Tracing.{frame_at, event_of, events_in, instance_in, target_in, target_in_want}
+use Rattle.elision_trace.specs.Tracing.{frame_at, event_of, events_in, instance_in, target_in_want}
 use Rattle.page_messages.specs.declared.closure.FrameId.{FrameId}
 use Rattle.span_tree.specs.Program.{Starts}
 
@@ -137,8 +136,8 @@ module _ (starts : Starts) (main : ℕ) (s : State) (good : Good starts main s) 
         (spawn_told s.running.row s.world.rows procedure arguments (given starts before at runner))
         (children (events_in s.world.log) at runner) good.top;
     has_children =
-      block_moved starts main before behind at (event_of spawn) good.sound one runner allowed
-      ∙ spawn_block s.running.row s.world.rows procedure arguments (children (events_in s.world.log) at runner);
+        block_moved starts main before behind at (event_of spawn) good.sound one runner allowed
+        ∙ spawn_block s.running.row s.world.rows procedure arguments (children (events_in s.world.log) at runner);
     target = sym target_there;
     before = good.below;
   }

@@ -1,15 +1,15 @@
 -- An entry of the service stands for a frame of the trace: what it goes on with is the frame's state, and what it keeps is what the
 -- children of its block gave back. One item more keeps that.
-use Rattle.std.proofs.Common.{◌≡◌, ◌≢◌, ℕ, zero, suc, ◌<◌, ◌≤◌, ◌⊎◌, inl, inr, ℤ, Bool, true, false, Option, Some, List, [], ◌∷◌, length, refl, sym, ◌∙◌, ap, subst, arith}
+use Rattle.std.proofs.Common.{◌≡◌, ◌≢◌, ℕ, suc, inl, inr, ℤ, true, false, Some, List, [], sym, ◌∙◌, ap, subst, arith}
 use Rattle.backer_order.specs.Edges.{IsOn}
-use Rattle.backer_order.specs.Log.{main_id, Spawn, Event, Nothing, Acts}
+use Rattle.backer_order.specs.Log.{Spawn, Event, Nothing, Acts}
 use Rattle.cilk_meaning.specs.Serve as serve
 use Rattle.cilk_meaning.specs.Serve.{Entry, Parent, after, answered}
-use Rattle.cilk_meaning.specs.Wants.{Want, Asks, Returns, Deposit, Answer}
-use Rattle.determinacy.proofs.Rows.{either_bool, by_acts, by_one, block_grew, block_still, given, Unchanged, unchanged, answers_no_return}
-use Rattle.determinacy.specs.Replies.{Trace, answer_of, by, children_after, children, value_in, deposits, reply_to, want_of, replies, want_at, state_at, Answers, SpawnedBefore, Born}
+use Rattle.cilk_meaning.specs.Wants.{Returns, Answer}
+use Rattle.determinacy.proofs.Rows.{either_bool, by_one, block_grew, block_still, given, Unchanged, unchanged, answers_no_return}
+use Rattle.determinacy.specs.Replies.{Trace, answer_of, by, children_after, children, value_in, deposits, reply_to, want_at, state_at, Answers, SpawnedBefore, Born}
 use Rattle.elision_trace.proofs.Childless.{state_grew, state_still}
-use Rattle.elision_trace.proofs.Extending.{gives, as_deposit, deposits_none, deposits_same, child_spawned, block_same, state_same, told_same}
+use Rattle.elision_trace.proofs.Extending.{gives, as_deposit, deposits_none, deposits_same, child_spawned, block_same, state_same}
 use Rattle.elision_trace.proofs.Sound.{Sound, OneMore, Allowed, instance_born}
 use Rattle.elision_trace.specs.Tracing.{frame_at}
 use Rattle.page_messages.specs.declared.closure.FrameId.{FrameId}
@@ -33,9 +33,9 @@ pub unborn : (starts : Starts) (main : ℕ) (trace : Trace) (now at node : ℕ) 
     trace.events at ≡ Acts node parent (Spawn child) → Unchanged starts trace child 0 (suc at)
 unborn starts main trace now at node parent child sound is =
     unchanged starts trace child 0 (suc at) (omega arith) (λ later from to acts. elim (sound.born later child acts) [
-    | inl of_main ↦ sound.not_main at node parent child is of_main
-    | inr born ↦ let same = sound.fresh at born.at node born.node parent born.parent child is born.is in absurd (omega (arith, born.before))
-  ])
+      | inl of_main ↦ sound.not_main at node parent child is of_main
+      | inr born ↦ let same = sound.fresh at born.at node born.node parent born.parent child is born.is in absurd (omega (arith, born.before))
+    ])
 
 module _ (starts : Starts) (main : ℕ) (trace more : Trace) (now : ℕ) (event : Event) (sound : Sound starts main trace now) (one : OneMore trace more now event) where
   -- ---- frames that do not act
@@ -76,7 +76,10 @@ module _ (starts : Starts) (main : ℕ) (trace more : Trace) (now : ℕ) (event 
 
     spawned_on : (child : FrameId) → SpawnedBefore trace.events now child → SpawnedBefore more.events (suc now) child
     spawned_on child spawned = record {
-      at = spawned.at; node = spawned.node; parent = spawned.parent; before = omega (arith, spawned.before);
+      at = spawned.at;
+      node = spawned.node;
+      parent = spawned.parent;
+      before = omega (arith, spawned.before);
       is = one.extends.events spawned.at spawned.before ∙ spawned.is;
     }
 
@@ -129,7 +132,7 @@ module _ (starts : Starts) (main : ℕ) (trace more : Trace) (now : ℕ) (event 
     state_moved =
         state_grew starts more now runner (ap (by runner) one.here ∙ allowed.is)
         ∙ ap (λ i. after i (answer_of (reply_to (more.events now) (given starts more now runner))))
-          (state_same starts trace more now one.extends runner (instance_born starts main trace more now event sound one runner allowed.born))
+        (state_same starts trace more now one.extends runner (instance_born starts main trace more now event sound one runner allowed.born))
         ∙ ap (λ i. after (state_at starts trace now runner) (answer_of (reply_to i (given starts more now runner)))) one.here
         ∙ ap (λ i. after (state_at starts trace now runner) (answer_of (reply_to event i))) given_now
 

@@ -1,11 +1,10 @@
 -- The parents of the running instance wait for their children, in the trace of the log.
-use Rattle.std.proofs.Common.{◌≡◌, ◌≢◌, ℕ, suc, ◌<◌, ◌≤◌, ◌⊎◌, inl, inr, ℤ, Option, Some, List, [], ◌∷◌, ◌++◌, length, refl, sym, ◌∙◌, ap, subst, arith}
+use Rattle.std.proofs.Common.{◌≡◌, ℕ, suc, ◌<◌, ◌≤◌, inl, inr, ℤ, Option, Some, List, [], ◌∷◌, ◌++◌, length, refl, sym, ◌∙◌, ap, subst, arith}
 use Rattle.backer_order.specs.Edges.{IsOn}
 use Rattle.backer_order.specs.Log.{Spawn, Event, Acts}
-use Rattle.cilk_meaning.specs.Serve as serve
-use Rattle.cilk_meaning.specs.Serve.{Entry, Parent, with_child}
+use Rattle.cilk_meaning.specs.Serve.{Parent, with_child}
 use Rattle.cilk_meaning.specs.Wants.{Want, Returns}
-use Rattle.determinacy.specs.Replies.{Trace, children, value_in, deposits, want_at, SpawnedBefore, Born}
+use Rattle.determinacy.specs.Replies.{Trace, children, value_in, deposits, want_at, SpawnedBefore}
 use Rattle.elision_trace.proofs.Extending.{gives, as_deposit, deposits_more, child_spawned}
 use Rattle.elision_trace.proofs.Sound.{Sound, OneMore, Allowed, acts_stood}
 use Rattle.elision_trace.proofs.Standing.{Stands, block_unmoved, quiet_other, stands_still}
@@ -48,11 +47,10 @@ module _ (starts : Starts) (main : ℕ) (trace more : Trace) (now : ℕ) (event 
         let first = waits.0 in
         let before : parent.entry.row < child = first.before in
         let quiet = quiet_other starts main trace more now event sound one (frame_at row) allowed (frame_at parent.entry.row)
-            (λ same. let rows = same_row parent.entry.row row same in absurd (omega (arith, before, rows, inside))) in
+        (λ same. let rows = same_row parent.entry.row row same in absurd (omega (arith, before, rows, inside))) in
         let on_block : IsOn (frame_at child) (children trace.events now (frame_at parent.entry.row)) =
-            subst (λ i. IsOn (frame_at child) i) (sym first.has_children) (inl refl) in
-        let spawned = child_spawned trace now (frame_at parent.entry.row) (frame_at child) on_block in
-        (
+        subst (λ i. IsOn (frame_at child) i) (sym first.has_children) (inl refl) in
+        let spawned = child_spawned trace now (frame_at parent.entry.row) (frame_at child) on_block in (
           record {
             block = first.block;
             stands = stands_still starts main trace more now event sound one (frame_at row) allowed parent.entry (length parents) first.block quiet first.stands;
@@ -68,11 +66,11 @@ module _ (starts : Starts) (main : ℕ) (trace more : Trace) (now : ℕ) (event 
       ((node : ℕ) (parent child : FrameId) → event ≡ Acts node parent (Spawn child) → IsRow next child) → Numbered more (suc now) next
   numbered_more rows next inside numbered new child spawned =
       elim (acts_stood starts main trace more now event sound one spawned.at spawned.node spawned.parent (Spawn child) spawned.is) [
-      | inl old ↦
-          let is_row = numbered child (record { at = spawned.at; node = spawned.node; parent = spawned.parent; before = old.0; is = old.1 }) in
-          record { row = is_row.row; is = is_row.is; above = is_row.above; below = omega (arith, is_row.below, inside) }
-      | inr here ↦ new spawned.node spawned.parent child here.1
-    ]
+        | inl old ↦
+            let is_row = numbered child (record { at = spawned.at; node = spawned.node; parent = spawned.parent; before = old.0; is = old.1 }) in
+            record { row = is_row.row; is = is_row.is; above = is_row.above; below = omega (arith, is_row.below, inside) }
+        | inr here ↦ new spawned.node spawned.parent child here.1
+      ]
 
 -- ---- a child returns
 
@@ -87,11 +85,11 @@ stands_again starts trace now parent child depth value waits returns =
     subst (λ i. Stands starts trace now (with_child parent value) depth i) (sym waits.has_children) (record {
       goes = waits.stands.goes;
       kept =
-        ap (λ i. i ++ as_deposit parent.target value ∷ []) waits.stands.kept
-        ∙ ap (λ i. deposits (gives starts trace now) waits.block ++ as_deposit i value ∷ []) waits.target
-        ∙ ap (λ i. deposits (gives starts trace now) waits.block ++ as_deposit (trace.target (frame_at child)) i ∷ [])
+          ap (λ i. i ++ as_deposit parent.target value ∷ []) waits.stands.kept
+          ∙ ap (λ i. deposits (gives starts trace now) waits.block ++ as_deposit i value ∷ []) waits.target
+          ∙ ap (λ i. deposits (gives starts trace now) waits.block ++ as_deposit (trace.target (frame_at child)) i ∷ [])
           (sym (value_is (want_at starts trace now (frame_at child)) value returns))
-        ∙ sym (deposits_more (gives starts trace now) (frame_at child) waits.block);
+          ∙ sym (deposits_more (gives starts trace now) (frame_at child) waits.block);
       returned = returned;
       spawned = λ other on. child_spawned trace now (frame_at parent.entry.row) other (subst (λ i. IsOn other i) (sym waits.has_children) on);
       born = waits.stands.born;

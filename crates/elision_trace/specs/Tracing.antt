@@ -1,5 +1,5 @@
 -- The execution that the log of a serial elision tells: all its rows are frames of node 0, and its positions the serial order.
-use Rattle.std.specs.Prelude.{ℕ, suc, ◌==◌, ℤ, cond, Option, Some, None, List, [], ◌∷◌, length}
+use Rattle.std.specs.Prelude.{ℕ, suc, ◌==◌, cond, Option, Some, None, List, [], ◌∷◌, length}
 use Rattle.backer_order.specs.Log as log
 use Rattle.backer_order.specs.Log.{Events}
 use Rattle.cilk_meaning.specs.Resolved.{Program}
