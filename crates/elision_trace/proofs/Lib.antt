@@ -5,6 +5,8 @@ pub mod Items
 pub mod Lasting
 pub mod Logs
 pub mod Obeying
+pub mod Placing
+pub mod Racing
 pub mod Reading
 pub mod Remembering
 pub mod Service

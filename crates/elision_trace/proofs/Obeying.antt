@@ -53,7 +53,7 @@ module _ (starts : Starts) (main : ℕ) where
     has_depth = refl;
   }
 
-  first_good : (memory : ℕ → ℤ) → Good starts main (first_state starts main memory)
+  pub first_good : (memory : ℕ → ℤ) → Good starts main (first_state starts main memory)
   first_good memory = record {
     sound = first_sound starts main;
     numbered = λ child spawned. absurd (no_act spawned.node spawned.parent (Spawn child) spawned.is);
@@ -64,7 +64,7 @@ module _ (starts : Starts) (main : ℕ) where
 
   -- ---- each request
 
-  step_good : (s : State) (request : Request) → serve.now s.running.goes ≡ Some (Asks request) → Good starts main s → Good starts main (served starts request s)
+  pub step_good : (s : State) (request : Request) → serve.now s.running.goes ≡ Some (Asks request) → Good starts main s → Good starts main (served starts request s)
   step_good s (wanted.Read word) is good =
       plain_step starts main s good (world.Acts s.running.row (world.Read word (s.world.memory word))) (wanted.Value (s.world.memory word))
       (plain_read s.running.row word (s.world.memory word)) (by_act s.running.row (world.Read word (s.world.memory word))) (its_want starts main s good (wanted.Read word) is)
@@ -101,7 +101,7 @@ module _ (starts : Starts) (main : ℕ) where
       want_at starts (so_far starts main made.log) (length made.log) (frame_at entry.row) ≡ Some (Returns value)
   its_return entry parents value made is good = ap (λ i. serve.now i) (sym good.top.goes) ∙ is
 
-  return_good : (entry : Entry) (parent : Parent) (parents : List Parent) (value : ℤ) (made : World) → serve.now entry.goes ≡ Some (Returns value) →
+  pub return_good : (entry : Entry) (parent : Parent) (parents : List Parent) (value : ℤ) (made : World) → serve.now entry.goes ≡ Some (Returns value) →
       Good starts main (state entry (parent ∷ parents) made) → Good starts main (state (with_child parent value) parents made)
   return_good entry parent parents value made is good =
       let waits = good.waits in
