@@ -1,5 +1,5 @@
 -- The history of a service has the acts of its trace, row by row, and its serial order is that of the positions.
-use Rattle.std.proofs.Common.{◌≡◌, ◌≢◌, ℕ, zero, suc, ◌+◌, ◌<◌, ◌≤◌, ◌⊎◌, inl, inr, ℤ, Bool, true, false, cond, Option, Some, List, [], ◌∷◌, ◌++◌, length, refl, sym, ◌∙◌, ap, subst, arith}
+use Rattle.std.proofs.Common.{◌≡◌, ◌≢◌, ℕ, zero, suc, ◌+◌, ◌<◌, ◌≤◌, inl, inr, true, false, List, [], ◌∷◌, ◌++◌, length, refl, sym, ◌∙◌, ap, subst, arith}
 use Rattle.std.proofs.lemmas.List.{append-nil}
 use Rattle.std.specs.List.{Contains}
 use Rattle.backer_order.proofs.Search.{Less3, Same3, More3, compare}
@@ -10,14 +10,13 @@ use Rattle.cilk_meaning.specs.World.{Event}
 use Rattle.cluster_rules.specs.Histories.{row_number}
 use Rattle.cluster_rules.specs.Lives.{same_frame}
 use Rattle.determinacy.proofs.Rows.{either_bool, when_true, when_false, same_is, same_self}
-use Rattle.elision_history.specs.Logged as logged
-use Rattle.elision_trace.proofs.Logs.{event_here, event_there, nothing_from}
+use Rattle.elision_trace.proofs.Logs.{event_here, event_there}
 use Rattle.elision_trace.specs.Tracing.{frame_at, act_of, event_of, events_in}
 use Rattle.page_messages.specs.declared.closure.FrameId.{FrameId}
 use Rattle.span_tree.proofs.Growing.{OneMore}
 use Rattle.span_tree.proofs.Orders.{first_or_later, is_first, is_later, nothing_in_none, all_in}
 use Rattle.span_tree.specs.Dag.{StandsBefore}
-use Rattle.span_tree.specs.History.{History, IsNumbered, IsPlace, row_at, serial_order}
+use Rattle.span_tree.specs.History.{History, IsNumbered, row_at, serial_order}
 use Rattle.span_tree.specs.Recording.{next_place}
 use Rattle.span_tree.specs.declared.act.Act.{Act}
 use Rattle.span_tree.specs.declared.act.Place.{Place}
@@ -50,7 +49,7 @@ number_of start (suc count) zero row is inside =
     when_true (same_frame (frame_at start) (frame_at row)) 0 (suc (row_number (frames_from (suc start) count) (frame_at row))) test
 number_of start (suc count) (suc place) row is inside =
     when_false (same_frame (frame_at start) (frame_at row)) 0 (suc (row_number (frames_from (suc start) count) (frame_at row)))
-      (not_same start row (λ same. absurd (omega (arith, is, same))))
+    (not_same start row (λ same. absurd (omega (arith, is, same))))
     ∙ ap suc (number_of (suc start) count place row (omega (arith, is)) (omega (arith, inside)))
 
 pub number_in : (rows row : ℕ) → row < rows → row_number (frames_to rows) (frame_at row) ≡ row
@@ -144,8 +143,8 @@ module _ (events : List Event) (event : Event) where
 pub placed_tick : (events : List Event) (row : ℕ) (h : History) (rows : ℕ) → Placed events h rows → Placed (world.Ticks row ∷ events) h rows
 placed_tick events row h rows placed = record {
   acts = λ most inside other.
-    placed.acts most inside other
-    ∙ sym (acts_next (frames_to most) (events_in (world.Ticks row ∷ events)) (frame_at other) (length events) (log.Tick 0 (frame_at row)) (event_here (world.Ticks row) events)
+      placed.acts most inside other
+      ∙ sym (acts_next (frames_to most) (events_in (world.Ticks row ∷ events)) (frame_at other) (length events) (log.Tick 0 (frame_at row)) (event_here (world.Ticks row) events)
       ∙ append-nil (acts_before (frames_to most) (events_in (world.Ticks row ∷ events)) (frame_at other) (length events))
       ∙ before_same events (world.Ticks row) most other (length events) (omega arith));
   order = λ most inside at later node other first second act next before within is is_next. elim (compare later (length events)) [
@@ -167,7 +166,7 @@ module _ (events : List Event) (row : ℕ) (act : world.Act) (h grown : History)
   now_acts most inside other =
       acts_next (frames_to most) (events_in (event ∷ events)) (frame_at other) (length events) (event_of event) (event_here event events)
       ∙ ap (λ i. i ++ act_by (frames_to most) (frame_at other) (event_of event))
-        (before_same events event most other (length events) (omega arith) ∙ sym (placed.acts most (omega (arith, inside, more)) other))
+      (before_same events event most other (length events) (omega arith) ∙ sym (placed.acts most (omega (arith, inside, more)) other))
 
   acts_grown : (most : ℕ) → next ≤ most → (other : ℕ) → (row_at grown other).acts ≡ acts_before (frames_to most) (events_in (event ∷ events)) (frame_at other) (suc (length events))
   acts_grown most inside other = elim (compare other row) [
@@ -182,7 +181,8 @@ module _ (events : List Event) (row : ℕ) (act : world.Act) (h grown : History)
       far : other ≢ row → (row_at grown other).acts ≡ acts_before (frames_to most) (events_in (event ∷ events)) (frame_at other) (suc (length events))
       far differ =
           one.others other differ ∙ sym (append-nil (row_at h other).acts)
-          ∙ ap (λ i. (row_at h other).acts ++ i) (sym (when_false (same_frame (frame_at row) (frame_at other)) (shown (frames_to most) (act_of act) ∷ []) [] (not_same row other (λ same. differ (sym same)))))
+          ∙ ap (λ i. (row_at h other).acts ++ i) (sym (when_false (same_frame (frame_at row) (frame_at other)) (shown (frames_to most) (act_of act) ∷ []) []
+          (not_same row other (λ same. differ (sym same)))))
           ∙ sym (now_acts most inside other)
 
   -- an act before stands in the history
@@ -204,7 +204,7 @@ module _ (events : List Event) (row : ℕ) (act : world.Act) (h grown : History)
       let here = sym (agrees events event at (length events) (omega arith) before) ∙ is in
       let contained = old_place most inside at node other done before here in
       let old_there : Contains (serial_order h) (place_at most (event ∷ events) other at) =
-          subst (λ i. Contains (serial_order h) i) (place_same events event most other at (omega (arith, before))) contained in
+      subst (λ i. Contains (serial_order h) i) (place_same events event most other at (omega (arith, before))) contained in
       let stands = stands_last (serial_order h) (place_at most (event ∷ events) other at) (next_place row h) old_there in
       subst (λ i. StandsBefore (serial_order grown) (place_at most (event ∷ events) other at) i) (new_place most inside)
       (subst (λ i. StandsBefore i (place_at most (event ∷ events) other at) (next_place row h)) (sym in_order) stands)
@@ -218,10 +218,10 @@ module _ (events : List Event) (row : ℕ) (act : world.Act) (h grown : History)
         (order_old events event most h rows placed (omega (arith, inside, more)) at later node other first second done after before l is is_after))
     | Same3 same ↦
         let rows_same : row ≡ second = same_second row other second (act_of act) after
-            (sym (event_here event events) ∙ ap (events_in (event ∷ events)) (sym same) ∙ is_after) in
+        (sym (event_here event events) ∙ ap (events_in (event ∷ events)) (sym same) ∙ is_after) in
         let stands = order_new most inside at node first done (omega (arith, before, same)) is in
         let its_row : StandsBefore (serial_order grown) (place_at most (event ∷ events) first at) (place_at most (event ∷ events) second (length events)) =
-            subst (λ i. StandsBefore (serial_order grown) (place_at most (event ∷ events) first at) (place_at most (event ∷ events) i (length events))) rows_same stands in
+        subst (λ i. StandsBefore (serial_order grown) (place_at most (event ∷ events) first at) (place_at most (event ∷ events) i (length events))) rows_same stands in
         subst (λ i. StandsBefore (serial_order grown) (place_at most (event ∷ events) first at) (place_at most (event ∷ events) second i)) (sym same) its_row
     | More3 l ↦ absurd (omega (arith, within))
   ]

@@ -1,5 +1,5 @@
 -- The history of the elision has its rows as the frames of its trace, in whose positions it is serial.
-use Rattle.std.proofs.Common.{◌≡◌, ℕ, zero, suc, ◌+◌, ◌<◌, ◌≤◌, ◌⊎◌, inl, inr, ℤ, true, Option, Some, List, [], ◌∷◌, length, refl, sym, ◌∙◌, ap, subst, arith}
+use Rattle.std.proofs.Common.{◌≡◌, ℕ, zero, suc, ◌+◌, ◌<◌, inl, inr, ℤ, true, Some, List, [], ◌∷◌, length, refl, sym, ◌∙◌, ap, subst, arith}
 use Rattle.std.specs.Prelude.{slice_get}
 use Rattle.backer_order.specs.Log as log
 use Rattle.backer_order.specs.Log.{Nothing}
@@ -7,7 +7,6 @@ use Rattle.cilk_meaning.proofs.Elisions.{elision_is_service}
 use Rattle.cilk_meaning.proofs.Keeps.{IsInvariant, serve_keeps}
 use Rattle.cilk_meaning.specs.Instance.{Limits, wants_within}
 use Rattle.cilk_meaning.specs.Resolved.{Program}
-
 use Rattle.cilk_meaning.specs.Serve.{State, served, serve, first_state}
 use Rattle.cilk_meaning.specs.Wants as wanted
 use Rattle.cilk_meaning.specs.Wants.{Request, Asks, Returns}
@@ -15,24 +14,22 @@ use Rattle.cilk_meaning.specs.World as world
 use Rattle.cilk_meaning.specs.World.{World, End}
 use Rattle.cluster_rules.specs.Histories.{row_number}
 use Rattle.determinacy.proofs.Rows.{by_acts}
-use Rattle.determinacy.specs.Replies.{SpawnedBefore, Born}
+use Rattle.determinacy.specs.Replies.{Born}
 use Rattle.elision_history.proofs.Histories.{Inv, step_kept, return_kept, first_kept}
 use Rattle.elision_history.specs.Logged.{logged, history_of}
 use Rattle.elision_trace.proofs.Obeying.{first_good, step_good, return_good}
 use Rattle.elision_trace.proofs.Placing.{frames_from, frames_to, how_many, number_in, place_at, acts_first, Placed, placed_tick, placed_act}
-use Rattle.elision_trace.proofs.Service.{Good, so_far}
-use Rattle.elision_trace.proofs.Waiting.{IsRow}
+use Rattle.elision_trace.proofs.Service.{Good}
 use Rattle.elision_trace.specs.Laws.{end_of, finish_of}
 use Rattle.elision_trace.specs.Tracing.{frame_at, act_of, events_in}
 use Rattle.page_messages.specs.declared.closure.FrameId.{FrameId}
-use Rattle.span_tree.proofs.Growing.{OneMore, with_one, spawns_nothing, open_inside, act_order, child_order, one'}
+use Rattle.span_tree.proofs.Growing.{with_one, spawns_nothing, open_inside, act_order, child_order, one'}
 use Rattle.span_tree.specs.Dag.{IsBefore}
-use Rattle.span_tree.specs.History.{History, IsNumbered, row_at, serial_order}
+use Rattle.span_tree.specs.History.{IsNumbered, row_at}
 use Rattle.span_tree.specs.Program.{Starts}
-use Rattle.span_tree.specs.Recording.{with_act, with_child, spawns_none, IsRunning}
+use Rattle.span_tree.specs.Recording.{with_act, with_child, spawns_none}
 use Rattle.span_tree.specs.declared.act.Act.{Act}
 use Rattle.span_tree.specs.declared.act.Act.TheVariants as row_act
-use Rattle.span_tree.specs.declared.act.Place.{Place}
 use Rattle.word_order.proofs.Places.{AreRows, place_for}
 use Rattle.word_order.proofs.Rows.{shown, acts_before, place_in}
 
@@ -64,7 +61,7 @@ module _ (starts : Starts) (main : ℕ) where
       placed_act s.world.log s.running.row act (logged main s.world.log) (with_act s.running.row made (logged main s.world.log)) s.world.rows s.world.rows made
       running.numbered rowed.placed
       (with_one (logged main s.world.log) s.running.row made (open_inside (logged main s.world.log) running.numbered s.running.row running.runs)
-        (λ child is. absurd (spawns_nothing made child plain is)))
+      (λ child is. absurd (spawns_nothing made child plain is)))
       (act_order (logged main s.world.log) running.numbered s.running.row made running.runs plain) (omega arith) (λ most inside. told most)
 
   spawn_placed : (left : ℕ) (s : State) (rowed : Rowed left s) (procedure : ℕ) (arguments : List ℤ) →
@@ -115,7 +112,7 @@ module _ (starts : Starts) (main : ℕ) where
     size = rowed.kept.size;
     placed = rowed.placed;
     named = λ at node frame act before is. born_row s rowed.good at frame before
-      (rowed.good.sound.born at frame (by_acts node frame act (events_in s.world.log at) is));
+        (rowed.good.sound.born at frame (by_acts node frame act (events_in s.world.log at) is));
   })
 
   rowed_kept : IsInvariant starts Rowed InRows
@@ -196,6 +193,6 @@ module _ (most : Limits) (program : Program) (start : ℕ → ℤ) (budget : ℕ
       let there = subst (λ i. events_in end.world.log later ≡ log.Acts other i next) second_row.1 is_next in
       let stands = rowed.placed.order end.world.rows (omega arith) at later node other first_row.0 second_row.0 act next before within here there in
       subst (λ i. IsBefore (history_of program end) i
-          (place_for (events_in end.world.log) (finish_of most program start budget) frames (history_of program end) are_rows second later))
-        (its_place first_row.0 at frame first_row.1 first_row.2)
+      (place_for (events_in end.world.log) (finish_of most program start budget) frames (history_of program end) are_rows second later))
+      (its_place first_row.0 at frame first_row.1 first_row.2)
       (subst (λ i. IsBefore (history_of program end) (place_at end.world.rows end.world.log first_row.0 at) i) (its_place second_row.0 later second second_row.1 second_row.2) stands)
