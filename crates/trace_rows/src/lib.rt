@@ -1,0 +1,2 @@
+//! The history of an execution, whose rows are its frames.
+#![tactic(auto)]
