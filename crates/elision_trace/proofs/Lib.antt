@@ -4,6 +4,7 @@ pub mod Extending
 pub mod Items
 pub mod Lasting
 pub mod Logs
+pub mod NoRace
 pub mod Obeying
 pub mod Placing
 pub mod Racing

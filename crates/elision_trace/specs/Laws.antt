@@ -11,8 +11,10 @@ use Rattle.cilk_meaning.specs.World.{End, ticks_of}
 use Rattle.cluster_rules.specs.Home.{sum_in}
 use Rattle.determinacy.specs.Ending.{is_item, all_ticks}
 use Rattle.determinacy.specs.Replies.{Trace, want_at, Obeys}
-use Rattle.determinacy.specs.Serial.{LastOf, SerialReads}
+use Rattle.determinacy.specs.Serial.{LastOf, RaceFree, SerialReads}
+use Rattle.elision_history.specs.Logged.{history_of}
 use Rattle.elision_trace.specs.Tracing.{trace_of}
+use Rattle.span_tree.specs.Memory.{HasNoRace}
 
 module _ (most : Limits) (program : Program) (start : ℕ → ℤ) (budget : ℕ) where
   abbrev pub end_of : End
@@ -56,3 +58,8 @@ abbrev pub ElisionTicks : Type 0
 ElisionTicks = (most : Limits) (program : Program) (start : ℕ → ℤ) (budget : ℕ) →
     ((at : ℕ) → at < finish_of most program start budget → is_item ((elision_trace most program start budget).events at) ≡ true)
     × (all_ticks (elision_trace most program start budget).events (finish_of most program start budget) ≡ finish_of most program start budget)
+
+-- Where its history has no race, its trace has none.
+abbrev pub ElisionRaceFree : Type 0
+ElisionRaceFree = (most : Limits) (program : Program) (start : ℕ → ℤ) (budget : ℕ) → HasNoRace (history_of program (end_of most program start budget)) →
+    RaceFree (elision_trace most program start budget).events (finish_of most program start budget)

@@ -3,4 +3,7 @@
 
 mod laws;
 
-pub use laws::{elision_obeys, elision_reads, elision_remembers, elision_returns, elision_ticks};
+pub use laws::{
+    elision_obeys, elision_race_free, elision_reads, elision_remembers, elision_returns,
+    elision_ticks,
+};
