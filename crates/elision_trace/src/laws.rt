@@ -1,6 +1,6 @@
 //! Laws of the elision as an execution, each the contract of a function that does nothing.
 
-ghost use Rattle.elision_trace.specs.Laws.{ElisionObeys, ElisionReads, ElisionRemembers, ElisionReturns, ElisionTicks};
+ghost use Rattle.elision_trace.specs.Laws.{ElisionObeys, ElisionReads, ElisionRemembers, ElisionReturns, ElisionTicks, TraceIsLog};
 
 /// The elision of a parted program is an execution of it.
 pub fn elision_obeys()
@@ -25,4 +25,9 @@ pub fn elision_returns()
 /// Each position of the elision is an item, and so a tick.
 pub fn elision_ticks()
     ensures { ElisionTicks }
+{}
+
+/// At each position of the trace stands the event of the log that has this number.
+pub fn trace_is_log()
+    ensures { TraceIsLog }
 {}

@@ -3,4 +3,6 @@
 
 mod laws;
 
-pub use laws::{elision_obeys, elision_reads, elision_remembers, elision_returns, elision_ticks};
+pub use laws::{
+    elision_obeys, elision_reads, elision_remembers, elision_returns, elision_ticks, trace_is_log,
+};
