@@ -6,13 +6,13 @@ use Rattle.cilk_meaning.specs.Instance.{Limits, wants_within}
 use Rattle.cilk_meaning.specs.Resolved.{Program}
 use Rattle.cilk_meaning.specs.World.{End}
 use Rattle.elision_trace.proofs.Childless.{no_children}
-use Rattle.elision_trace.proofs.Items.{all_items, ticks_all}
+use Rattle.elision_trace.proofs.Items.{all_items, event_at, ticks_all}
 use Rattle.elision_trace.proofs.Lasting.{last_one}
 use Rattle.elision_trace.proofs.Obeying.{Ended, service_ended}
 use Rattle.elision_trace.proofs.Reading.{Reads}
 use Rattle.elision_trace.proofs.Remembering.{service_reads}
 use Rattle.elision_trace.proofs.Sound.{obeys}
-use Rattle.elision_trace.specs.Laws.{end_of, elision_trace, finish_of, Begins, ElisionObeys, ElisionReads, ElisionRemembers, ElisionReturns, ElisionTicks}
+use Rattle.elision_trace.specs.Laws.{end_of, elision_trace, finish_of, Begins, ElisionObeys, ElisionReads, ElisionRemembers, ElisionReturns, ElisionTicks, TraceIsLog}
 
 module _ (most : Limits) (program : Program) (start : ℕ → ℤ) (budget : ℕ) where
   pub ended : Ended (wants_within most program) program.main (end_of most program start budget)
@@ -44,3 +44,6 @@ elision_returns most program start budget finished = (ended most program start b
 pub elision_ticks : ElisionTicks
 elision_ticks most program start budget =
     (all_items (end_of most program start budget).world.log, ticks_all (end_of most program start budget).world.log)
+
+pub trace_is_log : TraceIsLog
+trace_is_log most program start budget at event is = event_at (end_of most program start budget).world.log at event is

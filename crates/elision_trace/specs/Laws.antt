@@ -1,5 +1,5 @@
 -- Laws of the serial elision as an execution.
-use Rattle.std.specs.Prelude.{◌≡◌, ℕ, ◌<◌, ℤ, true, Some}
+use Rattle.std.specs.Prelude.{◌≡◌, ℕ, ◌<◌, ℤ, true, Some, slice_get}
 use Rattle.backer_order.specs.Log.{main_id, SharedMemory}
 use Rattle.cilk_meaning.specs.declared.ends.NodeEnd.TheVariants.{Finished}
 use Rattle.cilk_meaning.specs.Elision.{elision_within}
@@ -7,13 +7,13 @@ use Rattle.cilk_meaning.specs.Instance.{Limits, wants_within}
 use Rattle.cilk_meaning.specs.Parted.{IsParted}
 use Rattle.cilk_meaning.specs.Resolved.{Program}
 use Rattle.cilk_meaning.specs.Wants.{Returns}
-use Rattle.cilk_meaning.specs.World.{End, ticks_of}
+use Rattle.cilk_meaning.specs.World.{End, Event, events_of, ticks_of}
 use Rattle.cluster_rules.specs.Home.{sum_in}
 use Rattle.determinacy.specs.Ending.{is_item, all_ticks}
 use Rattle.determinacy.specs.Replies.{Trace, want_at, Obeys}
-use Rattle.determinacy.specs.Serial.{LastOf, RaceFree, SerialReads}
+use Rattle.determinacy.specs.Serial.{LastOf, RaceFree, SerialReads, Serially}
 use Rattle.elision_history.specs.Logged.{history_of}
-use Rattle.elision_trace.specs.Tracing.{trace_of}
+use Rattle.elision_trace.specs.Tracing.{event_of, trace_of}
 use Rattle.span_tree.specs.Memory.{HasNoRace}
 
 module _ (most : Limits) (program : Program) (start : ℕ → ℤ) (budget : ℕ) where
@@ -31,6 +31,11 @@ module _ (most : Limits) (program : Program) (start : ℕ → ℤ) (budget : ℕ
 pub record Begins (memory : SharedMemory) (start : ℕ → ℤ) : Type 0 where
   pub starts : (word : ℕ) → memory.start word ≡ start word
   pub sums : (old addend : ℤ) → memory.sum old addend ≡ sum_in old addend
+
+-- At each position stands the event of the log that has this number.
+abbrev pub TraceIsLog : Type 0
+TraceIsLog = (most : Limits) (program : Program) (start : ℕ → ℤ) (budget : ℕ) (at : ℕ) (event : Event) →
+    slice_get (events_of (end_of most program start budget)) at ≡ Some event → (elision_trace most program start budget).events at ≡ event_of event
 
 -- The elision of a parted program is an execution of it.
 abbrev pub ElisionObeys : Type 0
@@ -63,3 +68,9 @@ ElisionTicks = (most : Limits) (program : Program) (start : ℕ → ℤ) (budget
 abbrev pub ElisionRaceFree : Type 0
 ElisionRaceFree = (most : Limits) (program : Program) (start : ℕ → ℤ) (budget : ℕ) → HasNoRace (history_of program (end_of most program start budget)) →
     RaceFree (elision_trace most program start budget).events (finish_of most program start budget)
+
+-- An elision of a parted program that finished, and whose history has no race, is a serial execution of it.
+abbrev pub ElisionIsSerial : Type 0
+ElisionIsSerial = (most : Limits) (program : Program) (start : ℕ → ℤ) (budget : ℕ) (memory : SharedMemory) → IsParted program → Begins memory start →
+    (end_of most program start budget).end ≡ Finished → HasNoRace (history_of program (end_of most program start budget)) →
+    Serially (wants_within most program) program.main (elision_trace most program start budget) memory (finish_of most program start budget)

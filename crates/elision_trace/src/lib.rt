@@ -4,6 +4,6 @@
 mod laws;
 
 pub use laws::{
-    elision_obeys, elision_race_free, elision_reads, elision_remembers, elision_returns,
-    elision_ticks,
+    elision_is_serial, elision_obeys, elision_race_free, elision_reads, elision_remembers,
+    elision_returns, elision_ticks, trace_is_log,
 };
