@@ -1,1 +1,3 @@
 mod Depositing
+mod Moving
+mod Blocks
