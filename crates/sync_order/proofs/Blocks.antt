@@ -1,10 +1,10 @@
 -- The children of a block have targets of which none stands twice, by how the machine runs.
 use Rattle.std.proofs.Common.{◌≡◌, ℕ, zero, suc, List, [], ◌∷◌, ◌++◌, take, Option, Some, None, refl, sym, ap, ◌∙◌, subst}
-use Rattle.std.proofs.lemmas.Bool.{eqb-true, eqb-false, eq-eqb}
-use Rattle.std.specs.Prelude.{ℤ, pos, ◌==◌, Bool, true, false, ◌||◌, slice_get}
+use Rattle.std.proofs.lemmas.Bool.{eqb-true, eqb-false}
+use Rattle.std.specs.Prelude.{ℤ, pos, ◌==◌, Bool, true, false, ◌||◌, if◌then◌else◌, slice_get}
 use Rattle.cilk_meaning.specs.Alone.{Block, block_after, block_of}
 use Rattle.cilk_meaning.specs.Wants.{Request, Read, Write, Add, Print, Spawn, Sync, Call, LoopTurn, Want, Asks, Returns, Traps, Answer}
-use Rattle.machine_code.specs.Early.{Event, Steps, Answered, Run, HasRun, TakesEarly, after_events, answered, awaits, goes_on_with, happens, resumed_with, start_run, stepped}
+use Rattle.machine_code.specs.Early.{Event, Steps, Answered, Receives, Run, HasRun, TakesEarly, after_events, answered, awaits, goes_on_with, happens, resumed_with, start_run, stepped, with_values}
 use Rattle.machine_code.specs.Machine.{Code, Frame, Move, GoesOn, Requests, Ends, Stuck, go_on, last_want, look, remaining, resumed, settle, settled, start_frame, starts, starts_at, want_and, wants_for}
 use Rattle.machine_code.specs.declared.code.Proc.{Proc}
 use Rattle.sync_order.specs.Orders.{AreApart}
@@ -143,6 +143,56 @@ module _ (code : Code) (early : TakesEarly code) (depth procedure : ℕ) (argume
 
   pub came_first : (proc : Proc) → slice_get code.procs procedure ≡ Some proc → Came [] (start_frame proc arguments depth)
   came_first proc is = record { events = []; has_run = record { proc = proc; is = is; comes = refl }; apart = tt }
+
+  -- ---- whatever happens to it, also where values come early
+
+  some_apart : (o : Option Run) (events : List Event) (last : Run) → ((next : Run) → o ≡ Some next → Came next.block next.frame) →
+      ((next : Run) → Came next.block next.frame → after_events code events next ≡ Some last → AreApart last.block) → goes_on_with o (after_events code events) ≡ Some last → AreApart last.block
+  some_apart None events last first later comes = absurd cc
+  some_apart (Some next) events last first later comes = later next (first next refl) comes
+
+  stepped_comes : (run next : Run) (came : Came run.block run.frame) (move : Move) → look code run.frame ≡ move → stepped move run.block ≡ Some next → Came next.block next.frame
+  stepped_comes run next came (GoesOn g) is e =
+      let same : record { frame = g; block = run.block } ≡ next = cc in
+      subst (λ (it : Run). Came it.block it.frame) same (one_more run.block run.block run.frame g Steps came came.apart (ap (λ move. stepped move run.block) is))
+  stepped_comes run next came (Requests request follows) is e = absurd cc
+  stepped_comes run next came (Ends want) is e = absurd cc
+  stepped_comes run next came Stuck is e = absurd cc
+
+  resumed_comes : (run next : Run) (request : Request) (frame : Option Frame) → ((g : Frame) → frame ≡ Some g → Came (block_after request run.block) g) →
+      resumed_with frame (block_after request run.block) ≡ Some next → Came next.block next.frame
+  resumed_comes run next request None comes e = absurd cc
+  resumed_comes run next request (Some g) comes e =
+      let same : record { frame = g; block = block_after request run.block } ≡ next = cc in subst (λ (it : Run). Came it.block it.frame) same (comes g refl)
+
+  answered_comes : (run next : Run) (came : Came run.block run.frame) (answer : Answer) (move : Move) → look code run.frame ≡ move → answered move answer run.block ≡ Some next → Came next.block next.frame
+  answered_comes run next came answer (GoesOn g) is e = absurd cc
+  answered_comes run next came answer (Requests request follows) is e =
+      resumed_comes run next request (follows answer) ((look_leads run.block run.frame came (Requests request follows) is).comes answer) e
+  answered_comes run next came answer (Ends want) is e = absurd cc
+  answered_comes run next came answer Stuck is e = absurd cc
+
+  received_comes : (run next : Run) (came : Came run.block run.frame) (target : ℕ) (value : ℤ) (waited : Bool) → awaits target run.block ≡ waited →
+      (if waited then Some (record { frame = with_values ((Some target, value) ∷ []) run.frame; block = run.block }) else None) ≡ Some next → Came next.block next.frame
+  received_comes run next came target value true is e =
+      let frame = with_values ((Some target, value) ∷ []) run.frame in
+      let same : record { frame = frame; block = run.block } ≡ next = cc in
+      subst (λ (it : Run). Came it.block it.frame) same (one_more run.block run.block run.frame frame (Receives target value) came came.apart
+      (ap (λ waited. if waited then Some (record { frame = frame; block = run.block }) else None) is))
+  received_comes run next came target value false is e = absurd cc
+
+  event_comes : (event : Event) (run next : Run) → Came run.block run.frame → happens code event run ≡ Some next → Came next.block next.frame
+  event_comes Steps run next came is = stepped_comes run next came (look code run.frame) refl is
+  event_comes (Answered answer) run next came is = answered_comes run next came answer (look code run.frame) refl is
+  event_comes (Receives target value) run next came is = received_comes run next came target value (awaits target run.block) refl is
+
+  events_apart : (events : List Event) (run last : Run) → Came run.block run.frame → after_events code events run ≡ Some last → AreApart last.block
+  events_apart [] run last came comes = let same : run ≡ last = cc in subst (λ (it : Run). AreApart it.block) same came.apart
+  events_apart (event ∷ events) run last came comes =
+      some_apart (happens code event run) events last (λ next is. event_comes event run next came is) (λ next came' comes'. events_apart events next last came' comes') comes
+
+  pub run_apart : (events : List Event) (run : Run) → HasRun code depth procedure arguments events run → AreApart run.block
+  run_apart events run has_run = events_apart events (start_run has_run.proc arguments depth) run (came_first has_run.proc has_run.is) has_run.comes
 
   -- ---- the blocks by its wants
 

@@ -1,12 +1,11 @@
 -- Values that go to targets of which none stands twice leave the same locals in every order.
-use Rattle.std.proofs.Common.{◌≡◌, ◌⊎◌, ℕ, zero, suc, ◌<◌, List, [], ◌∷◌, ◌++◌, length, get_or, Option, Some, None, refl, sym, ap, ◌∙◌, subst, inl, inr, arith}
+use Rattle.std.proofs.Common.{◌≡◌, ◌⊎◌, ℕ, zero, suc, ◌<◌, List, [], ◌∷◌, length, get_or, Some, None, refl, sym, ap, ◌∙◌, subst, inl, inr, arith}
 use Rattle.std.proofs.lemmas.Bool.{eqb-true, eqb-false, eq-eqb}
 use Rattle.std.proofs.lemmas.List.{ext_get_or, get_or-set_other, get_or-set_same, length-set}
 use Rattle.std.proofs.lemmas.List.Sorted.{Contains-permutation, IsPermutation-sym}
 use Rattle.std.specs.List.{Contains}
 use Rattle.std.specs.List.Sorted.{IsPermutation}
 use Rattle.std.specs.Prelude.{ℤ, pos, ◌==◌, Bool, true, false, ◌||◌, slice_set}
-use Rattle.cilk_meaning.specs.Alone.{Block}
 use Rattle.cilk_meaning.specs.Locals.{Locals, assigned, deposited}
 use Rattle.cilk_meaning.specs.Wants.{Deposit}
 use Rattle.machine_code.specs.Early.{awaits}

@@ -1,3 +1,4 @@
-mod Depositing
-mod Moving
-mod Blocks
+pub mod Depositing
+pub mod Moving
+pub mod Blocks
+pub mod Fitting

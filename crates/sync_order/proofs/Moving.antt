@@ -1,5 +1,5 @@
 -- What a frame's next want is like: an end is no request, and a sync leads to the same frame with its children's values in any order.
-use Rattle.std.proofs.Common.{◌≡◌, ℕ, zero, suc, List, [], ◌∷◌, ◌++◌, length, Option, Some, None, refl, ap, ◌∙◌}
+use Rattle.std.proofs.Common.{◌≡◌, ℕ, zero, suc, List, [], ◌∷◌, ◌++◌, length, Option, Some, None, refl, ap}
 use Rattle.std.specs.List.Sorted.{IsPermutation}
 use Rattle.std.specs.Prelude.{ℤ, ◌==◌, Bool, true, false, if◌then◌else◌, Result, Ok, Err, slice_get}
 use Rattle.cilk_tree.specs.declared.tree.BinaryOp.{BinaryOp}
@@ -9,13 +9,13 @@ use Rattle.cilk_tree.specs.declared.tree.UnaryOp.TheVariants as unary_op
 use Rattle.cilk_meaning.specs.declared.ends.TrapKind.{TrapKind}
 use Rattle.cilk_meaning.specs.declared.ends.TrapKind.TheVariants.{Overflow, TooDeep}
 use Rattle.cilk_meaning.specs.Instance.{limits}
-use Rattle.cilk_meaning.specs.Locals.{deposited, extent_of}
+use Rattle.cilk_meaning.specs.Locals.{extent_of}
 use Rattle.cilk_meaning.specs.Values.{negated, operated, word_of}
 use Rattle.cilk_meaning.specs.Wants.{Want, Asks, Returns, Traps, Deposit, Answer, Children}
 use Rattle.machine_code.specs.declared.code.Proc.{Proc}
 use Rattle.machine_code.specs.declared.instr.Instr.{Instr}
 use Rattle.machine_code.specs.declared.instr.Instr.TheVariants as instr
-use Rattle.machine_code.specs.Machine.{Code, Activation, Frame, Move, GoesOn, Requests, Ends, Stuck, stored, popping, given, with_proc, binary, unary, returned, act, look, go_on, settle, remaining, settled, last_want, want_and, resumed, wants_for, start_frame, starts, starts_at}
+use Rattle.machine_code.specs.Machine.{Code, Activation, Frame, Move, GoesOn, Requests, Ends, Stuck, stored, popping, given, with_proc, binary, unary, returned, act, look, go_on, settle, remaining, settled, want_and, resumed, wants_for, start_frame, starts, starts_at}
 use Rattle.sync_order.specs.Orders.{AreApart, targets_of}
 use Rattle.sync_order.proofs.Depositing.{any_order}
 
