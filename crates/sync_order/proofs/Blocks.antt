@@ -5,7 +5,8 @@ use Rattle.std.specs.Prelude.{ℤ, pos, ◌==◌, Bool, true, false, ◌||◌, i
 use Rattle.cilk_meaning.specs.Alone.{Block, block_after, block_of}
 use Rattle.cilk_meaning.specs.Wants.{Request, Read, Write, Add, Print, Spawn, Sync, Call, LoopTurn, Want, Asks, Returns, Traps, Answer}
 use Rattle.machine_code.specs.Early.{Event, Steps, Answered, Receives, Run, HasRun, TakesEarly, after_events, answered, awaits, goes_on_with, happens, resumed_with, start_run, stepped, with_values}
-use Rattle.machine_code.specs.Machine.{Code, Frame, Move, GoesOn, Requests, Ends, Stuck, go_on, last_want, look, remaining, resumed, settle, settled, start_frame, starts, starts_at, want_and, wants_for}
+use Rattle.machine_code.specs.Machine.{Code, Frame, Move, GoesOn, Requests, Ends, Stuck}
+use Rattle.machine_code.specs.Machine.{go_on, last_want, look, remaining, resumed, settle, settled, start_frame, starts, starts_at, want_and, wants_for}
 use Rattle.machine_code.specs.declared.code.Proc.{Proc}
 use Rattle.sync_order.specs.Orders.{AreApart}
 use Rattle.sync_order.proofs.Moving.{Behaves, IsEnd, IsFree, look_behaves}
@@ -105,7 +106,8 @@ module _ (code : Code) (early : TakesEarly code) (depth procedure : ℕ) (argume
   spawn_apart block f came (Some target) child given follows is =
       apart_more block target came.apart (early.apart depth procedure arguments came.events (record { frame = f; block = block }) came.has_run target child given follows is)
 
-  request_apart : (block : Block) (f : Frame) (came : Came block f) (request : Request) (follows : Answer → Option Frame) → look code f ≡ Requests request follows → AreApart (block_after request block)
+  request_apart : (block : Block) (f : Frame) (came : Came block f) (request : Request) (follows : Answer → Option Frame) →
+      look code f ≡ Requests request follows → AreApart (block_after request block)
   request_apart block f came (Spawn target child given) follows is = spawn_apart block f came target child given follows is
   request_apart block f came (Read word) follows is = came.apart
   request_apart block f came (Write word value) follows is = came.apart
@@ -128,7 +130,8 @@ module _ (code : Code) (early : TakesEarly code) (depth procedure : ℕ) (argume
   look_leads block f came (Ends want) is = subst Behaves is (look_behaves code f)
   look_leads block f came Stuck is = tt
 
-  onward : (block : Block) (f : Frame) (came : Came block f) (next : Frame → Move) → ((g : Frame) → Came block g → Leads block (next g)) → (move : Move) → look code f ≡ move → Leads block (go_on move next)
+  onward : (block : Block) (f : Frame) (came : Came block f) (next : Frame → Move) → ((g : Frame) → Came block g → Leads block (next g)) → (move : Move) →
+      look code f ≡ move → Leads block (go_on move next)
   onward block f came next later (GoesOn g) is = later g (one_more block block f g Steps came came.apart (ap (λ move. stepped move block) is))
   onward block f came next later (Requests request follows) is = look_leads block f came (Requests request follows) is
   onward block f came next later (Ends want) is = look_leads block f came (Ends want) is
@@ -165,7 +168,8 @@ module _ (code : Code) (early : TakesEarly code) (depth procedure : ℕ) (argume
   resumed_comes run next request (Some g) comes e =
       let same : record { frame = g; block = block_after request run.block } ≡ next = cc in subst (λ (it : Run). Came it.block it.frame) same (comes g refl)
 
-  answered_comes : (run next : Run) (came : Came run.block run.frame) (answer : Answer) (move : Move) → look code run.frame ≡ move → answered move answer run.block ≡ Some next → Came next.block next.frame
+  answered_comes : (run next : Run) (came : Came run.block run.frame) (answer : Answer) (move : Move) → look code run.frame ≡ move →
+      answered move answer run.block ≡ Some next → Came next.block next.frame
   answered_comes run next came answer (GoesOn g) is e = absurd cc
   answered_comes run next came answer (Requests request follows) is e =
       resumed_comes run next request (follows answer) ((look_leads run.block run.frame came (Requests request follows) is).comes answer) e

@@ -101,7 +101,8 @@ set_local first v rest locals local start less stayed false e =
       is = stayed.is ∙ get_or-set_other locals first local v start (λ is. eqb-false first local e (sym is));
     })
 
-got_behind : (first : Deposit) (rest : List Deposit) (locals : Locals) (local : ℕ) (start : ℤ) → GotValue rest (assigned first.0 first.1 locals) local start → GotValue (first ∷ rest) locals local start
+got_behind : (first : Deposit) (rest : List Deposit) (locals : Locals) (local : ℕ) (start : ℤ) →
+    GotValue rest (assigned first.0 first.1 locals) local start → GotValue (first ∷ rest) locals local start
 got_behind first rest locals local start got = record { value = got.value; has = inr got.has; is = got.is }
 
 on_local : (deposits : List Deposit) (locals : Locals) (local : ℕ) (start : ℤ) → local < length locals → GotValue deposits locals local start ⊎ StayedSame deposits locals local start
@@ -124,7 +125,8 @@ keeps_length [] locals = refl
 keeps_length ((None, v) ∷ rest) locals = keeps_length rest locals
 keeps_length ((Some target, v) ∷ rest) locals = keeps_length rest (slice_set locals target v) ∙ length-set locals target v
 
-module _ (given other : List Deposit) (apart : AreApart (targets_of given)) (there : (deposit : Deposit) → Has deposit given → Has deposit other) (back : (deposit : Deposit) → Has deposit other → Has deposit given)
+module _ (given other : List Deposit) (apart : AreApart (targets_of given)) (there : (deposit : Deposit) → Has deposit given → Has deposit other)
+    (back : (deposit : Deposit) → Has deposit other → Has deposit given)
     (locals : Locals) where
   same_local : (local : ℕ) (start : ℤ) → GotValue given locals local start ⊎ StayedSame given locals local start → GotValue other locals local start ⊎ StayedSame other locals local start →
       get_or (deposited given locals) local start ≡ get_or (deposited other locals) local start
@@ -138,7 +140,8 @@ module _ (given other : List Deposit) (apart : AreApart (targets_of given)) (the
       let long = keeps_length given locals in
       let long' = keeps_length other locals in
       ext_get_or (pos 0) (deposited given locals) (deposited other locals) (long ∙ sym long')
-      (λ local less. let inside : local < length locals = omega (arith, long, less) in same_local local (pos 0) (on_local given locals local (pos 0) inside) (on_local other locals local (pos 0) inside))
+      (λ local less. let inside : local < length locals = omega (arith, long, less) in
+      same_local local (pos 0) (on_local given locals local (pos 0) inside) (on_local other locals local (pos 0) inside))
 
 pub any_order : (given other : List Deposit) → AreApart (targets_of given) → IsPermutation given other → (locals : Locals) → deposited given locals ≡ deposited other locals
 any_order given other apart same locals =

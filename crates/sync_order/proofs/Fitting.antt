@@ -98,14 +98,16 @@ module _ (code : Code) (early : TakesEarly code) (depth procedure : ℕ) (argume
     goes = λ rest. ap (λ frame. Asks request ∷ resumed frame (wants_for code (behind.ordered ++ rest))) one.led ∙ ap (λ wants. Asks request ∷ wants) (behind.goes rest);
   }
 
-  nothing_behind : (block : Block) (want : Want) (answer : Answer) (answers : List Answer) → (AllFitInAnyOrder block (want ∷ []) (answer ∷ answers)) → Leads code early depth procedure arguments block (Ends want) → ⊥
+  nothing_behind : (block : Block) (want : Want) (answer : Answer) (answers : List Answer) → AllFitInAnyOrder block (want ∷ []) (answer ∷ answers) →
+      Leads code early depth procedure arguments block (Ends want) → ⊥
   nothing_behind block (Asks request) answer answers fit end = end
   nothing_behind block (Returns value) answer answers fit end = cc
   nothing_behind block (Traps kind) answer answers fit end = cc
 
   move_ordered : (block : Block) (move : Move) (answer : Answer) (answers : List Answer) → AreApart block → Leads code early depth procedure arguments block move →
       AllFitInAnyOrder block (want_and move answer (wants_for code answers)) (answer ∷ answers) →
-      ((after : Block) (g : Frame) → Came code early depth procedure arguments after g → AllFitInAnyOrder after (wants_for code answers g) answers → AllOrdered after g answers) → MoveOrdered block move answer answers
+      ((after : Block) (g : Frame) → Came code early depth procedure arguments after g → AllFitInAnyOrder after (wants_for code answers g) answers → AllOrdered after g answers) →
+      MoveOrdered block move answer answers
   move_ordered block (GoesOn f) answer answers apart leads fit later =
       record { first = answer; ordered = answers; same = same_answers (answer ∷ answers); fits = tt; goes = λ rest. refl }
   move_ordered block (Requests request follows) answer answers apart leads fit later =
@@ -123,11 +125,13 @@ module _ (code : Code) (early : TakesEarly code) (depth procedure : ℕ) (argume
   last_fits block (Ends (Traps kind)) leads = refl
   last_fits block Stuck leads = tt
 
-  all_ordered : (answers : List Answer) (block : Block) (f : Frame) → Came code early depth procedure arguments block f → AllFitInAnyOrder block (wants_for code answers f) answers → AllOrdered block f answers
+  all_ordered : (answers : List Answer) (block : Block) (f : Frame) → Came code early depth procedure arguments block f →
+      AllFitInAnyOrder block (wants_for code answers f) answers → AllOrdered block f answers
   all_ordered [] block f came fit =
       record { ordered = []; same = tt; fits = last_fits block (settled code f) (settled_leads code early depth procedure arguments block f came); goes = λ rest. refl }
   all_ordered (answer ∷ answers) block f came fit =
-      let all = move_ordered block (settled code f) answer answers came.apart (settled_leads code early depth procedure arguments block f came) fit (λ after g comes fits. all_ordered answers after g comes fits) in
+      let leads = settled_leads code early depth procedure arguments block f came in
+      let all = move_ordered block (settled code f) answer answers came.apart leads fit (λ after g comes fits. all_ordered answers after g comes fits) in
       record { ordered = all.first ∷ all.ordered; same = all.same; fits = all.fits; goes = all.goes }
 
   -- ---- of an instance
@@ -152,7 +156,8 @@ module _ (code : Code) (early : TakesEarly code) (depth procedure : ℕ) (argume
           }
       at_proc (Some proc) is =
           let f = start_frame proc arguments depth in
-          let all = all_ordered answers [] f (came_first code early depth procedure arguments proc is) (subst (λ it. AllFitInAnyOrder [] (starts_at code depth it arguments answers) answers) is fit) in
+          let came = came_first code early depth procedure arguments proc is in
+          let all = all_ordered answers [] f came (subst (λ it. AllFitInAnyOrder [] (starts_at code depth it arguments answers) answers) is fit) in
           record {
             ordered = all.ordered;
             same = all.same;

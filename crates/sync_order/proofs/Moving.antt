@@ -15,7 +15,9 @@ use Rattle.cilk_meaning.specs.Wants.{Want, Asks, Returns, Traps, Deposit, Answer
 use Rattle.machine_code.specs.declared.code.Proc.{Proc}
 use Rattle.machine_code.specs.declared.instr.Instr.{Instr}
 use Rattle.machine_code.specs.declared.instr.Instr.TheVariants as instr
-use Rattle.machine_code.specs.Machine.{Code, Activation, Frame, Move, GoesOn, Requests, Ends, Stuck, stored, popping, given, with_proc, binary, unary, returned, act, look, go_on, settle, remaining, settled, want_and, resumed, wants_for, start_frame, starts, starts_at}
+use Rattle.machine_code.specs.Machine.{Code, Activation, Frame, Move, GoesOn, Requests, Ends, Stuck}
+use Rattle.machine_code.specs.Machine.{stored, popping, given, with_proc, binary, unary, returned, act, look}
+use Rattle.machine_code.specs.Machine.{go_on, settle, remaining, settled, want_and, resumed, wants_for, start_frame, starts, starts_at}
 use Rattle.sync_order.specs.Orders.{AreApart, targets_of}
 use Rattle.sync_order.proofs.Depositing.{any_order}
 
