@@ -1,0 +1,4 @@
+pub mod Depositing
+pub mod Moving
+pub mod Blocks
+pub mod Fitting
