@@ -9,6 +9,7 @@ use Rattle.cilk_meaning.specs.Resolved.{Program}
 use Rattle.cilk_meaning.specs.Wants.{Returns}
 use Rattle.cilk_meaning.specs.World.{End, Event, events_of, ticks_of}
 use Rattle.cluster_rules.specs.Home.{sum_in}
+use Rattle.determinacy.specs.Determinate.{Determined, Runs}
 use Rattle.determinacy.specs.Ending.{is_item, all_ticks}
 use Rattle.determinacy.specs.Replies.{Trace, want_at, Obeys}
 use Rattle.determinacy.specs.Serial.{LastOf, RaceFree, SerialReads, Serially}
@@ -74,3 +75,10 @@ abbrev pub ElisionIsSerial : Type 0
 ElisionIsSerial = (most : Limits) (program : Program) (start : ℕ → ℤ) (budget : ℕ) (memory : SharedMemory) → IsParted program → Begins memory start →
     (end_of most program start budget).end ≡ Finished → HasNoRace (history_of program (end_of most program start budget)) →
     Serially (wants_within most program) program.main (elision_trace most program start budget) memory (finish_of most program start budget)
+
+-- Each location consistent execution of the program goes as its elision, where that finished and its history has no race.
+abbrev pub RunsGoAsElision : Type 0
+RunsGoAsElision = (most : Limits) (program : Program) (start : ℕ → ℤ) (budget : ℕ) (memory : SharedMemory) (run : Trace) (now : ℕ) → IsParted program → Begins memory start →
+    (end_of most program start budget).end ≡ Finished → HasNoRace (history_of program (end_of most program start budget)) →
+    Runs (wants_within most program) program.main run memory →
+    Determined (wants_within most program) run (elision_trace most program start budget) memory (finish_of most program start budget) now

@@ -1,6 +1,6 @@
 //! Laws of the elision as an execution, each the contract of a function that does nothing.
 
-ghost use Rattle.elision_trace.specs.Laws.{ElisionIsSerial, ElisionObeys, ElisionRaceFree, ElisionReads, ElisionRemembers, ElisionReturns, ElisionTicks, TraceIsLog};
+ghost use Rattle.elision_trace.specs.Laws.{ElisionIsSerial, ElisionObeys, ElisionRaceFree, ElisionReads, ElisionRemembers, ElisionReturns, ElisionTicks, RunsGoAsElision, TraceIsLog};
 
 /// The elision of a parted program is an execution of it.
 pub fn elision_obeys()
@@ -40,4 +40,10 @@ pub fn elision_race_free()
 /// An elision that finished, and whose history has no race, is a serial execution of its program.
 pub fn elision_is_serial()
     ensures { ElisionIsSerial }
+{}
+
+/// Each location consistent execution of a program goes as the elision, where that finished and its history has no race: no frame traps, no
+/// more ticks are spent, and a finished one has the same frames, told the same, and the same memory.
+pub fn runs_go_as_elision()
+    ensures { RunsGoAsElision }
 {}

@@ -5,5 +5,5 @@ mod laws;
 
 pub use laws::{
     elision_is_serial, elision_obeys, elision_race_free, elision_reads, elision_remembers,
-    elision_returns, elision_ticks, trace_is_log,
+    elision_returns, elision_ticks, runs_go_as_elision, trace_is_log,
 };
