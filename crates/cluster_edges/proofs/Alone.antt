@@ -19,24 +19,10 @@ use Rattle.cluster_rules.proofs.Passing.{closure_marks}
 use Rattle.cluster_rules.proofs.Holding.{at_node, in_message, held_once}
 use Rattle.cluster_edges.specs.Stages.{frame_in}
 use Rattle.cluster_edges.proofs.Counted.{one_same}
+use Rattle.cluster_edges.proofs.OnePlace.{brings_one}
 use Rattle.cluster_edges.proofs.Longer.{leaves, each_all}
 use Rattle.cluster_edges.proofs.Leaving.{NoneLeaves}
 use Rattle.cluster_edges.proofs.Tying.{NoneParkedLeaves, LonelyAt, Lonely}
-
--- ---- counts
-
-brings_one : (frame : FrameId) (said : Body) → frame_in said ≡ Some frame → many (named frame) (closure_marks said) ≡ 1
-brings_one frame (body.Fetch page) is = absurd (cc)
-brings_one frame (body.Page page words) is = absurd (cc)
-brings_one frame (body.Reconcile parts) is = absurd (cc)
-brings_one frame body.Ack is = absurd (cc)
-brings_one frame body.Ask is = absurd (cc)
-brings_one frame (body.Grant closure) is = let same : closure.id ≡ frame = cc in let self = one_same closure.id frame same in omega (arith, self)
-brings_one frame body.Refuse is = absurd (cc)
-brings_one frame (body.Done join index value) is = absurd (cc)
-brings_one frame (body.Park join closure) is = let same : closure.id ≡ frame = cc in let self = one_same closure.id frame same in omega (arith, self)
-brings_one frame (body.Add other index word addend) is = absurd (cc)
-brings_one frame (body.Added old) is = absurd (cc)
 
 module _ (moved : Moved) (frame : FrameId) (left : leaves moved.event ≡ Some frame) where
   not_it : (id : FrameId) → one (same_frame id frame) ≡ 0 → leaves moved.event ≡ Some id → ⊥

@@ -26,6 +26,7 @@ use Rattle.cluster_rules.proofs.Marks.{WantsAdd, first_is, bottom_gone}
 use Rattle.cluster_rules.proofs.Passing.{may_post}
 use Rattle.cluster_rules.proofs.Holding.{own_first, own_other}
 use Rattle.cluster_order.proofs.Answering.{any_waits}
+use Rattle.cluster_rules.proofs.Testing.{neither}
 
 -- the first of the stack is this frame, and wants an add
 abbrev pub AsksFirst : FrameId → List Life → Type 0
@@ -131,10 +132,6 @@ asked_now : (node : Node) (past : Past) (message : Msg) (frame : FrameId) (index
     → AsksFirst frame (stack_of node (Sent message ∷ past))
 unfolding frames_of
 asked_now node past message frame index word addend may is = asked_here node past frame index word addend message.receiver message.body is (may_post node past message may)
-
-neither : (first second : Bool) → first || second ≡ false → (first ≡ false) × (second ≡ false)
-neither true second none = absurd (cc)
-neither false second none = (refl, none)
 
 -- The frame whose add was asked for stays the first, and wants it still, until the old value comes.
 pub asks_since : (node : Node) (newer older : Past) (message : Msg) (frame : FrameId) (index word : ℕ) (addend : ℤ) → AllAllowed node (newer ++ Sent message ∷ older)

@@ -23,6 +23,7 @@ use Rattle.cluster_edges.proofs.Placed.{Named, Coming, Placed, Brought, Untold, 
 use Rattle.cluster_edges.proofs.Counted.{Once, marks_at, untold_none, untold_count, no_news, counted_named}
 use Rattle.cluster_edges.proofs.OnePlace.{one_place}
 use Rattle.cluster_edges.proofs.Moving.{own_placed, tells_own, sends_coming}
+use Rattle.cluster_rules.proofs.Testing.{neither}
 
 -- ---- what is on its way
 
@@ -39,10 +40,6 @@ coming_kept cluster moved course receiver (body.Done join index value) none comi
 coming_kept cluster moved course receiver (body.Park join closure) none coming = join_kept cluster receiver moved course closure.id coming (none closure.id refl)
 coming_kept cluster moved course receiver (body.Add other index word addend) none coming = tt
 coming_kept cluster moved course receiver (body.Added old) none coming = tt
-
-neither : (first second : Bool) → first || second ≡ false → (first ≡ false) × (second ≡ false)
-neither true second none = absurd (cc)
-neither false second none = (refl, none)
 
 -- ---- one event
 

@@ -15,7 +15,7 @@ use Rattle.cluster_rules.specs.Lives.{same_join}
 use Rattle.cluster_rules.specs.Frames.{Frames, Parked, done_in, done_by, is_done, is_complete, joined, all_joined, still_parked, with_joined}
 use Rattle.cluster_rules.specs.Positions.{Moved, Course, own}
 use Rattle.cluster_rules.specs.Runs.{Cluster, node_at}
-use Rattle.cluster_rules.proofs.Settling.{both_true}
+use Rattle.cluster_rules.proofs.Testing.{both_true}
 use Rattle.cluster_rules.proofs.Stepping.{WasPosted, Carries, Stepped}
 use Rattle.cluster_edges.proofs.Ties.{Among, Born, Told, tie_of, IsNoted, Lying, Waiting, AllLying, AllWaiting, Keeps, Returned, Saying}
 use Rattle.cluster_edges.proofs.Granting.{same_join_is}

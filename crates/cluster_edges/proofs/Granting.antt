@@ -17,18 +17,16 @@ use Rattle.cluster_rules.specs.Edges.{join_for, MayGrant}
 use Rattle.cluster_rules.specs.Positions.{Moved, Course, own}
 use Rattle.cluster_rules.specs.Runs.{Cluster, node_at, MayPost, MaySend}
 use Rattle.cluster_rules.specs.Allowed.{IsAllowed}
-use Rattle.cluster_rules.proofs.Settling.{both_true}
+use Rattle.cluster_rules.proofs.Testing.{both_true}
 use Rattle.cluster_rules.proofs.Stepping.{Step}
 use Rattle.cluster_rules.proofs.Passing.{may_post}
 use Rattle.cluster_order.specs.Reading.{granted_for, grants_in, grants_by}
 use Rattle.cluster_order.proofs.Between.{own_first}
 use Rattle.cluster_edges.proofs.Ties.{Born, Named, tie_of, Standing, Stacked, Keeps, Tied}
 use Rattle.cluster_edges.proofs.Longer.{join_more, StaysNamed}
+use Rattle.cluster_rules.proofs.Testing.{own_number}
 
 -- ---- names of joins
-
-own_number : (number : ℕ) → eqb number number ≡ true
-own_number number = grind (arith, nat_tests)
 
 pub same_join_self : (join : JoinId) → same_join join join ≡ true
 same_join_self join = rw (own_number join.node, own_number join.number) refl

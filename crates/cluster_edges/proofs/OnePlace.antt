@@ -38,7 +38,7 @@ none_there : (cluster : Cluster) (frame : FrameId) (number : ℕ) → 1 ≤ numb
 unfolding frames_of
 none_there cluster frame number some = let other : eqb number 0 ≡ false = grind (arith, nat_tests) in rw other refl
 
-brings_one : (frame : FrameId) (said : Body) → frame_in said ≡ Some frame → many (named frame) (closure_marks said) ≡ 1
+pub brings_one : (frame : FrameId) (said : Body) → frame_in said ≡ Some frame → many (named frame) (closure_marks said) ≡ 1
 brings_one frame (body.Fetch page) is = absurd (cc)
 brings_one frame (body.Page page words) is = absurd (cc)
 brings_one frame (body.Reconcile parts) is = absurd (cc)

@@ -15,7 +15,7 @@ use Rattle.cluster_rules.specs.Frames.{frames_of, stack_of, next_frame}
 use Rattle.cluster_rules.specs.Acting.{Wants, MayMake}
 use Rattle.cluster_rules.specs.Runs.{Cluster, node_at}
 use Rattle.cluster_rules.specs.Positions.{Moved, Course, own, before}
-use Rattle.cluster_rules.proofs.Settling.{both_true}
+use Rattle.cluster_rules.proofs.Testing.{both_true}
 use Rattle.cluster_rules.proofs.Stepping.{Stepped}
 use Rattle.cluster_rules.proofs.Summing.{sum_one}
 use Rattle.cluster_rules.proofs.Marks.{named, same_name}

@@ -25,6 +25,7 @@ use Rattle.cluster_edges.proofs.Stacks.{live_stacked, added_stacked, lying_appen
 use Rattle.cluster_edges.proofs.Completing.{BearsOnce, joined_keeps}
 use Rattle.cluster_edges.proofs.Doing.{item_keeps}
 use Rattle.cluster_edges.proofs.Leaving.{NoneLeaves, grant_stands, grant_stacked, park_waits, done_returns, grant_known, park_known}
+use Rattle.cluster_rules.proofs.Testing.{neither}
 
 -- ---- the frame that leaves is nowhere else
 
@@ -49,10 +50,6 @@ some_or_not (Some other) frame = on (same_frame other frame) refl
     on : (b : Bool) → same_frame other frame ≡ b → (Some other ≡ Some frame) ⊎ (Some other ≡ Some frame → ⊥)
     on true is = inl (ap Some (same_name other frame is))
     on false is = inr (λ some. let same : other ≡ frame = cc in let is_same : same_frame other frame ≡ true = ap (λ it. same_frame it frame) same ∙ same_self frame in absurd (cc))
-
-neither : (first second : Bool) → first || second ≡ false → (first ≡ false) × (second ≡ false)
-neither true second none = absurd (cc)
-neither false second none = (refl, none)
 
 -- ---- one event
 

@@ -20,14 +20,12 @@ use Rattle.backer_order.specs.Moments.{Wrote, IsWrite, HasRead, Arrives, ByPage,
 use Rattle.cluster_order.specs.Reading.{words_of, note_of, item_of, taken_from, happens_to, events_of}
 use Rattle.cluster_order.proofs.Events.{Found, happens, event_at, posted_is, taken_is, dropped_is, loaded_is, acted_is, Acted, Served, page_is, write_is, read_is, no_add}
 use Rattle.cluster_order.proofs.Messages.{Taking, taking_at, taking_found, posted_event, taken_event, same_message}
+use Rattle.cluster_rules.proofs.Testing.{own_number}
 
 -- ---- which events are such
 
 same_number : (number other : ℕ) → eqb number other ≡ true → number ≡ other
 same_number number other is = grind (arith, nat_tests)
-
-own_number : (number : ℕ) → eqb number number ≡ true
-own_number number = grind (arith, nat_tests)
 
 pub drop_in : (g : ℕ) (event : Event) → drops g event ≡ true → event ≡ Did (item.Drop g)
 drop_in g (Did (item.Act frame index act)) is = absurd (cc)

@@ -30,6 +30,7 @@ use Rattle.cluster_order.proofs.Accesses.{ev, found_of, event_there}
 use Rattle.cluster_order.proofs.Lawful.{past_at, sent_by, fetch_allowed, reconcile_allowed, add_allowed}
 use Rattle.cluster_order.proofs.Owing.{OwesFor, PageFor, AckFor, reply_for, served_here}
 use Rattle.cluster_order.proofs.Adding.{AddTaken, add_other, OldOf, add_for, old_for, served_at_home}
+use Rattle.cluster_rules.proofs.Testing.{both_true}
 
 -- ---- one that is such stands somewhere
 
@@ -82,10 +83,6 @@ any_waits wait (first ∷ newer) event older none not is = on (ends wait first) 
 
 no_end : (wait : Wait) (message : Msg) → ends wait (Sent message) ≡ false
 no_end wait message = refl
-
-both_true : (first second : Bool) → first && second ≡ true → (first ≡ true) × (second ≡ true)
-both_true true second both = (refl, both)
-both_true false second both = absurd (cc)
 
 equal : (number other : ℕ) → eqb number other ≡ true → number ≡ other
 equal number other is = grind (arith, nat_tests)

@@ -36,16 +36,13 @@ use Rattle.cluster_order.proofs.Residing.{Since, resident_at, resided, residing,
 use Rattle.cluster_order.proofs.Homing.{PartAmong, has_part, Reconciled, reconciled, place_within, word_at_place}
 use Rattle.cluster_order.proofs.Lawful.{own_part_allowed, reconcile_allowed, drop_allowed}
 use Rattle.cluster_order.proofs.Answering.{Request, Answer, RepliedAt, told_behind_answer, replied_by, some_later, Somewhere, ended_by}
+use Rattle.cluster_rules.proofs.Testing.{both_true}
 
 equal : (number other : ℕ) → eqb number other ≡ true → number ≡ other
 equal number other is = grind (arith, nat_tests)
 
 itself : (number : ℕ) → eqb number number ≡ true
 itself number = grind (arith, nat_tests)
-
-both_true : (first second : Bool) → first && second ≡ true → (first ≡ true) × (second ≡ true)
-both_true true second both = (refl, both)
-both_true false second both = absurd (cc)
 
 longer : (front : Course) (one : Moved) (back : Course) (n : ℕ) → length back ≡ n → n < length (front ++ one ∷ back)
 longer front one back n is = let sum = length-append front (one ∷ back) in omega (arith, sum, is)

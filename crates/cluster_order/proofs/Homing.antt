@@ -32,6 +32,7 @@ use Rattle.cluster_order.proofs.Between.{NoneFrom, none_later, Stands, stands, i
 use Rattle.cluster_order.proofs.Messages.{length_before, at_before, happens_before, happened_before, none_between, Taking, taking_at, taking_found, posted_event, taken_event, same_message}
 use Rattle.cluster_order.proofs.Accesses.{ev, found_of, event_there}
 use Rattle.cluster_order.proofs.Lawful.{past_at, own_part_allowed, reconcile_allowed, home_served}
+use Rattle.cluster_rules.proofs.Testing.{both_true}
 
 -- ---- what the latest gives
 
@@ -102,10 +103,6 @@ part_among cluster (part ∷ parts) sent (inr has) =
 some_on : {A : Type 0} (b : Bool) (value other : A) → cond b (Some value) None ≡ Some other → (b ≡ true) × (value ≡ other)
 some_on true value other some = let same : value ≡ other = cc in (refl, same)
 some_on false value other some = absurd (cc)
-
-both_true : (first second : Bool) → first && second ≡ true → (first ≡ true) × (second ≡ true)
-both_true true second both = (refl, both)
-both_true false second both = absurd (cc)
 
 equal : (number other : ℕ) → eqb number other ≡ true → number ≡ other
 equal number other is = grind (arith, nat_tests)

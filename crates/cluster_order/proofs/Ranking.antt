@@ -22,6 +22,7 @@ use Rattle.cluster_order.proofs.Accesses.{ev}
 use Rattle.cluster_order.proofs.Fronts.{first_none, first_at}
 use Rattle.cluster_order.proofs.Counting.{count, same_count, head_count}
 use Rattle.cluster_order.proofs.Owing.{asks_home_in, request_same, reply_same, item_no_message, event_of_moved, nothing_there, past_same, past_other, past_next, taken_message, reply_for}
+use Rattle.cluster_rules.proofs.Testing.{both_true}
 
 -- ---- tests on events
 
@@ -41,10 +42,6 @@ asks_same (body.Added old) = refl
 and_not : (b : Bool) → b && false ≡ false
 and_not true = refl
 and_not false = refl
-
-both_true : (first second : Bool) → first && second ≡ true → (first ≡ true) × (second ≡ true)
-both_true true second both = (refl, both)
-both_true false second both = absurd (cc)
 
 equal : (number other : ℕ) → eqb number other ≡ true → number ≡ other
 equal number other is = grind (arith, nat_tests)

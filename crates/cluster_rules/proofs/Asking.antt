@@ -26,7 +26,8 @@ use Rattle.cluster_rules.proofs.Phases.{Phase, Idle, Asked, Told, after_post, af
 use Rattle.cluster_rules.proofs.Phases.{is_asked, is_told, IsFirst, first_idle, awaits_told, awaits_took}
 use Rattle.cluster_rules.proofs.UnderWay.{adds_body, add_from, under_way, tells_body, old_to, to_tell, amount_in, moved_by, adds_sent, adds_took, adds_ended}
 use Rattle.cluster_rules.proofs.UnderWay.{adds_kept, adds_served, owed_counts, olds_ended, olds_took, olds_did, olds_posted, olds_told}
-use Rattle.cluster_rules.proofs.Phasing.{Phased, own_number, other_number, equal_number, cond_same, is_one, asked_same, told_not_asked, first_granted, first_done}
+use Rattle.cluster_rules.proofs.Phasing.{Phased, equal_number, cond_same, is_one, asked_same, told_not_asked, first_granted, first_done}
+use Rattle.cluster_rules.proofs.Testing.{own_number, other_number}
 use Rattle.cluster_rules.proofs.Phasing.{first_parked, awaits_more, stack_more, first_more, kept, quiet_idle}
 
 -- ---- one event more

@@ -26,6 +26,7 @@ use Rattle.cluster_rules.proofs.Phases.{Phase, Idle, Asked, Told, after_post, af
 use Rattle.cluster_rules.proofs.UnderWay.{moved_by}
 use Rattle.cluster_rules.proofs.Phasing.{Phased, quiet_idle}
 use Rattle.cluster_rules.proofs.Asking.{phased, was_asked, phase_asker, phase_others, phase_done, phase_far, was_told}
+use Rattle.cluster_rules.proofs.Testing.{own_number}
 
 -- ---- acts
 
@@ -60,9 +61,6 @@ pending cluster frame course = sum_below cluster.config.nodes (pending_at course
 pending_same : (cluster : Cluster) (frame : FrameId) (course other : Course) → ((number : ℕ) → is_told_of frame (phase_of number other) ≡ is_told_of frame (phase_of number course))
     → pending cluster frame other ≡ pending cluster frame course
 pending_same cluster frame course other same = sum_same cluster.config.nodes (pending_at course frame) (pending_at other frame) (λ number less. ap one (same number))
-
-own_number : (number : ℕ) → eqb number number ≡ true
-own_number number = grind (arith, nat_tests)
 
 -- an act was counted, or is an add of which the frame was not told yet
 abbrev AddsUp : Cluster → Course → Type 0

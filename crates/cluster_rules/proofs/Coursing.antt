@@ -10,6 +10,7 @@ use Rattle.cluster_rules.specs.Runs.{Cluster, node_at, IsLawful}
 use Rattle.cluster_rules.specs.Allowed.{IsAllowed, AllAllowed}
 use Rattle.cluster_rules.specs.Positions.{Moved, Course, with_items, with_posts, with_taking, with_end, with_turn, course_of, own, at, before}
 use Rattle.cluster_rules.proofs.Lawful.{lawful_past, allowed_at}
+use Rattle.cluster_rules.proofs.Testing.{own_number}
 
 -- ---- the past of a node is its part of all events
 
@@ -102,9 +103,6 @@ own_append_on number first front back false same = same
 own_append : (number : ℕ) (front back : Course) → own number (front ++ back) ≡ own number front ++ own number back
 own_append number [] back = refl
 own_append number (first ∷ front) back = own_append_on number first front back (eqb first.node number) (own_append number front back)
-
-own_number : (number : ℕ) → eqb number number ≡ true
-own_number number = grind (arith, nat_tests)
 
 -- Each event of lawful turns is allowed, at its position, by what its node did and took before.
 pub lawful_at : (cluster : Cluster) (turns : List WholeTurn) (position : ℕ) (moved : Moved) → IsLawful cluster turns → at (course_of turns) position ≡ Some moved

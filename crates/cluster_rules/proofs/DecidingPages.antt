@@ -26,7 +26,8 @@ use Rattle.cluster_rules.specs.Asks.{keeps_ask}
 use Rattle.cluster_rules.specs.Paging.{word_wanted, WantsPage, MayBring, MayLoad, MayFetch, IsVictim, HasReturned, IsAtJoin, CanGrant, NeedsRoom, WantsAddOf, HasCause, Room, Granting, Returning, Joining, Adding, IsSending, EachIsSending, MayReconcile, IsClean, stands_before, loads_other, fetches_other, adds_to, posts_add_to, IsForRoom, IsForAdd, is_at_take_up, MayDrop, MayTakeUp}
 use Rattle.cluster_rules.specs.Edges.{IsAllClean}
 use Rattle.cluster_rules.proofs.Quieting.{open_waits, quiet_by}
-use Rattle.cluster_rules.proofs.Settling.{settled_unwritten, are_sent_home, settled_by, all_sent_home, both_true}
+use Rattle.cluster_rules.proofs.Settling.{settled_unwritten, are_sent_home, settled_by, all_sent_home}
+use Rattle.cluster_rules.proofs.Testing.{both_true}
 use Rattle.cluster_rules.proofs.Deciding.{◌>>=◌, or_try, where_true, holds, fails, same, differ, less, at_most, same_bool, same_int, same_option, same_list, found, none, split, same_frame_id, asks, adds, where_needed}
 
 abbrev pub quiet : (past : Past) → Option (IsQuiet past)

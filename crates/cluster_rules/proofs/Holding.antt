@@ -20,6 +20,7 @@ use Rattle.cluster_rules.proofs.Letters.{letters_on, letters_of, amount_of, lett
 use Rattle.cluster_rules.proofs.Summing.{sum_below, sum_change, sum_two, one_or_two}
 use Rattle.cluster_rules.proofs.Marks.{Mark, one, many, named, marks_of, same_self, same_name}
 use Rattle.cluster_rules.proofs.Passing.{closure_marks, gone_by, come_by, advanced_by, risen, born_by, passes}
+use Rattle.cluster_rules.proofs.Testing.{own_number}
 
 -- ---- what is held
 
@@ -42,9 +43,6 @@ abbrev pub held : Cluster → Course → FrameId → ℕ
 held cluster course frame = held_by cluster course (named frame)
 
 -- ---- the past of a node behind one event more
-
-own_number : (number : ℕ) → eqb number number ≡ true
-own_number number = grind (arith, nat_tests)
 
 pub own_first : (moved : Moved) (course : Course) → own moved.node (moved ∷ course) ≡ moved.event ∷ own moved.node course
 own_first moved course = rw (own_number moved.node) refl

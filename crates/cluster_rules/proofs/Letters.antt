@@ -7,8 +7,9 @@ use Rattle.page_messages.specs.declared.log.PostAt.{PostAt}
 use Rattle.cluster_rules.specs.Turns.{Event, Did, Sent, Took, Ended, same_place, takes_at}
 use Rattle.cluster_rules.specs.Runs.{Cluster}
 use Rattle.cluster_rules.specs.Positions.{Moved, Course}
-use Rattle.cluster_rules.proofs.Settling.{both_true}
+use Rattle.cluster_rules.proofs.Testing.{both_true}
 use Rattle.cluster_rules.proofs.Stepping.{IsPost, WasPosted, posts_place, takes_place, Posts, Takes, Carries, Stepped}
+use Rattle.cluster_rules.proofs.Testing.{neither}
 
 pub record Letter : Type 0 where
   pub place : PostAt
@@ -97,10 +98,6 @@ posted_any (moved ∷ course) place message (inr was) = on (posts_place place mo
     on : (b : Bool) → list_any (posts_place place) course ≡ true → b || list_any (posts_place place) course ≡ true
     on true any = refl
     on false any = any
-
-neither : (first second : Bool) → first || second ≡ false → (first ≡ false) × (second ≡ false)
-neither true second none = absurd (cc)
-neither false second none = (refl, none)
 
 apart_on : (place other : PostAt) (course : Course) (message : Msg) (b : Bool) → same_place other place ≡ b → WasPosted course place message → list_any (posts_place other) course ≡ false → b ≡ false
 apart_on place other course message false is was fresh = refl

@@ -1,3 +1,4 @@
+pub mod Testing
 pub mod Backward
 pub mod AsWritten
 pub mod Lawful

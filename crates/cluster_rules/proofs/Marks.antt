@@ -10,12 +10,10 @@ use Rattle.cluster_rules.specs.Turns.{Past}
 use Rattle.cluster_rules.specs.Node.{Node}
 use Rattle.cluster_rules.specs.Lives.{Life, same_frame, want_of, returned, with_kept, live_from, live, without_bottom, link_to}
 use Rattle.cluster_rules.specs.Frames.{Frames, Parked, is_complete, all_joined, still_parked, with_joined}
-use Rattle.cluster_rules.proofs.Settling.{both_true}
+use Rattle.cluster_rules.proofs.Testing.{both_true}
+use Rattle.cluster_rules.proofs.Testing.{own_number}
 
 -- ---- names
-
-own_number : (number : ℕ) → eqb number number ≡ true
-own_number number = grind (arith, nat_tests)
 
 pub same_self : (frame : FrameId) → same_frame frame frame ≡ true
 same_self frame = rw (own_number frame.node, own_number frame.number) refl

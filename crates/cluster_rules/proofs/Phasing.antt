@@ -15,12 +15,13 @@ use Rattle.cluster_rules.specs.Acting.{Wants}
 use Rattle.cluster_rules.specs.Edges.{MayGrant}
 use Rattle.cluster_rules.specs.Runs.{Cluster, node_at}
 use Rattle.cluster_rules.specs.Positions.{Course, own}
-use Rattle.cluster_rules.proofs.Settling.{both_true}
+use Rattle.cluster_rules.proofs.Testing.{both_true}
 use Rattle.cluster_rules.proofs.Summing.{one_or_two}
 use Rattle.cluster_rules.proofs.Marks.{one, same_name, WantsAdd, AddsFirst, live_first, bottom_gone, kept_first}
 use Rattle.cluster_rules.proofs.Holding.{own_first, own_other}
 use Rattle.cluster_rules.proofs.Phases.{Phase, Idle, Asked, Told, phase_of, waits_in, is_asked, is_told, IsFirst, idle_is}
 use Rattle.cluster_rules.proofs.UnderWay.{under_way, to_tell, moved_by}
+use Rattle.cluster_rules.proofs.Testing.{own_number, other_number}
 
 -- What the phases of all nodes say.
 pub record Phased (cluster : Cluster) (course : Course) : Type 0 where
@@ -31,12 +32,6 @@ pub record Phased (cluster : Cluster) (course : Course) : Type 0 where
   pub olds : (number : ℕ) → to_tell cluster course number ≡ one (is_told (phase_of number course))
 
 -- ---- small laws
-
-pub own_number : (number : ℕ) → eqb number number ≡ true
-own_number number = grind (arith, nat_tests)
-
-pub other_number : (number other : ℕ) → number ≢ other → eqb number other ≡ false
-other_number number other not = grind (arith, nat_tests)
 
 pub equal_number : (number other : ℕ) → eqb number other ≡ true → number ≡ other
 equal_number number other is = grind (arith, nat_tests)

@@ -6,6 +6,7 @@ use Rattle.cluster_rules.specs.Turns.{Event, Past}
 use Rattle.cluster_rules.specs.Node.{Node}
 use Rattle.cluster_rules.specs.Cache.{writes}
 use Rattle.cluster_rules.specs.Sendings.{sends_word, settles, IsSettled, AllSettled}
+use Rattle.cluster_rules.proofs.Testing.{both_true}
 
 no_write_on : (word : ℕ) (past later older : Past) (event : Event) → list_any (writes word) past ≡ false → past ≡ later ++ event ∷ older → writes word event ≡ true → ⊥
 no_write_on word past [] older event none parts wrote =
@@ -43,10 +44,6 @@ sent_home node word newer (event ∷ older) is =
 abbrev pub are_sent_home : Node → ℕ → Past → Past → Bool
 are_sent_home node word newer [] = true
 are_sent_home node word newer (event ∷ older) = (not (writes word event) || is_sent_home node word [] newer) && are_sent_home node word (newer ++ event ∷ []) older
-
-pub both_true : (first second : Bool) → first && second ≡ true → (first ≡ true) × (second ≡ true)
-both_true true second both = (refl, both)
-both_true false second both = absurd (cc)
 
 wrote_then : (wrote sent : Bool) → wrote ≡ true → not wrote || sent ≡ true → sent ≡ true
 wrote_then true sent is either = either

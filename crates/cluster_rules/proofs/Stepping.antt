@@ -15,6 +15,7 @@ use Rattle.cluster_rules.specs.Allowed.{IsAllowed}
 use Rattle.cluster_rules.specs.Positions.{Moved, Course, with_items, with_posts, with_taking, with_end, with_turn, course_of, own, before}
 use Rattle.cluster_rules.proofs.Coursing.{own_course}
 use Rattle.cluster_rules.proofs.Senders.{sends_from}
+use Rattle.cluster_rules.proofs.Testing.{own_number, other_number, neither}
 
 -- ---- messages in a course
 
@@ -91,12 +92,6 @@ stepped_before cluster (moved ∷ course) stepped position =
     stepped_on cluster moved course position (eqb position (length course)) stepped.0 (stepped_before cluster course stepped.0 position)
 
 -- ---- places
-
-own_number : (number : ℕ) → eqb number number ≡ true
-own_number number = grind (arith, nat_tests)
-
-other_number : (number other : ℕ) → number ≢ other → eqb number other ≡ false
-other_number number other not = grind (arith, nat_tests)
 
 -- the latest event of a node is the first of its past
 pub own_now : (number : ℕ) (event : Event) (here : Option PostAt) (course : Course) → own number (record { node = number; event = event; message = here } ∷ course) ≡ event ∷ own number course
@@ -247,10 +242,6 @@ taking_takes place number here (Some message) course other = rw other refl
 end_takes : (place : PostAt) (number : ℕ) (end : Option NodeEnd) (course : Course) → list_any (takes_place place) (with_end number end course) ≡ list_any (takes_place place) course
 end_takes place number None course = refl
 end_takes place number (Some end) course = refl
-
-neither : (first second : Bool) → first || second ≡ false → (first ≡ false) × (second ≡ false)
-neither true second none = absurd (cc)
-neither false second none = (refl, none)
 
 untaken : (older : List WholeTurn) (place : PostAt) → list_any (λ turn. takes_at place turn.took) older ≡ false → list_any (takes_place place) (course_of older) ≡ false
 unfolding course_of

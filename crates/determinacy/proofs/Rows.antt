@@ -8,6 +8,7 @@ use Rattle.cluster_rules.specs.Lives.{same_frame}
 use Rattle.determinacy.specs.Replies.{Trace, Reply, by, children_after, children, value_in, deposits, reply_to, want_of, replies, want_at, Answers, Born, Obeys}
 use Rattle.page_messages.specs.declared.closure.FrameId.{FrameId}
 use Rattle.span_tree.specs.Program.{Starts}
+use Rattle.cluster_rules.proofs.Testing.{both_true}
 
 pub when_true : {A : Type 0} (holds : Bool) (yes' other : A) → holds ≡ true → cond holds yes' other ≡ yes'
 when_true true yes' other is = refl
@@ -20,11 +21,6 @@ when_false false yes' other is = refl
 pub either_bool : (holds : Bool) → (holds ≡ true) ⊎ (holds ≡ false)
 either_bool true = inl refl
 either_bool false = inr refl
-
-both_true : (first second : Bool) → (first && second) ≡ true → (first ≡ true) × (second ≡ true)
-both_true true true is = (refl, refl)
-both_true true false is = absurd cc
-both_true false second is = absurd cc
 
 eqb_is : (first second : ℕ) → (first == second) ≡ true → first ≡ second
 eqb_is first second is = search (rules, is)

@@ -11,29 +11,16 @@ use Rattle.cluster_rules.specs.Histories.{row_number}
 use Rattle.backer_order.specs.Log as log
 use Rattle.backer_order.specs.Log.{Events}
 use Rattle.backer_order.proofs.Search.{Less3, Same3, More3, compare}
+use Rattle.cluster_rules.proofs.Testing.{both_true}
+use Rattle.cluster_rules.proofs.Marks.{same_self, same_name}
 
 -- ---- one frame or another
-
-pub frame_same : (frame : FrameId) → same_frame frame frame ≡ true
-frame_same frame = let one : eqb frame.node frame.node ≡ true = grind (arith, nat_tests) in let two : eqb frame.number frame.number ≡ true = grind (arith, nat_tests) in rw (one, two) refl
-
-both_true : (a b : Bool) → (a && b) ≡ true → (a ≡ true) × (b ≡ true)
-both_true true true is = (refl, refl)
-both_true true false is = absurd cc
-both_true false b is = absurd cc
-
-pub frame_is : (first second : FrameId) → same_frame first second ≡ true → first ≡ second
-frame_is first second is =
-    let both = both_true (eqb first.node second.node) (eqb first.number second.number) is in
-    let one : first.node ≡ second.node = let h = both.0 in grind (arith, nat_tests) in
-    let two : first.number ≡ second.number = let h = both.1 in grind (arith, nat_tests) in
-    ap (λ it. record { node = it; number = first.number }) one ∙ ap (λ it. record { node = second.node; number = it }) two
 
 pub same_or_other : (first second : FrameId) → (first ≡ second) ⊎ (same_frame first second ≡ false)
 same_or_other first second = on (same_frame first second) refl
   where
     on : (b : Bool) → same_frame first second ≡ b → (first ≡ second) ⊎ (same_frame first second ≡ false)
-    on true is = inl (frame_is first second is)
+    on true is = inl (same_name first second is)
     on false is = inr is
 
 -- ---- the row of a frame
@@ -46,14 +33,14 @@ number_get (first ∷ frames) frame less = on (same_frame first frame) refl less
     on : (b : Bool) → same_frame first frame ≡ b → cond b 0 (suc (row_number frames frame)) < length (first ∷ frames)
         → (row_number frames frame < length frames → slice_get frames (row_number frames frame) ≡ Some frame)
         → slice_get (first ∷ frames) (cond b 0 (suc (row_number frames frame))) ≡ Some frame
-    on true is less rest = ap Some (frame_is first frame is)
+    on true is less rest = ap Some (same_name first frame is)
     on false is less rest = rest (omega (arith, less))
 
 -- no frame stands before its number
 pub number_first : (frames : List FrameId) (number : ℕ) (frame : FrameId) → slice_get frames number ≡ Some frame → row_number frames frame ≤ number
 number_first [] number frame is = absurd cc
 number_first (first ∷ frames) zero frame is = let same : first ≡ frame = cc in
-    let test : same_frame first frame ≡ true = subst (λ it. same_frame first it ≡ true) same (frame_same first) in rw test (omega arith)
+    let test : same_frame first frame ≡ true = subst (λ it. same_frame first it ≡ true) same (same_self first) in rw test (omega arith)
 number_first (first ∷ frames) (suc number) frame is = on (same_frame first frame) (number_first frames number frame is)
   where
     on : (b : Bool) → row_number frames frame ≤ number → cond b 0 (suc (row_number frames frame)) ≤ suc number
@@ -95,7 +82,7 @@ module _ (frames : List FrameId) (events : Events) (frame : FrameId) where
 
   pub act_next : (at node : ℕ) (act : log.Act) → events at ≡ log.Acts node frame act → acts (suc at) ≡ acts at ++ shown frames act ∷ []
   unfolding acts_before
-  act_next at node act is = ap (λ list. acts at ++ list) (ap (act_by frames frame) is ∙ ap (λ b. cond b (shown frames act ∷ []) []) (frame_same frame))
+  act_next at node act is = ap (λ list. acts at ++ list) (ap (act_by frames frame) is ∙ ap (λ b. cond b (shown frames act ∷ []) []) (same_self frame))
 
   place_next : (at : ℕ) → place_in at ≤ place_in (suc at)
   unfolding acts_before
@@ -176,7 +163,7 @@ module _ (frames : List FrameId) (events : Events) (frame : FrameId) where
               node = node;
               done = done;
               inside = omega arith;
-              is = is ∙ ap (λ it. log.Acts node it done) (frame_is other frame same);
+              is = is ∙ ap (λ it. log.Acts node it done) (same_name other frame same);
               place_is = sym (here.0);
               act_is = here.1;
             }
