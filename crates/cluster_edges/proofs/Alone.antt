@@ -3,8 +3,6 @@ use Rattle.std.proofs.Common.{◌≡◌, ◌<◌, ◌+◌, ℕ, List, [], ◌∷
 use Rattle.std.specs.List.{list_any}
 use Rattle.page_messages.specs.declared.closure.FrameId.{FrameId}
 use Rattle.page_messages.specs.declared.message.Msg.{Msg}
-use Rattle.page_messages.specs.declared.message.Body.{Body}
-use Rattle.page_messages.specs.declared.message.Body.TheVariants as body
 use Rattle.page_messages.specs.declared.log.PostAt.{PostAt}
 use Rattle.cluster_rules.specs.Turns.{Event, Did, Sent, Took, Ended}
 use Rattle.cluster_rules.specs.Lives.{Life, same_frame}
@@ -15,7 +13,6 @@ use Rattle.cluster_rules.proofs.Stepping.{WasPosted, takes_place, Carries, Takes
 use Rattle.cluster_rules.proofs.Summing.{sum_one}
 use Rattle.cluster_rules.proofs.Marks.{one, many, named, many_append, marks, parked_marks, other_marks, marks_of}
 use Rattle.cluster_rules.proofs.Letters.{letters_of, letters_on, amount_of, letter_sent, letter_taken}
-use Rattle.cluster_rules.proofs.Passing.{closure_marks}
 use Rattle.cluster_rules.proofs.Holding.{at_node, in_message, held_once}
 use Rattle.cluster_edges.specs.Stages.{frame_in}
 use Rattle.cluster_edges.proofs.Counted.{one_same}

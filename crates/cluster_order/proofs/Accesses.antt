@@ -1,25 +1,22 @@
 -- What the tests on events say, as what stands at positions.
-use Rattle.std.proofs.Common.{◌≡◌, ◌⊎◌, inl, inr, ℕ, ℤ, suc, ◌<◌, List, [], ◌∷◌, Option, Some, None, Bool, true, false, cond, eqb, refl, sym, ◌∙◌, ap, subst, arith, rules, is_some}
+use Rattle.std.proofs.Common.{◌≡◌, ◌⊎◌, inl, inr, ℕ, ℤ, List, Option, Some, None, Bool, true, false, cond, eqb, refl, sym, ◌∙◌, ap, subst, arith, is_some}
 use Rattle.std.proofs.lemmas.Bool.Decides.{nat_tests}
 use Rattle.page_messages.specs.declared.closure.FrameId.{FrameId}
 use Rattle.page_messages.specs.declared.message.Msg.{Msg}
 use Rattle.page_messages.specs.declared.message.Body.{Body}
 use Rattle.page_messages.specs.declared.message.Body.TheVariants as body
-use Rattle.page_messages.specs.declared.log.LoggedAct.{LoggedAct}
 use Rattle.page_messages.specs.declared.log.LoggedAct.TheVariants as act
-use Rattle.page_messages.specs.declared.log.Item.{Item}
 use Rattle.page_messages.specs.declared.log.Item.TheVariants as item
-use Rattle.page_messages.specs.declared.log.PostAt.{PostAt}
 use Rattle.cluster_rules.specs.Turns.{WholeTurn, Event, Did, Sent, Took, Ended}
 use Rattle.cluster_rules.specs.Cache.{brings, arrives, drops, written, writes}
-use Rattle.cluster_rules.specs.Positions.{Moved, Course, course_of, own, at, before, Happens}
+use Rattle.cluster_rules.specs.Positions.{course_of, before, Happens}
 use Rattle.cluster_rules.specs.Runs.{Cluster, IsLawful}
 use Rattle.cluster_rules.proofs.Backward.{gives_some}
 use Rattle.backer_order.specs.Log as log
 use Rattle.backer_order.specs.Moments.{Wrote, IsWrite, HasRead, Arrives, ByPage, ByOwn, IsArrival}
-use Rattle.cluster_order.specs.Reading.{words_of, note_of, item_of, taken_from, happens_to, events_of}
-use Rattle.cluster_order.proofs.Events.{Found, happens, event_at, posted_is, taken_is, dropped_is, loaded_is, acted_is, Acted, Served, page_is, write_is, read_is, no_add}
-use Rattle.cluster_order.proofs.Messages.{Taking, taking_at, taking_found, posted_event, taken_event, same_message}
+use Rattle.cluster_order.specs.Reading.{words_of, note_of, taken_from, happens_to, events_of}
+use Rattle.cluster_order.proofs.Events.{Found, happens, event_at, posted_is, dropped_is, loaded_is, acted_is, Acted, Served, page_is, write_is, read_is}
+use Rattle.cluster_order.proofs.Messages.{taking_at, taking_found, posted_event, taken_event, same_message}
 use Rattle.cluster_rules.proofs.Testing.{own_number}
 
 -- ---- which events are such

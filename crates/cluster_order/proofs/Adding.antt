@@ -1,35 +1,30 @@
 -- The adds that a home owes, and the old values that it has to tell, by the queues of positions.
-use Rattle.std.proofs.Common.{◌≡◌, ◌≢◌, ◌⊎◌, inl, inr, ℕ, ℤ, zero, suc, List, [], ◌∷◌, ◌++◌, Option, Some, None, Bool, true, false, cond, ◌&&◌, eqb, refl, sym, ◌∙◌, ap, subst, arith}
+use Rattle.std.proofs.Common.{◌≡◌, ◌≢◌, ◌⊎◌, inl, inr, ℕ, ℤ, suc, List, [], ◌∷◌, ◌++◌, Option, Some, None, Bool, true, false, cond, ◌&&◌, eqb, refl, sym, ◌∙◌, ap, subst, arith}
 use Rattle.std.proofs.lemmas.Bool.Decides.{nat_tests}
 use Rattle.std.proofs.lemmas.List.{append-nil}
 use Rattle.page_messages.specs.declared.closure.FrameId.{FrameId}
 use Rattle.page_messages.specs.declared.message.Msg.{Msg}
 use Rattle.page_messages.specs.declared.message.Body.{Body}
 use Rattle.page_messages.specs.declared.message.Body.TheVariants as body
-use Rattle.page_messages.specs.declared.parts.Part.{Part}
-use Rattle.page_messages.specs.declared.log.LoggedAct.TheVariants as act
 use Rattle.page_messages.specs.declared.log.Item.{Item}
 use Rattle.page_messages.specs.declared.log.Item.TheVariants as item
-use Rattle.page_messages.specs.declared.log.PostAt.{PostAt}
-use Rattle.cluster_rules.specs.Turns.{WholeTurn, Event, Did, Sent, Took, Ended, Past}
+use Rattle.cluster_rules.specs.Turns.{WholeTurn, Event, Did, Sent, Took, Ended}
 use Rattle.cluster_rules.specs.Node.{Node, page_of, home_of}
 use Rattle.cluster_rules.specs.Walking as walking
 use Rattle.cluster_rules.specs.Sendings.{tells_in}
-use Rattle.cluster_rules.specs.Home.{reply, replies_in, from_me, stored_page, owed_home_replies, owed_adds, with_add, after_served, told_by, owed_olds}
-use Rattle.cluster_rules.specs.Acting.{MayAddHere, Serves as DoesOwed}
+use Rattle.cluster_rules.specs.Home.{from_me, owed_adds, with_add, after_served, told_by, owed_olds}
 use Rattle.cluster_rules.specs.Positions.{Moved, Course, course_of, own, at, before, Happens}
-use Rattle.cluster_rules.specs.Runs.{Cluster, IsLawful, IsFree, node_at}
+use Rattle.cluster_rules.specs.Runs.{Cluster, IsLawful, node_at}
 use Rattle.backer_order.specs.Log as log
-use Rattle.backer_order.specs.Moments.{queue, Head, is_request, is_add, is_reply, takes_request, gives_reply, takes_add, serves, gives_added, Answers, Serves, Tells}
-use Rattle.cluster_order.specs.Reading.{memory_of, note_of, item_of, happens_to, served_for, taken_from, events_of}
+use Rattle.backer_order.specs.Moments.{queue, Head, takes_add, serves, gives_added, Serves, Tells}
+use Rattle.cluster_order.specs.Reading.{memory_of, note_of, item_of, happens_to, served_for, taken_from}
 use Rattle.cluster_order.specs.Standing.{first}
-use Rattle.cluster_order.proofs.Between.{own_first, own_other}
-use Rattle.cluster_order.proofs.Messages.{Taking, taking_found, posted_event, taken_event}
-use Rattle.cluster_order.proofs.Accesses.{ev, found_of, event_there}
-use Rattle.cluster_order.proofs.Fronts.{first_none, first_next, first_same, first_at}
+use Rattle.cluster_order.proofs.Messages.{Taking, posted_event}
+use Rattle.cluster_order.proofs.Accesses.{ev, event_there}
+use Rattle.cluster_order.proofs.Fronts.{first_none}
 use Rattle.cluster_order.proofs.Queues.{Matched, Step, Popped, Pushed, Kept, matched, head_of}
-use Rattle.cluster_order.proofs.Lawful.{Among, past_at, served_allowed, sent_by, reply_owed, added_allowed, add_allowed, owed_taken, home_served}
-use Rattle.cluster_order.proofs.Owing.{asks_home_in, adds_in_body, add_same, tells_same, NoMessage, item_no_message, other_no_message, served_here, same_number, event_of_moved, nothing_there, here, event_here, past_same, past_now, past_other, past_next, taken_message}
+use Rattle.cluster_order.proofs.Lawful.{sent_by, added_allowed, add_allowed, home_served}
+use Rattle.cluster_order.proofs.Owing.{adds_in_body, add_same, tells_same, item_no_message, other_no_message, served_here, same_number, event_of_moved, nothing_there, here, event_here, past_same, past_now, past_other, past_next, taken_message}
 
 -- ---- what an item makes of the adds
 

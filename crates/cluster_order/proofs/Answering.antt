@@ -1,5 +1,5 @@
 -- Each request is answered before its node goes on: the answer that is taken is the one for it.
-use Rattle.std.proofs.Common.{◌≡◌, ◌≢◌, ◌⊎◌, inl, inr, ℕ, ℤ, zero, suc, ◌+◌, ◌<◌, ◌≤◌, List, [], ◌∷◌, ◌++◌, Option, Some, None, Bool, true, false, cond, ◌&&◌, ◌||◌, eqb, length, is_some, refl, sym, ◌∙◌, ap, subst, arith, rules}
+use Rattle.std.proofs.Common.{◌≡◌, ℕ, ℤ, zero, suc, ◌<◌, ◌≤◌, List, [], ◌∷◌, ◌++◌, Option, Some, None, Bool, true, false, cond, ◌||◌, eqb, length, is_some, refl, sym, ◌∙◌, ap, subst, arith}
 use Rattle.std.proofs.lemmas.Bool.Decides.{nat_tests}
 use Rattle.std.specs.List.{list_any}
 use Rattle.page_messages.specs.declared.closure.FrameId.{FrameId}
@@ -10,26 +10,24 @@ use Rattle.page_messages.specs.declared.message.Body.TheVariants as body
 use Rattle.page_messages.specs.declared.parts.Part.{Part}
 use Rattle.cluster_rules.specs.Walking.{since}
 use Rattle.cluster_rules.specs.Turns.{WholeTurn, Event, Did, Sent, Took, Ended, Past}
-use Rattle.cluster_rules.specs.Node.{Node}
 use Rattle.cluster_rules.specs.Cache.{page_in}
 use Rattle.cluster_rules.specs.Sendings.{Wait, ForPage, ForAck, ForAdded, requests, answers, begins, ends, awaits, fetches_in, reconciles_in, acks_in, adds_in, tells_in}
-use Rattle.cluster_rules.specs.Home.{from_me, replies_in, owed_adds}
+use Rattle.cluster_rules.specs.Home.{replies_in}
 use Rattle.cluster_rules.specs.Positions.{Moved, Course, course_of, own, at, before, Happens}
-use Rattle.cluster_rules.specs.Runs.{Cluster, IsLawful, node_at}
+use Rattle.cluster_rules.specs.Runs.{Cluster, IsLawful}
 use Rattle.backer_order.specs.Log as log
-use Rattle.backer_order.specs.Rules.{Delivery}
 use Rattle.backer_order.specs.Moments.{is_reply, Answers, Serves, Tells, Replied, AddDone, Answered, takes_request, gives_reply, takes_add, serves, gives_added}
 use Rattle.backer_order.proofs.Owed as owed
 use Rattle.backer_order.proofs.Search.{Order3, Less3, Same3, More3, compare}
-use Rattle.cluster_order.specs.Reading.{memory_of, note_of, taken_from, events_of}
+use Rattle.cluster_order.specs.Reading.{memory_of, note_of, taken_from}
 use Rattle.cluster_order.proofs.Growing.{within, at_behind, at_last}
 use Rattle.cluster_order.proofs.Events.{Found, happens}
 use Rattle.cluster_order.proofs.Between.{Stands, stands_at, past_parts}
-use Rattle.cluster_order.proofs.Messages.{length_before, at_before, happens_before, happened_before, Taking, taking_found, posted_event, taken_event, delivery}
-use Rattle.cluster_order.proofs.Accesses.{ev, found_of, event_there}
-use Rattle.cluster_order.proofs.Lawful.{past_at, sent_by, fetch_allowed, reconcile_allowed, add_allowed}
-use Rattle.cluster_order.proofs.Owing.{OwesFor, PageFor, AckFor, reply_for, served_here}
-use Rattle.cluster_order.proofs.Adding.{AddTaken, add_other, OldOf, add_for, old_for, served_at_home}
+use Rattle.cluster_order.proofs.Messages.{length_before, happens_before, happened_before, Taking, taking_found, posted_event, delivery}
+use Rattle.cluster_order.proofs.Accesses.{ev, found_of}
+use Rattle.cluster_order.proofs.Lawful.{sent_by, fetch_allowed, reconcile_allowed, add_allowed}
+use Rattle.cluster_order.proofs.Owing.{OwesFor, PageFor, AckFor, reply_for}
+use Rattle.cluster_order.proofs.Adding.{add_for, old_for}
 use Rattle.cluster_rules.proofs.Testing.{both_true}
 
 -- ---- one that is such stands somewhere

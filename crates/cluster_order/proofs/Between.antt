@@ -1,5 +1,5 @@
 -- The past of a node and positions: what stands where, and what stands between.
-use Rattle.std.proofs.Common.{◌≡◌, ℕ, suc, ◌+◌, ◌<◌, ◌≤◌, List, [], ◌∷◌, ◌++◌, Option, Some, None, Bool, true, false, cond, ◌||◌, eqb, length, refl, sym, ◌∙◌, ap, subst, length-append, arith, rules}
+use Rattle.std.proofs.Common.{◌≡◌, ℕ, suc, ◌<◌, ◌≤◌, [], ◌∷◌, ◌++◌, Some, Bool, true, false, cond, ◌||◌, eqb, length, refl, sym, ◌∙◌, ap, subst, length-append, arith, rules}
 use Rattle.std.proofs.lemmas.Bool.Decides.{nat_tests}
 use Rattle.std.specs.List.{list_any}
 use Rattle.cluster_rules.specs.Turns.{Event, Past}

@@ -1,37 +1,31 @@
 -- Every run keeps the rules for pages and adds, over positions.
-use Rattle.std.proofs.Common.{◌≡◌, ◌≢◌, ◌⊎◌, inl, inr, ℕ, ℤ, suc, ◌+◌, ◌<◌, ◌≤◌, List, [], ◌∷◌, ◌++◌, Option, Some, None, Bool, true, false, eqb, length, refl, sym, ◌∙◌, ap, subst, arith}
-use Rattle.std.proofs.lemmas.Bool.Decides.{nat_tests}
+use Rattle.std.proofs.Common.{◌≡◌, ◌≢◌, ◌⊎◌, inl, inr, ℕ, ℤ, ◌<◌, ◌≤◌, List, ◌∷◌, Option, Some, None, true, false, length, refl, sym, ◌∙◌, ap, subst, arith}
 use Rattle.page_messages.specs.declared.closure.FrameId.{FrameId}
 use Rattle.page_messages.specs.declared.log.PostAt.{PostAt}
 use Rattle.page_messages.specs.declared.message.Msg.{Msg}
-use Rattle.page_messages.specs.declared.message.Body.{Body}
 use Rattle.page_messages.specs.declared.message.Body.TheVariants as body
-use Rattle.page_messages.specs.declared.log.LoggedAct.{LoggedAct}
 use Rattle.page_messages.specs.declared.log.LoggedAct.TheVariants as act
-use Rattle.page_messages.specs.declared.log.Item.{Item}
 use Rattle.page_messages.specs.declared.log.Item.TheVariants as item
 use Rattle.cluster_rules.specs.Turns.{WholeTurn, Event, Did, Sent, Took, Ended, Past}
 use Rattle.cluster_rules.specs.Node.{Node, page_of, home_of}
 use Rattle.cluster_rules.specs.Cache.{is_resident, cached}
 use Rattle.cluster_rules.specs.Sendings.{IsQuiet, AllSettled}
-use Rattle.cluster_rules.specs.Home.{stored, stored_page, owed_adds, from_me, replies_in}
-use Rattle.cluster_rules.specs.Acting.{MayAct, MayMake, MayAddHere, Serves as DoesOwed}
-use Rattle.cluster_rules.specs.Lives.{Life}
+use Rattle.cluster_rules.specs.Home.{stored, stored_page, owed_adds, replies_in}
+use Rattle.cluster_rules.specs.Acting.{MayAddHere, Serves as DoesOwed}
 use Rattle.cluster_rules.specs.Positions.{Moved, Course, course_of, own, at, before, Happens}
 use Rattle.cluster_rules.specs.Runs.{Cluster, IsLawful, IsFree, node_at}
 use Rattle.backer_order.specs.Log as log
-use Rattle.backer_order.specs.Moments.{IsWrite, HasRead, IsTouch, Resident, LastWrite, NoWrite, HasPart, Answers, Answered, Serves, Tells}
-use Rattle.backer_order.specs.Rules.{IsItem, IsAlone, Access, Reads, Cleans, Cleaned, Dropping, Drops, HomeWord, Replying, Homes, Serving, Adds, Caching}
-use Rattle.cluster_order.specs.Reading.{memory_of, words_of, parts_of, note_of, served_for, item_of, happens_to, events_of}
-use Rattle.cluster_order.proofs.Growing.{within}
-use Rattle.cluster_order.proofs.Events.{Found, happens, posted_is, taken_is, dropped_is, loaded_is, own_part_is, acted_is, Acted, Served, fetch_is, page_is, ack_is, add_is, added_is, no_add}
-use Rattle.cluster_order.proofs.Messages.{delivery, Taking, posted_event}
+use Rattle.backer_order.specs.Moments.{HasRead, IsTouch, Resident, Answers, Answered}
+use Rattle.backer_order.specs.Rules.{IsItem, IsAlone, Access, Reads, Cleaned, Drops, HomeWord, Replying, Homes, Serving, Adds, Caching}
+use Rattle.cluster_order.specs.Reading.{memory_of, words_of, parts_of, note_of, served_for, happens_to}
+use Rattle.cluster_order.proofs.Events.{Found, happens, posted_is, dropped_is, loaded_is, own_part_is, acted_is, Acted, Served, fetch_is, page_is, ack_is, add_is, added_is, no_add}
+use Rattle.cluster_order.proofs.Messages.{delivery, posted_event}
 use Rattle.cluster_order.proofs.Accesses.{ev, event_there, wrote_there, read_there}
-use Rattle.cluster_order.proofs.Residing.{Since, resident_at, resided, residing, arrival_resident, staying, cached_last, cached_first}
-use Rattle.cluster_order.proofs.Lawful.{Among, past_at, act_allowed, tick_allowed, drop_allowed, take_up_allowed, load_allowed, own_part_allowed, served_allowed, sent_by, fetch_allowed, reconcile_allowed, add_allowed, added_allowed, home_served}
+use Rattle.cluster_order.proofs.Residing.{resident_at, resided, residing, arrival_resident, staying, cached_last, cached_first}
+use Rattle.cluster_order.proofs.Lawful.{act_allowed, tick_allowed, drop_allowed, take_up_allowed, load_allowed, own_part_allowed, served_allowed, sent_by, fetch_allowed, add_allowed, home_served}
 use Rattle.cluster_order.proofs.Owing.{OwesFor, PageFor, AckFor, reply_for}
-use Rattle.cluster_order.proofs.Adding.{AddTaken, add_other, OldOf, add_for, old_for}
-use Rattle.cluster_order.proofs.Homing.{Reconciled, reconciled, home_word, stored_words}
+use Rattle.cluster_order.proofs.Adding.{add_other, add_for, old_for}
+use Rattle.cluster_order.proofs.Homing.{reconciled, home_word, stored_words}
 use Rattle.cluster_order.proofs.Answering.{answered}
 use Rattle.cluster_order.proofs.Cleaning.{cleaning, cleaned}
 

@@ -1,41 +1,36 @@
 -- Sendings, clean pages and settled writes, at positions.
-use Rattle.std.proofs.Common.{◌≡◌, ◌≢◌, ◌⊎◌, inl, inr, ℕ, ℤ, zero, suc, ◌+◌, ◌<◌, ◌≤◌, List, [], ◌∷◌, ◌++◌, Option, Some, None, Bool, true, false, cond, ◌&&◌, ◌||◌, eqb, length, is_some, refl, sym, ◌∙◌, ap, subst, append_assoc, length-append, arith, rules}
+use Rattle.std.proofs.Common.{◌≡◌, ◌⊎◌, inl, inr, ℕ, ℤ, suc, ◌<◌, ◌≤◌, List, [], ◌∷◌, ◌++◌, Some, Bool, true, false, cond, ◌||◌, eqb, length, refl, sym, ◌∙◌, ap, subst, append_assoc, length-append, arith}
 use Rattle.std.proofs.lemmas.Bool.Decides.{nat_tests}
 use Rattle.std.specs.List.{list_any}
-use Rattle.std.specs.Prelude.{slice_index_or, pos}
-use Rattle.page_messages.specs.declared.closure.FrameId.{FrameId}
-use Rattle.page_messages.specs.declared.log.PostAt.{PostAt}
 use Rattle.page_messages.specs.declared.message.Msg.{Msg}
 use Rattle.page_messages.specs.declared.message.Body.{Body}
 use Rattle.page_messages.specs.declared.message.Body.TheVariants as body
 use Rattle.page_messages.specs.declared.parts.Part as page
-use Rattle.page_messages.specs.declared.log.LoggedAct.TheVariants as act
 use Rattle.page_messages.specs.declared.log.Item.{Item}
 use Rattle.page_messages.specs.declared.log.Item.TheVariants as item
 use Rattle.cluster_rules.specs.Walking.{since}
-use Rattle.cluster_rules.specs.Turns.{WholeTurn, Event, Did, Sent, Took, Ended, Past}
-use Rattle.cluster_rules.specs.Node.{Node, page_of, place_of, home_of, word_of}
-use Rattle.cluster_rules.specs.Cache.{arrives, writes, written, cached, stay}
-use Rattle.cluster_rules.specs.Sendings.{ForAck, parts_in, own_parts, sendings, marks, marks_word, sends, sends_word, is_dirty, ends, settles, reconciles_in, IsSettled, AllSettled}
+use Rattle.cluster_rules.specs.Turns.{WholeTurn, Event, Did, Sent, Took, Ended}
+use Rattle.cluster_rules.specs.Node.{page_of, place_of}
+use Rattle.cluster_rules.specs.Cache.{arrives, writes, written, cached}
+use Rattle.cluster_rules.specs.Sendings.{ForAck, parts_in, sendings, marks, marks_word, sends, is_dirty, ends, settles, reconciles_in, IsSettled, AllSettled}
 use Rattle.cluster_rules.specs.Paging.{IsSending}
 use Rattle.cluster_rules.specs.Positions.{Moved, Course, course_of, own, at, before, Happens}
 use Rattle.cluster_rules.specs.Runs.{Cluster, IsLawful, node_at}
 use Rattle.cluster_rules.proofs.Backward.{any_latest, since_front, since_none, none_front, gives_some}
 use Rattle.backer_order.specs.Log as log
-use Rattle.backer_order.specs.Moments.{NoneBetween, Wrote, IsWrite, IsArrival, Resident, LastWrite, HasPart, Sending, ByPart, ByItem, Sends, Settled, Acked, AtOnce}
+use Rattle.backer_order.specs.Moments.{NoneBetween, IsWrite, IsArrival, Resident, LastWrite, HasPart, Sending, ByPart, ByItem, Sends, Settled, Acked, AtOnce}
 use Rattle.backer_order.specs.Rules.{Cleaning, Cleaned}
-use Rattle.backer_order.specs.Edges.{AllClean}
 use Rattle.backer_order.proofs.Search.{Order3, Less3, Same3, More3, compare}
-use Rattle.cluster_order.specs.Reading.{memory_of, words_of, part_of, parts_of, note_of, events_of}
-use Rattle.cluster_order.proofs.Growing.{within, at_behind, at_last, before_last}
-use Rattle.cluster_order.proofs.Events.{Found, happens, own_part_is}
-use Rattle.cluster_order.proofs.Between.{NoneFrom, none_later, later_none, own_more, own_first, Stands, stands, stands_at, past_parts, is_before, happens_there, none_behind, none_newer}
-use Rattle.cluster_order.proofs.Messages.{length_before, at_before, happens_before, happened_before, none_between, none_from}
-use Rattle.cluster_order.proofs.Accesses.{ev, write_in, bring_in, event_there, wrote_at, write_at, write_there, wrote_there, written_own, arrival_at, arrival_there}
-use Rattle.cluster_order.proofs.Residing.{Since, resident_at, resided, residing, cached_last}
-use Rattle.cluster_order.proofs.Homing.{PartAmong, has_part, Reconciled, reconciled, place_within, word_at_place}
-use Rattle.cluster_order.proofs.Lawful.{own_part_allowed, reconcile_allowed, drop_allowed}
-use Rattle.cluster_order.proofs.Answering.{Request, Answer, RepliedAt, told_behind_answer, replied_by, some_later, Somewhere, ended_by}
+use Rattle.cluster_order.specs.Reading.{memory_of, words_of, part_of, parts_of, note_of}
+use Rattle.cluster_order.proofs.Growing.{within, at_behind, at_last}
+use Rattle.cluster_order.proofs.Events.{happens, own_part_is}
+use Rattle.cluster_order.proofs.Between.{own_more, own_first, Stands, stands, stands_at, past_parts, is_before, happens_there, none_behind, none_newer}
+use Rattle.cluster_order.proofs.Messages.{length_before, happens_before, happened_before, none_between, none_from}
+use Rattle.cluster_order.proofs.Accesses.{ev, write_in, event_there, write_at, write_there, arrival_at, arrival_there}
+use Rattle.cluster_order.proofs.Residing.{Since, resident_at, residing, cached_last}
+use Rattle.cluster_order.proofs.Homing.{has_part, reconciled, place_within, word_at_place}
+use Rattle.cluster_order.proofs.Lawful.{own_part_allowed}
+use Rattle.cluster_order.proofs.Answering.{Request, told_behind_answer, replied_by, some_later, ended_by}
 use Rattle.cluster_rules.proofs.Testing.{both_true}
 
 equal : (number other : ℕ) → eqb number other ≡ true → number ≡ other

@@ -1,5 +1,5 @@
 -- Each message that is taken in lawful turns stands where its place says, and is taken once.
-use Rattle.std.proofs.Common.{◌≡◌, ◌≢◌, ◌⊎◌, inl, inr, ℕ, zero, suc, ◌+◌, ◌<◌, List, [], ◌∷◌, ◌++◌, Option, Some, None, Bool, true, false, cond, ◌&&◌, ◌||◌, eqb, length, refl, sym, ◌∙◌, ap, subst, arith, rules}
+use Rattle.std.proofs.Common.{◌≡◌, ◌≢◌, ◌⊎◌, inl, inr, ℕ, zero, suc, ◌+◌, ◌<◌, List, [], ◌∷◌, Option, Some, None, Bool, true, false, cond, ◌&&◌, ◌||◌, eqb, length, refl, sym, ◌∙◌, ap, subst, arith}
 use Rattle.std.proofs.lemmas.Bool.Decides.{nat_tests}
 use Rattle.std.specs.Prelude.{slice_get}
 use Rattle.std.specs.List.{list_any}
@@ -7,11 +7,11 @@ use Rattle.cilk_meaning.specs.declared.ends.NodeEnd.{NodeEnd}
 use Rattle.page_messages.specs.declared.message.Msg.{Msg}
 use Rattle.page_messages.specs.declared.log.Item.{Item}
 use Rattle.page_messages.specs.declared.log.PostAt.{PostAt}
-use Rattle.cluster_rules.specs.Turns.{WholeTurn, Event, Did, Sent, Took, Ended, posted, posted_at, same_place, takes_at, Waits, IsDelivered}
+use Rattle.cluster_rules.specs.Turns.{WholeTurn, Did, Sent, Took, Ended, posted, posted_at, same_place, takes_at, IsDelivered}
 use Rattle.cluster_rules.specs.Positions.{Moved, Course, with_items, with_posts, with_taking, with_end, with_turn, course_of, at, before}
 use Rattle.cluster_rules.specs.Runs.{Cluster, IsLawful, IsNext}
-use Rattle.cluster_order.specs.Reading.{is_at, posts_at, post_position}
-use Rattle.cluster_order.proofs.Growing.{grown_items, grown_posts, grown_taking, grown_end, grown_turn, within, at_grown, before_grown, at_last, before_last}
+use Rattle.cluster_order.specs.Reading.{post_position}
+use Rattle.cluster_order.proofs.Growing.{grown_items, grown_posts, grown_taking, grown_end, grown_turn, within, at_grown, before_grown, at_last}
 
 -- ---- where a place is found
 

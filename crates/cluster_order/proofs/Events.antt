@@ -9,7 +9,6 @@ use Rattle.page_messages.specs.declared.message.Body.TheVariants as body
 use Rattle.page_messages.specs.declared.parts.Part as page
 use Rattle.page_messages.specs.declared.log.LoggedAct.{LoggedAct}
 use Rattle.page_messages.specs.declared.log.LoggedAct.TheVariants as act
-use Rattle.page_messages.specs.declared.log.Item.{Item}
 use Rattle.page_messages.specs.declared.log.Item.TheVariants as item
 use Rattle.page_messages.specs.declared.log.PostAt.{PostAt}
 use Rattle.cluster_rules.specs.Turns.{Event, Did, Sent, Took, Ended}
@@ -17,7 +16,7 @@ use Rattle.cluster_rules.specs.Home.{owed_adds}
 use Rattle.cluster_rules.specs.Positions.{Moved, Course, own, at, before, Happens}
 use Rattle.cluster_rules.specs.Runs.{Cluster}
 use Rattle.backer_order.specs.Log as log
-use Rattle.cluster_order.specs.Reading.{words_of, part_of, parts_of, note_of, act_of, frame_of, bottom_of, taken_from, served_for, item_of, happens_to, event_of, events_of}
+use Rattle.cluster_order.specs.Reading.{words_of, part_of, parts_of, note_of, act_of, frame_of, bottom_of, taken_from, served_for, happens_to, event_of, events_of}
 
 -- the event at a position where something is known to stand
 pub event_at : (cluster : Cluster) (course : Course) (position : ℕ) (moved : Moved) → at course position ≡ Some moved

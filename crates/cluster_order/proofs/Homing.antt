@@ -1,17 +1,15 @@
 -- What a home stores, as the last change at positions.
-use Rattle.std.proofs.Common.{◌≡◌, ◌≢◌, ◌⊎◌, inl, inr, ℕ, ℤ, zero, suc, ◌+◌, ◌*◌, ◌/◌, ◌%◌, ◌<◌, ◌≤◌, List, [], ◌∷◌, ◌++◌, Option, Some, None, Bool, true, false, cond, ◌&&◌, ◌||◌, eqb, length, is_some, refl, sym, ◌∙◌, ap, subst, arith, rules}
+use Rattle.std.proofs.Common.{◌≡◌, ◌≢◌, ◌⊎◌, inl, inr, ℕ, ℤ, zero, suc, ◌+◌, ◌*◌, ◌%◌, ◌<◌, List, [], ◌∷◌, ◌++◌, Option, Some, None, Bool, true, false, cond, eqb, is_some, refl, sym, ◌∙◌, ap, subst, arith}
 use Rattle.std.proofs.lemmas.Bool.Decides.{nat_tests}
 use Rattle.std.proofs.lemmas.List.{append-nil}
 use Rattle.std.proofs.lemmas.Nat.{div-add-mod', mod_below}
 use Rattle.std.specs.List.{list_any}
 use Rattle.std.specs.Prelude.{slice_index_or, pos, unwrap_or}
 use Rattle.page_words.specs.Limits.{page_sizes}
-use Rattle.page_messages.specs.declared.closure.FrameId.{FrameId}
 use Rattle.page_messages.specs.declared.message.Msg.{Msg}
 use Rattle.page_messages.specs.declared.message.Body.{Body}
 use Rattle.page_messages.specs.declared.message.Body.TheVariants as body
 use Rattle.page_messages.specs.declared.parts.Part as page
-use Rattle.page_messages.specs.declared.log.Item.{Item}
 use Rattle.page_messages.specs.declared.log.Item.TheVariants as item
 use Rattle.page_messages.specs.declared.log.PostAt.{PostAt}
 use Rattle.cluster_rules.specs.Turns.{WholeTurn, Event, Did, Sent, Took, Ended, Past}
@@ -23,15 +21,14 @@ use Rattle.cluster_rules.specs.Positions.{Moved, Course, course_of, own, at, bef
 use Rattle.cluster_rules.specs.Runs.{Cluster, IsLawful, node_at}
 use Rattle.cluster_rules.specs.Paging.{EachIsSending, IsSending}
 use Rattle.backer_order.specs.Log as log
-use Rattle.backer_order.specs.Moments.{NoneBetween, HasPart, Sending, ByPart, ByItem, Received, ByTaking, AtItem, TakenAt}
-use Rattle.backer_order.specs.Rules.{Changes, MergedAt, AddedAt, IsChange, LastChange, HomeWord}
-use Rattle.cluster_order.specs.Reading.{memory_of, words_of, part_of, parts_of, note_of, served_for, taken_from, events_of}
-use Rattle.cluster_order.proofs.Growing.{within}
+use Rattle.backer_order.specs.Moments.{HasPart, ByPart, ByItem, ByTaking, AtItem}
+use Rattle.backer_order.specs.Rules.{Changes, MergedAt, AddedAt, IsChange, HomeWord}
+use Rattle.cluster_order.specs.Reading.{memory_of, words_of, part_of, parts_of, note_of, served_for, taken_from}
 use Rattle.cluster_order.proofs.Events.{Found, happens, posted_is, own_part_is, acted_is, Acted, Served, no_add, reconcile_is}
-use Rattle.cluster_order.proofs.Between.{NoneFrom, none_later, Stands, stands, is_before, happens_there, none_behind}
-use Rattle.cluster_order.proofs.Messages.{length_before, at_before, happens_before, happened_before, none_between, Taking, taking_at, taking_found, posted_event, taken_event, same_message}
+use Rattle.cluster_order.proofs.Between.{none_later, stands, is_before, happens_there, none_behind}
+use Rattle.cluster_order.proofs.Messages.{length_before, happens_before, happened_before, none_between, taking_at, taking_found, posted_event, taken_event, same_message}
 use Rattle.cluster_order.proofs.Accesses.{ev, found_of, event_there}
-use Rattle.cluster_order.proofs.Lawful.{past_at, own_part_allowed, reconcile_allowed, home_served}
+use Rattle.cluster_order.proofs.Lawful.{own_part_allowed, reconcile_allowed, home_served}
 use Rattle.cluster_rules.proofs.Testing.{both_true}
 
 -- ---- what the latest gives

@@ -1,5 +1,5 @@
 -- What lawful turns say of single events: which rule allows each.
-use Rattle.std.proofs.Common.{◌≡◌, ◌≢◌, ◌⊎◌, inl, inr, ℕ, ℤ, List, [], ◌∷◌, ◌++◌, Option, Some, None, Bool, true, false, cond, refl, sym, ◌∙◌, ap, subst, arith}
+use Rattle.std.proofs.Common.{◌≡◌, ◌⊎◌, inl, inr, ℕ, ℤ, List, [], ◌∷◌, ◌++◌, Some, Bool, true, false, cond, refl, sym, ◌∙◌, ap, subst}
 use Rattle.page_messages.specs.declared.closure.FrameId.{FrameId}
 use Rattle.page_messages.specs.declared.closure.JoinId.{JoinId}
 use Rattle.page_messages.specs.declared.closure.Closure.{Closure}
@@ -17,9 +17,9 @@ use Rattle.cluster_rules.specs.Home.{reply, replies_in, owed_home_replies, owed_
 use Rattle.cluster_rules.specs.Acting.{MayAct, MayTick, MayAddHere, MayPostAdd, Serves, Tells}
 use Rattle.cluster_rules.specs.Paging.{MayLoad, MayFetch, IsSending, MayReconcile, MayDrop, MayTakeUp}
 use Rattle.cluster_rules.specs.Edges.{MayGrant, MayDone, MayPark}
-use Rattle.cluster_rules.specs.Positions.{Moved, Course, course_of, own, at, before, Happens}
-use Rattle.cluster_rules.specs.Runs.{Cluster, IsLawful, node_at, IsFree, Sends, MayPost, IsOwed, MayDo, MaySend}
-use Rattle.cluster_order.proofs.Between.{Stands, stands, happens_there}
+use Rattle.cluster_rules.specs.Positions.{Moved, course_of, own, at, before, Happens}
+use Rattle.cluster_rules.specs.Runs.{Cluster, IsLawful, node_at, IsFree, MayPost, IsOwed, MayDo, MaySend}
+use Rattle.cluster_order.proofs.Between.{stands, happens_there}
 use Rattle.cluster_order.proofs.Messages.{allowed, happened_before, Taking, taking_found}
 use Rattle.cluster_order.specs.Reading.{taken_from}
 

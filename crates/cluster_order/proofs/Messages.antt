@@ -1,8 +1,8 @@
 -- What stands before a position, and messages from post to taking.
-use Rattle.std.proofs.Common.{◌≡◌, ◌⊎◌, ℕ, suc, ◌+◌, ◌<◌, ◌≤◌, List, [], ◌∷◌, ◌++◌, Option, Some, None, Bool, true, false, eqb, length, refl, sym, ◌∙◌, ap, subst, append_assoc, arith}
+use Rattle.std.proofs.Common.{◌≡◌, ℕ, suc, ◌<◌, List, [], ◌∷◌, ◌++◌, Option, Some, Bool, true, false, length, refl, sym, ◌∙◌, ap, subst, append_assoc, arith}
 use Rattle.page_messages.specs.declared.message.Msg.{Msg}
 use Rattle.page_messages.specs.declared.log.PostAt.{PostAt}
-use Rattle.cluster_rules.specs.Turns.{WholeTurn, Event, Did, Sent, Took, Past}
+use Rattle.cluster_rules.specs.Turns.{WholeTurn, Event, Sent, Took}
 use Rattle.cluster_rules.specs.Positions.{Moved, Course, course_of, own, at, before, Happens}
 use Rattle.cluster_rules.specs.Runs.{Cluster, IsLawful, node_at}
 use Rattle.cluster_rules.specs.Allowed.{IsAllowed}
@@ -12,8 +12,8 @@ use Rattle.backer_order.specs.Rules.{Delivery}
 use Rattle.backer_order.specs.Moments.{NoneBetween}
 use Rattle.cluster_order.specs.Reading.{note_of, taken_from, post_position, happens_to, events_of}
 use Rattle.cluster_order.proofs.Growing.{within, at_behind, before_behind}
-use Rattle.cluster_order.proofs.Delivered.{Posted, Delivered, delivered, taken_once}
-use Rattle.cluster_order.proofs.Events.{Found, happens, event_at, taken_is, posted_is}
+use Rattle.cluster_order.proofs.Delivered.{delivered, taken_once}
+use Rattle.cluster_order.proofs.Events.{Found, happens, event_at, taken_is}
 use Rattle.cluster_order.proofs.Between.{NoneFrom}
 
 -- ---- what happened before a position

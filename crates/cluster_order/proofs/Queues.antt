@@ -1,5 +1,5 @@
 -- A list that grows at its end and loses its first, matched with the queue of the positions where it grew.
-use Rattle.std.proofs.Common.{◌≡◌, ℕ, zero, suc, List, [], ◌∷◌, ◌++◌, Bool, true, false, cond, refl, sym, ◌∙◌, ap, subst}
+use Rattle.std.proofs.Common.{◌≡◌, ℕ, zero, suc, List, [], ◌∷◌, ◌++◌, Bool, true, false, refl, sym, subst}
 use Rattle.cluster_rules.specs.Walking as walking
 use Rattle.backer_order.specs.Moments.{queue, Head}
 use Rattle.backer_order.specs.Moments as moments

@@ -1,25 +1,24 @@
 -- Residence, arrivals and cached words, as what stands at positions.
-use Rattle.std.proofs.Common.{◌≡◌, ◌⊎◌, inl, inr, ℕ, ℤ, suc, ◌+◌, ◌<◌, ◌≤◌, List, [], ◌∷◌, ◌++◌, Option, Some, None, Bool, true, false, cond, ◌||◌, eqb, length, is_some, refl, sym, ◌∙◌, ap, subst, length-append, arith, rules}
+use Rattle.std.proofs.Common.{◌≡◌, ℕ, ℤ, suc, ◌<◌, ◌≤◌, List, [], ◌∷◌, ◌++◌, Option, Some, None, Bool, true, false, cond, ◌||◌, eqb, length, is_some, refl, sym, ◌∙◌, ap, subst, arith}
 use Rattle.std.proofs.lemmas.Bool.Decides.{nat_tests}
 use Rattle.std.specs.List.{list_any}
-use Rattle.std.specs.Prelude.{slice_index_or, pos, unwrap_or}
 use Rattle.page_messages.specs.declared.log.Item.TheVariants as item
-use Rattle.cluster_rules.specs.Walking.{given, or_else, since}
+use Rattle.cluster_rules.specs.Walking.{given, since}
 use Rattle.cluster_rules.specs.Turns.{WholeTurn, Event, Did, Past}
-use Rattle.cluster_rules.specs.Node.{page_of, place_of}
+use Rattle.cluster_rules.specs.Node.{page_of}
 use Rattle.cluster_rules.specs.Cache.{brings, arrives, drops, written, writes, is_resident, stay, cached}
 use Rattle.cluster_rules.specs.Written.{Arrival}
-use Rattle.cluster_rules.specs.Positions.{Moved, Course, course_of, own, at, before, Happens}
+use Rattle.cluster_rules.specs.Positions.{Moved, Course, course_of, own, at, before}
 use Rattle.cluster_rules.specs.Runs.{Cluster, IsLawful, node_at}
 use Rattle.cluster_rules.proofs.Backward.{given_none}
 use Rattle.cluster_rules.proofs.AsWritten.{resident_since, stay_is, brought_is}
 use Rattle.backer_order.specs.Log as log
-use Rattle.backer_order.specs.Moments.{NoneBetween, Wrote, IsWrite, Arrives, IsArrival, Resident, LastWrite, NoWrite}
+use Rattle.backer_order.specs.Moments.{IsWrite, IsArrival, Resident, LastWrite, NoWrite}
 use Rattle.cluster_order.specs.Reading.{words_of}
 use Rattle.cluster_order.proofs.Growing.{within, at_behind, at_last}
-use Rattle.cluster_order.proofs.Between.{NoneFrom, none_later, later_none, Stands, stands, stands_at, past_parts, is_before, is_there, happens_there, none_behind, none_newer}
-use Rattle.cluster_order.proofs.Messages.{length_before, at_before, before_before, happens_before, happened_before, none_between, none_from}
-use Rattle.cluster_order.proofs.Accesses.{ev, drop_in, bring_in, drop_at, drop_there, wrote_at, write_at, wrote_there, write_there, written_own, arrived_at, arrival_at, arrived_there, arrival_there}
+use Rattle.cluster_order.proofs.Between.{NoneFrom, later_none, Stands, stands, stands_at, past_parts, is_before, happens_there, none_behind, none_newer}
+use Rattle.cluster_order.proofs.Messages.{length_before, happens_before, happened_before, none_between, none_from}
+use Rattle.cluster_order.proofs.Accesses.{ev, drop_in, drop_at, drop_there, write_at, wrote_there, written_own, arrived_at, arrival_at, arrived_there, arrival_there}
 
 -- ---- what the latest gives, by positions
 

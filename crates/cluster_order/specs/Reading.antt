@@ -1,5 +1,5 @@
 -- What happens in a cluster, as the events of which the rules over positions speak.
-use Rattle.std.specs.Prelude.{◌==◌, ◌&&◌, if◌then◌else◌, ℕ, ℤ, pos, Bool, true, false, Option, Some, None, List, [], ◌∷◌, length, map, slice_index_or}
+use Rattle.std.specs.Prelude.{if◌then◌else◌, ℕ, ℤ, pos, Bool, false, Option, Some, None, List, [], ◌∷◌, length, slice_index_or}
 use Rattle.page_messages.specs.declared.closure.FrameId.{FrameId}
 use Rattle.page_messages.specs.declared.closure.JoinId.{JoinId}
 use Rattle.page_messages.specs.declared.message.Msg.{Msg}

@@ -26,7 +26,6 @@ use Rattle.cluster_rules.proofs.Phases.{Phase, Idle, Asked, Told, after_post, af
 use Rattle.cluster_rules.proofs.UnderWay.{moved_by}
 use Rattle.cluster_rules.proofs.Phasing.{Phased, quiet_idle}
 use Rattle.cluster_rules.proofs.Asking.{phased, was_asked, phase_asker, phase_others, phase_done, phase_far, was_told}
-use Rattle.cluster_rules.proofs.Testing.{own_number}
 
 -- ---- acts
 

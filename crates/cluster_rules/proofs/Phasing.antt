@@ -21,7 +21,6 @@ use Rattle.cluster_rules.proofs.Marks.{one, same_name, WantsAdd, AddsFirst, live
 use Rattle.cluster_rules.proofs.Holding.{own_first, own_other}
 use Rattle.cluster_rules.proofs.Phases.{Phase, Idle, Asked, Told, phase_of, waits_in, is_asked, is_told, IsFirst, idle_is}
 use Rattle.cluster_rules.proofs.UnderWay.{under_way, to_tell, moved_by}
-use Rattle.cluster_rules.proofs.Testing.{own_number, other_number}
 
 -- What the phases of all nodes say.
 pub record Phased (cluster : Cluster) (course : Course) : Type 0 where

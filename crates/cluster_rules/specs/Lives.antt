@@ -1,5 +1,5 @@
 -- Frames as the past of a node has them: what each wants, and what its acts make of it.
-use Rattle.std.specs.Prelude.{◌==◌, ◌&&◌, ◌+◌, ℕ, suc, ℤ, Bool, Option, Some, None, List, [], ◌∷◌, ◌++◌}
+use Rattle.std.specs.Prelude.{◌==◌, ◌&&◌, ℕ, suc, ℤ, Bool, Option, Some, None, List, [], ◌∷◌, ◌++◌}
 use Rattle.cilk_meaning.specs.Instance.{Meaning}
 use Rattle.cilk_meaning.specs.Serve.{now, after}
 use Rattle.cilk_meaning.specs.Wants as want

@@ -1,6 +1,5 @@
 -- The acts of a frame in a line of events, as the rows of a history have them, and which act stands where.
-use Rattle.std.proofs.Common.{◌≡◌, ◌⊎◌, inl, inr, ℕ, zero, suc, ◌<◌, ◌≤◌, List, [], ◌∷◌, ◌++◌, Some, Bool, true, false, cond, ◌&&◌, eqb, length, refl, sym, ◌∙◌, ap, subst, length-append, arith, rules}
-use Rattle.std.proofs.lemmas.Bool.Decides.{nat_tests}
+use Rattle.std.proofs.Common.{◌≡◌, ◌⊎◌, inl, inr, ℕ, zero, suc, ◌<◌, ◌≤◌, List, [], ◌∷◌, ◌++◌, Some, Bool, true, false, cond, length, refl, sym, ◌∙◌, ap, subst, length-append, arith, rules}
 use Rattle.std.specs.Prelude.{slice_get}
 use Rattle.page_messages.specs.declared.closure.FrameId.{FrameId}
 use Rattle.span_tree.specs.declared.act.Act.{Act}
@@ -11,7 +10,6 @@ use Rattle.cluster_rules.specs.Histories.{row_number}
 use Rattle.backer_order.specs.Log as log
 use Rattle.backer_order.specs.Log.{Events}
 use Rattle.backer_order.proofs.Search.{Less3, Same3, More3, compare}
-use Rattle.cluster_rules.proofs.Testing.{both_true}
 use Rattle.cluster_rules.proofs.Marks.{same_self, same_name}
 
 -- ---- one frame or another
