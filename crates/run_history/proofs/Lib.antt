@@ -1,3 +1,5 @@
+pub mod Acts
+pub mod Births
 pub mod Counts
 pub mod Trees
 pub mod Walk

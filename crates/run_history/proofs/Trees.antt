@@ -22,7 +22,7 @@ pub made_more : (births : List Birth) (birth : Birth) → made_by (births ++ bir
 made_more births birth = ap (λ list. main_id ∷ list) (map-append (λ (it : Birth). it.child) births (birth ∷ []))
 
 module _ (frame : FrameId) where
-  made_times : (births : List Birth) (birth : Birth) → times frame (made_by (births ++ birth ∷ [])) ≡ times frame (made_by births) + one (same_frame frame birth.child)
+  pub made_times : (births : List Birth) (birth : Birth) → times frame (made_by (births ++ birth ∷ [])) ≡ times frame (made_by births) + one (same_frame frame birth.child)
   made_times births birth = let both = ap (times frame) (made_more births birth) ∙ times_append frame (made_by births) (birth.child ∷ []) in omega (arith, both)
 
 -- who was not made has no children
