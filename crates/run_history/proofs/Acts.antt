@@ -27,10 +27,10 @@ module _ (frames : List FrameId) where
   abbrev pub acts_in : FrameId → Course → List Act
   acts_in frame course = filter_map (act_in frames frame) (done_in course)
 
-  abbrev acts_by : FrameId → Event → List Act
+  abbrev pub acts_by : FrameId → Event → List Act
   acts_by frame event = filter_map (act_in frames frame) (done_by event)
 
-  acts_more : (frame : FrameId) (moved : Moved) (course : Course) → acts_in frame (moved ∷ course) ≡ acts_in frame course ++ acts_by frame moved.event
+  pub acts_more : (frame : FrameId) (moved : Moved) (course : Course) → acts_in frame (moved ∷ course) ≡ acts_in frame course ++ acts_by frame moved.event
   acts_more frame moved course = filter_map-append (act_in frames frame) (done_in course) (done_by moved.event)
 
   -- ---- how many
