@@ -1,6 +1,9 @@
 pub mod Acts
 pub mod Births
 pub mod Counts
+pub mod Led
+pub mod Numbers
+pub mod Preorder
 pub mod Spawns
 pub mod Trees
 pub mod Walk
