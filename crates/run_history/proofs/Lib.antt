@@ -1,6 +1,7 @@
 pub mod Acts
 pub mod Births
 pub mod Counts
+pub mod EachRun
 pub mod Histories
 pub mod Led
 pub mod Numbers
