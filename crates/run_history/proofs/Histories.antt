@@ -1,5 +1,5 @@
 -- The history of a course: the rows of the frames in the order of the walk.
-use Rattle.std.proofs.Common.{◌≡◌, ◌≢◌, ◌⊎◌, inl, inr, ℕ, zero, suc, ◌+◌, ◌<◌, ◌≤◌, ℤ, List, [], ◌∷◌, ◌++◌, Option, Some, None, Bool, true, false, cond, length, map, refl, sym, ◌∙◌, ap, subst, arith}
+use Rattle.std.proofs.Common.{◌≡◌, ◌⊎◌, inl, inr, ℕ, suc, ◌<◌, ◌≤◌, List, [], ◌∷◌, Option, Some, None, Bool, true, false, cond, length, map, refl, sym, ◌∙◌, ap, subst, arith}
 use Rattle.std.specs.Prelude.{slice_get, slice_index_or}
 use Rattle.std.proofs.lemmas.List.{get_or-map, length-map}
 use Rattle.std.proofs.lemmas.List.Sorted.{length_permutation}
@@ -7,7 +7,6 @@ use Rattle.std.proofs.lemmas.Option.{slice_get-get_or, slice_get_within, get_or_
 use Rattle.std.specs.List.{Contains, filter_map, range_with_len}
 use Rattle.std.specs.List.Sorted.{IsPermutation}
 use Rattle.page_messages.specs.declared.closure.FrameId.{FrameId}
-use Rattle.page_messages.specs.declared.log.Item.{Item}
 use Rattle.span_tree.specs.declared.act.Act.{Act}
 use Rattle.span_tree.specs.declared.act.Act.TheVariants.{Spawn}
 use Rattle.span_tree.specs.declared.act.Place.{Place}
@@ -27,8 +26,8 @@ use Rattle.run_history.proofs.Walk.{one, times, children, walk, walk_all}
 use Rattle.run_history.proofs.Trees.{made_by, IsTree, each_once, as_often, at_most_once}
 use Rattle.run_history.proofs.Births.{born_in, is_tree}
 use Rattle.run_history.proofs.Acts.{acts_in, birth_stands}
-use Rattle.run_history.proofs.Spawns.{IsBirth, spawn_is_birth, spawns_in}
-use Rattle.run_history.proofs.Numbers.{children_in, number_within, number_is, numbers_from, times_there, child_counts, BornOf, born_of, given_none, one_birth, child_birth}
+use Rattle.run_history.proofs.Spawns.{spawn_is_birth, spawns_in}
+use Rattle.run_history.proofs.Numbers.{children_in, number_within, number_is, numbers_from, times_there, child_counts, born_of, given_none, one_birth, child_birth}
 use Rattle.run_history.proofs.Led.{parent_before}
 use Rattle.run_history.proofs.Preorder.{named_at, named_below}
 
@@ -176,9 +175,10 @@ module _ (cluster : Cluster) (main : ℕ) (course : Course) (stepped : Stepped c
       let it = spawn_is_birth frames cluster course stepped frame place.act number (ap (λ list. slice_get list place.act) (sym acts) ∙ found) in
       let row_is : row_number frames (it.birth).parent ≡ place.row = ap (row_number frames) it.parent ∙ number_is frames few place.row frame here in
       let place_is : place_of it.birth ≡ place =
-          ap (λ row. record { row = row; act = (it.birth).index }) row_is ∙ ap (λ act. record { row = place.row; act = act }) it.index in
-      (subst (λ it. it < length history) it.number_is (within it.birth it.there),
-      subst (λ row. IsParent history row place) it.number_is (subst (λ one_of. IsParent history (row_number frames (it.birth).child) one_of) place_is (is_parent it.birth it.there)))
+      ap (λ row. record { row = row; act = (it.birth).index }) row_is ∙ ap (λ act. record { row = place.row; act = act }) it.index in (
+        subst (λ it. it < length history) it.number_is (within it.birth it.there),
+        subst (λ row. IsParent history row place) it.number_is (subst (λ one_of. IsParent history (row_number frames (it.birth).child) one_of) place_is (is_parent it.birth it.there)),
+      )
     where
       row_inside : (place.row < length history) ⊎ (length history ≤ place.row) → place.row < length history
       row_inside (inl less) = less
