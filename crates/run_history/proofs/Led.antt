@@ -67,7 +67,8 @@ module _ (births : List Birth) (once : (frame : FrameId) → times frame (childr
       later false is (inr less) = inr (omega (arith, less))
 
       on : (b : Bool) → same_frame first birth.child ≡ b
-          → (1 ≤ times birth.child list → (1 ≤ times birth.parent (first ∷ seen)) ⊎ (row_number list birth.parent < row_number list birth.child)) → (1 ≤ times birth.parent seen) ⊎ (row_number (first ∷ list) birth.parent < cond b 0 (suc (row_number list birth.child)))
+          → (1 ≤ times birth.child list → (1 ≤ times birth.parent (first ∷ seen)) ⊎ (row_number list birth.parent < row_number list birth.child))
+          → (1 ≤ times birth.parent seen) ⊎ (row_number (first ∷ list) birth.parent < cond b 0 (suc (row_number list birth.child)))
       on true is rest = inl (led.0 birth there (sym (same_name first birth.child is)))
       on false is rest = later (same_frame first birth.parent) refl (rest (let none = ap one (turned first birth.child false is) in omega (arith, some, none)))
 

@@ -27,7 +27,8 @@ pub number_within : (list : List FrameId) (frame : FrameId) → 1 ≤ times fram
 number_within [] frame some = absurd (omega (arith, some))
 number_within (first ∷ list) frame some = on (same_frame first frame) refl some (number_within list frame)
   where
-    on : (b : Bool) → same_frame first frame ≡ b → 1 ≤ one (same_frame frame first) + times frame list → (1 ≤ times frame list → row_number list frame < length list) → cond b 0 (suc (row_number list frame)) < suc (length list)
+    on : (b : Bool) → same_frame first frame ≡ b → 1 ≤ one (same_frame frame first) + times frame list → (1 ≤ times frame list → row_number list frame < length list)
+        → cond b 0 (suc (row_number list frame)) < suc (length list)
     on true is some rest = omega arith
     on false is some rest = let none = ap one (turned first frame false is) in let less = rest (omega (arith, some, none)) in omega (arith, less)
 

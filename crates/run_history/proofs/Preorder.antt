@@ -66,7 +66,8 @@ module _ (history : History) where
   from_zero row place done found = let same : place ≡ 0 + place = omega arith in subst (λ it. act_at history (record { row = row; act = it }) ≡ Some done) same found
 
   -- what the acts of a row name
-  named_from : (places : ℕ → List Place) (row index : ℕ) (acts : List Act) → ((place : ℕ) (done : Act) → slice_get acts place ≡ Some done → act_at history (record { row = row; act = index + place }) ≡ Some done)
+  named_from : (places : ℕ → List Place) (row index : ℕ) (acts : List Act)
+      → ((place : ℕ) (done : Act) → slice_get acts place ≡ Some done → act_at history (record { row = row; act = index + place }) ≡ Some done)
       → named_at (places_from places row index acts) ≡ all_below (λ number. named_at (places number)) (filter_map spawned_by acts)
   named_from places row index [] there = refl
   named_from places row index (done ∷ acts) there =
