@@ -1,0 +1,11 @@
+pub mod Acts
+pub mod Births
+pub mod Counts
+pub mod EachRun
+pub mod Histories
+pub mod Led
+pub mod Numbers
+pub mod Preorder
+pub mod Spawns
+pub mod Trees
+pub mod Walk
