@@ -44,7 +44,7 @@ taken_posted cluster number (moved ∷ course) stepped message among = on (eqb m
 
 -- ---- Dones
 
-among_any : (such : Event → Bool) (past : Past) → list_any such past ≡ true → (event : Event) × Among event past × (such event ≡ true)
+pub among_any : (such : Event → Bool) (past : Past) → list_any such past ≡ true → (event : Event) × Among event past × (such event ≡ true)
 among_any such [] any = absurd (cc)
 among_any such (first ∷ past) any = on (such first) refl any (among_any such past)
   where
@@ -79,7 +79,7 @@ done_said join index (body.Park other closure) is = absurd (cc)
 done_said join index (body.Add frame at word addend) is = absurd (cc)
 done_said join index (body.Added old) is = absurd (cc)
 
-done_event : (join : JoinId) (index : ℕ) (event : Event) → is_some (done_by join index event) ≡ true
+pub done_event : (join : JoinId) (index : ℕ) (event : Event) → is_some (done_by join index event) ≡ true
     → (message : Msg) × (value : ℤ) × (event ≡ Took message) × (message.body ≡ body.Done join index value)
 done_event join index (Did item) is = absurd (cc)
 done_event join index (Sent message) is = absurd (cc)

@@ -26,11 +26,11 @@ module _ (frame : FrameId) (Q : Meaning → Type 0) where
   not_it : (id : FrameId) (goes : Meaning) → one (same_frame id frame) ≡ 0 → Only id goes
   not_it id goes none = λ is. (let some : one (same_frame id frame) ≡ 1 = ap (λ it. one (same_frame it frame)) is ∙ ap one (same_self frame) in absurd (omega (arith, some, none)))
 
-  none_each : (lives : List Life) → many (named frame) (marks lives) ≡ 0 → Each Only lives
+  pub none_each : (lives : List Life) → many (named frame) (marks lives) ≡ 0 → Each Only lives
   none_each [] none = tt
   none_each (life ∷ lives) none = (not_it life.id life.goes (omega (arith, none)), none_each lives (omega (arith, none)))
 
-  none_parked : (code : Code) (parked : List Parked) → many (named frame) (parked_marks parked) ≡ 0 → EachParked code Only parked
+  pub none_parked : (code : Code) (parked : List Parked) → many (named frame) (parked_marks parked) ≡ 0 → EachParked code Only parked
   none_parked code [] none = tt
   none_parked code (first ∷ parked) none = (not_it first.closure.id (wants code first.closure.frame.frame) (omega (arith, none)), none_parked code parked (omega (arith, none)))
 
@@ -47,11 +47,11 @@ module _ (frame : FrameId) (Q : Meaning → Type 0) where
   none_body code (body.Add frame index word addend) none = tt
   none_body code (body.Added old) none = tt
 
-  none_letters : (code : Code) (letters : List Letter) → amount_of (in_message (named frame)) letters ≡ 0 → EachLetter code Only letters
+  pub none_letters : (code : Code) (letters : List Letter) → amount_of (in_message (named frame)) letters ≡ 0 → EachLetter code Only letters
   none_letters code [] none = tt
   none_letters code (letter ∷ letters) none = (none_body code letter.message.body (omega (arith, none)), none_letters code letters (omega (arith, none)))
 
-  none_frames : (code : Code) (frames : Frames) → many (named frame) (marks_of frames) ≡ 0 → InFrames code Only frames
+  pub none_frames : (code : Code) (frames : Frames) → many (named frame) (marks_of frames) ≡ 0 → InFrames code Only frames
   none_frames code frames none =
       let a = many_append (named frame) (marks frames.stack) (other_marks frames) in
       let b = many_append (named frame) (marks frames.ready) (parked_marks frames.parked) in

@@ -15,13 +15,13 @@ use Rattle.cluster_rules.specs.Lives.{value_in}
 
 -- ---- values for the next sync
 
-none_at_sync : (answers : List Answer) → at_sync [] answers ≡ answers
+pub none_at_sync : (answers : List Answer) → at_sync [] answers ≡ answers
 none_at_sync [] = refl
 none_at_sync (Value v ∷ answers) = ap (λ it. Value v ∷ it) (none_at_sync answers)
 none_at_sync (Done ∷ answers) = ap (λ it. Done ∷ it) (none_at_sync answers)
 none_at_sync (Children more ∷ answers) = refl
 
-more_at_sync : (kept more : List Deposit) (answers : List Answer) → at_sync kept (at_sync more answers) ≡ at_sync (kept ++ more) answers
+pub more_at_sync : (kept more : List Deposit) (answers : List Answer) → at_sync kept (at_sync more answers) ≡ at_sync (kept ++ more) answers
 more_at_sync kept more [] = refl
 more_at_sync kept more (Value v ∷ answers) = ap (λ it. Value v ∷ it) (more_at_sync kept more answers)
 more_at_sync kept more (Done ∷ answers) = ap (λ it. Done ∷ it) (more_at_sync kept more answers)
@@ -48,7 +48,7 @@ last_split zero (item ∷ list) want less is =
 last_split (suc count) [] want less is = absurd (cc)
 last_split (suc count) (item ∷ list) want less is = ap (λ it. item ∷ it) (last_split count list want (omega (arith, less)) is)
 
-rest_drop : (count : ℕ) (list : List Want) → rest_of (drop count list) ≡ drop (suc count) list
+pub rest_drop : (count : ℕ) (list : List Want) → rest_of (drop count list) ≡ drop (suc count) list
 rest_drop zero [] = refl
 rest_drop zero (item ∷ list) = refl
 rest_drop (suc count) [] = refl
