@@ -170,6 +170,8 @@ module _ (cluster : Cluster) (turns : List WholeTurn) (lawful : IsLawful cluster
         ((step_at cluster course (lawful_stepped cluster turns lawful) taken.2.post sent.moved sent.is).within)
 
     -- The sender of the add is a node that has that frame as its first, and the frame wants this very add.
-    pub asks_served : (owes.add.sender < cluster.config.nodes) × AsksFirst frame word addend (stack_of (node_at cluster owes.add.sender) (past owes.add.sender position))
-    asks_served = subst (λ number. (number < cluster.config.nodes) × AsksFirst frame word addend (stack_of (node_at cluster number) (past number position)))
-        sender_is (asker_within, asks_then)
+    pub asks_served : (owes.add.sender < cluster.config.nodes)
+        × AsksFirst frame word addend (stack_of (node_at cluster owes.add.sender) (past owes.add.sender position))
+    asks_served =
+        subst (λ number. (number < cluster.config.nodes) × AsksFirst frame word addend (stack_of (node_at cluster number) (past number position))) sender_is
+        (asker_within, asks_then)

@@ -110,7 +110,8 @@ module _ (node : Node) (past : Past) (waits : awaits ForAdded past ≡ true) (fr
   sent_first (body.Done join index value) receiver (inl reply) = absurd (cc)
   sent_first (body.Done join index value) receiver (inr may) = absurd (not_returned frame word addend (stack_of node past) first may.returned.none_left)
   sent_first (body.Park join closure) receiver (inl reply) = absurd (cc)
-  sent_first (body.Park join closure) receiver (inr may) = absurd (not_syncing frame word addend (stack_of node past) may.life first may.at_join.alone may.at_join.wanted)
+  sent_first (body.Park join closure) receiver (inr may) =
+      absurd (not_syncing frame word addend (stack_of node past) may.life first may.at_join.alone may.at_join.wanted)
   sent_first (body.Add asking index place more) receiver (inl reply) = absurd (cc)
   sent_first (body.Add asking index place more) receiver (inr may) = let quiet = may.quiet ForAdded in absurd (cc)
   sent_first (body.Added old) receiver may = first
@@ -119,7 +120,8 @@ module _ (node : Node) (past : Past) (waits : awaits ForAdded past ≡ true) (fr
   abbrev behind : Event → List Life
   behind event = (frames_on node event past (frames_of node past)).stack
 
-  item_first : (done : Item) (rest : List Item) (posts : List Msg) → IsOwed node past done ⊎ (IsFree past × MayDo node past done rest posts) → StillFirst (behind (Did done))
+  item_first : (done : Item) (rest : List Item) (posts : List Msg) → IsOwed node past done ⊎ (IsFree past × MayDo node past done rest posts)
+      → StillFirst (behind (Did done))
   item_first done rest posts (inr both) = let quiet = both.0.quiet ForAdded in absurd (cc)
   item_first (item.Act acting index act) rest posts (inl owed) = absurd owed
   item_first (item.Tick acting) rest posts (inl owed) = absurd owed
@@ -153,7 +155,8 @@ asked_now node past message frame index word addend may is = asked_here node pas
 
 -- The frame whose add was asked for stays the first, and wants it still, until the old value comes.
 pub asks_since : (node : Node) (newer older : Past) (message : Msg) (frame : FrameId) (index word : ℕ) (addend : ℤ) → AllAllowed node (newer ++ Sent message ∷ older)
-    → message.body ≡ body.Add frame index word addend → list_any (ends ForAdded) newer ≡ false → AsksFirst frame word addend (stack_of node (newer ++ Sent message ∷ older))
+    → message.body ≡ body.Add frame index word addend → list_any (ends ForAdded) newer ≡ false
+    → AsksFirst frame word addend (stack_of node (newer ++ Sent message ∷ older))
 asks_since node [] older message frame index word addend all is none = asked_now node older message frame index word addend all.0 is
 asks_since node (event ∷ newer) older message frame index word addend all is none =
     let both = neither (ends ForAdded event) (list_any (ends ForAdded) newer) none in
