@@ -8,7 +8,7 @@ use Rattle.page_messages.specs.declared.log.PostAt.{PostAt}
 use Rattle.cluster_rules.specs.Turns.{WholeTurn, Did}
 use Rattle.cluster_rules.specs.Frames.{stack_of}
 use Rattle.cluster_rules.specs.Acting.{Serves}
-use Rattle.cluster_rules.specs.Positions.{Course, course_of, own, at, before}
+use Rattle.cluster_rules.specs.Positions.{Course, course_of, own, before}
 use Rattle.cluster_rules.specs.Runs.{Cluster, IsLawful, node_at}
 use Rattle.cluster_rules.proofs.Stepping.{Stepped}
 use Rattle.cluster_rules.proofs.Phases.{is_told}
