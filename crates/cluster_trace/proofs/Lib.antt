@@ -17,3 +17,4 @@ pub mod Changes
 pub mod Doing
 pub mod Onwards
 pub mod Always
+pub mod Ending
