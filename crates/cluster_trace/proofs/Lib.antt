@@ -18,3 +18,4 @@ pub mod Doing
 pub mod Onwards
 pub mod AddsAsking
 pub mod Always
+pub mod Ending
