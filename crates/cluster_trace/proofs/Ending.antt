@@ -40,8 +40,7 @@ use Rattle.cluster_trace.proofs.Standing.{Stacked, account_wants, value_returns}
 use Rattle.cluster_trace.proofs.Ahead.{ahead, quiet_none}
 use Rattle.cluster_trace.proofs.Accounted.{Accounted}
 use Rattle.cluster_trace.proofs.Changes.{on_none, live_here, last_has}
-use Rattle.cluster_trace.proofs.Onwards.{OldComes, AddsAsked}
-use Rattle.cluster_trace.proofs.Always.{all_so, obeys_if}
+use Rattle.cluster_trace.proofs.Always.{all_so, obeys}
 
 -- where all frames of a stack have returned, the top one has, and so have those below
 top_returned : {A : Type 0} (deposits : List Deposit) (top : Life) (below : List Life) (gives : Option ℤ) → returned top ≡ gives
@@ -99,8 +98,7 @@ module _ (cluster : Cluster) (turns : List WholeTurn) (lawful : IsLawful cluster
             let born = made_first cluster turns lawful position frame (held_made cluster earlier stepped_there frame (omega (arith, some))) in
             everywhere_always (If frame IsBorn) (λ id goes same. subst (Born trace.events position) (sym same) born) cluster earlier
 
-  module _ (program : Program) (stands : StandsFor cluster.code program) (comes : OldComes cluster turns lawful program stands)
-      (asked : AddsAsked cluster turns lawful program stands) (parted : IsParted program) where
+  module _ (program : Program) (stands : StandsFor cluster.code program) (parted : IsParted program) where
     -- what a frame wants in the execution
     abbrev wants : ℕ → FrameId → Option Want
     wants position frame = want_at (starts cluster.code) trace position frame
@@ -119,7 +117,7 @@ module _ (cluster : Cluster) (turns : List WholeTurn) (lawful : IsLawful cluster
       stack = stack_of (node_at cluster number) past
 
       accounted : Accounted cluster program stands trace position so_far
-      accounted = (all_so cluster turns lawful program stands comes asked parted position inside).1
+      accounted = (all_so cluster turns lawful program stands parted position inside).1
 
       none_ahead : ahead number so_far ≡ None
       none_ahead = quiet_none cluster so_far (stepped_there position) number less quiet
@@ -170,8 +168,7 @@ module _ (cluster : Cluster) (turns : List WholeTurn) (lawful : IsLawful cluster
     pub ends_complete : (position number : ℕ) → Happens course number position (Ended Finished) → Complete (starts cluster.code) trace position
     ends_complete position number happens =
         let main = ends_finished position number happens in
-        let obeys = obeys_if cluster turns lawful program stands comes asked parted in
-        complete (starts cluster.code) cluster.code.main trace obeys position main.0 main.1
+        complete (starts cluster.code) cluster.code.main trace (obeys cluster turns lawful program stands parted) position main.0 main.1
 
     -- Where a node ends with a trap, a frame wants that trap.
     pub ends_trapped : (position number : ℕ) (kind : TrapKind) → Happens course number position (Ended (Trapped kind))
