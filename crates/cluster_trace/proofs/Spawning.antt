@@ -175,6 +175,7 @@ module _ (cluster : Cluster) (turns : List WholeTurn) (lawful : IsLawful cluster
             ∙ ap (λ event. happens_to cluster (before course it.position) it.moved.node it.moved.message event) birth.is;
       })
 
+  -- so it is at an event
   pub made_born : (position : ℕ) (moved : Moved) → at course position ≡ Some moved → (frame : FrameId) → WasMade frame (before course position) → Born events position frame
   made_born position moved found frame made = made_first position frame (subst (WasMade frame) (sym (first_at position course moved found)) made)
 
