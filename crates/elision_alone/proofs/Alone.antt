@@ -1,5 +1,5 @@
 -- The elision is an execution depth first on one node, of at most as many ticks as it may.
-use Rattle.std.proofs.Common.{◌≡◌, ℕ, zero, suc, ◌<◌, ◌≤◌, inl, inr, ℤ, Bool, true, length, sym, subst, arith}
+use Rattle.std.proofs.Common.{◌≡◌, ℕ, zero, suc, ◌≤◌, inl, inr, ℤ, Bool, true, sym, subst, arith}
 use Rattle.backer_order.proofs.Search.{Less3, Same3, More3, compare}
 use Rattle.backer_order.specs.Log.{Nothing}
 use Rattle.cilk_meaning.proofs.Elisions.{elision_is_service, ticks_are_counted, budget_wants_more}

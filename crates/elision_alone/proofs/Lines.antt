@@ -1,5 +1,5 @@
 -- In the trace of a service the stack is the line of the instance that runs and its parents, the nearest first.
-use Rattle.std.proofs.Common.{◌≡◌, ◌≢◌, ℕ, suc, ◌<◌, Bool, true, false, List, [], ◌∷◌, length, refl, sym, ◌∙◌, ap, subst, arith}
+use Rattle.std.proofs.Common.{◌≡◌, ◌≢◌, ℕ, suc, ◌<◌, Bool, true, false, List, [], ◌∷◌, length, sym, ◌∙◌, ap, arith}
 use Rattle.backer_order.proofs.Search.{Less3, Same3, More3, compare}
 use Rattle.backer_order.specs.Log as log
 use Rattle.backer_order.specs.Log.{main_id, Spawn, Nothing}
@@ -42,9 +42,14 @@ module _ (starts : Starts) (main : ℕ) where
       Lined events below
   lined_below events top below is lined = record { deep = lined.deep; left = lined.left ∙ pop_one (returned_in events) top below is }
 
+  -- and what has not is its top
+  lined_live : (events : List Event) (top : FrameId) (below : List FrameId) → returned_in events top ≡ false → Lined events (top ∷ below) →
+      live starts (so_far starts main events) (length events) ≡ top ∷ below
+  lined_live events top below stays lined = lined.left ∙ pop_none (returned_in events) top below stays
+
   pub lined_top : (events : List Event) (top : FrameId) (below : List FrameId) → returned_in events top ≡ false → Lined events (top ∷ below) →
       IsTop starts (so_far starts main events) (length events) top
-  lined_top events top below stays lined = (below, lined.left ∙ pop_none (returned_in events) top below stays)
+  lined_top events top below stays lined = (below, lined_live events top below stays lined)
 
   -- ---- an event more
 
@@ -74,7 +79,7 @@ module _ (starts : Starts) (main : ℕ) where
     module _ (top : FrameId) (below : List FrameId) (acts : by top (event_of event) ≡ true) (stays : returned_in events top ≡ false)
         (lined : Lined events (top ∷ below)) where
       was_live : live starts behind (length events) ≡ top ∷ below
-      was_live = live_same starts before behind one.main_is (length events) one.extends ∙ (lined_top events top below stays lined).1
+      was_live = live_same starts before behind one.main_is (length events) one.extends ∙ lined_live events top below stays lined
 
       deep_more : Deep starts behind
       deep_more at frame is = elim (compare at (length events)) [

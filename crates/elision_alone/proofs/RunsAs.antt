@@ -62,13 +62,13 @@ module _ (history : History) (runs : FrameId → Instance) (row : ℕ) (inside :
 
     child_runs : (child : ℕ) → child ≡ length history → Runs grown child (instance_after spawn runs (frame_at child))
     child_runs child is = subst (λ i. Runs grown i (instance_after spawn runs (frame_at i))) (sym is) (
-      let born = new_row history row procedure arguments inside in
-      let told = child_instance runs row (length history) procedure arguments in
-      record {
-        procedure = ap (λ (r : Row). r.proc) born ∙ sym (ap (λ (i : Instance). i.procedure) told);
-        arguments = ap (λ (r : Row). r.args) born ∙ sym (ap (λ (i : Instance). i.arguments) told);
-      }
-    )
+        let born = new_row history row procedure arguments inside in
+        let told = child_instance runs row (length history) procedure arguments in
+        record {
+          procedure = ap (λ (r : Row). r.proc) born ∙ sym (ap (λ (i : Instance). i.procedure) told);
+          arguments = ap (λ (r : Row). r.args) born ∙ sym (ap (λ (i : Instance). i.arguments) told);
+        }
+        )
 
     other_same : (other : ℕ) → other ≢ length history → instance_after spawn runs (frame_at other) ≡ runs (frame_at other)
     other_same other apart = when_false (same_frame (frame_at other) (frame_at (length history)))

@@ -1,5 +1,5 @@
 -- Along the service the top of the stack makes each item, and at its end the stack says how it ended.
-use Rattle.std.proofs.Common.{◌≡◌, ℕ, suc, ℤ, Bool, true, false, Option, Some, None, List, [], ◌∷◌, length, refl, sym, ◌∙◌, ap, arith}
+use Rattle.std.proofs.Common.{◌≡◌, ℕ, suc, ℤ, true, false, Option, Some, None, List, [], ◌∷◌, length, refl, sym, ◌∙◌, ap, arith}
 use Rattle.cilk_meaning.proofs.Keeps.{IsInvariant, serve_keeps}
 use Rattle.cilk_meaning.specs.declared.ends.NodeEnd.TheVariants.{Finished, Trapped, Budget}
 use Rattle.cilk_meaning.specs.declared.ends.TrapKind.{TrapKind}
@@ -8,12 +8,12 @@ use Rattle.cilk_meaning.specs.Wants as wanted
 use Rattle.cilk_meaning.specs.Wants.{Request, Want, Asks, Returns, Traps}
 use Rattle.cilk_meaning.specs.World as world
 use Rattle.cilk_meaning.specs.World.{World, End, ticks_of}
-use Rattle.determinacy.specs.Replies.{by, want_at}
+use Rattle.determinacy.specs.Replies.{want_at}
 use Rattle.elision_alone.proofs.Lines.{Lined, returned_in, first_lined, lined_below, lined_top, lined_more}
 use Rattle.elision_trace.proofs.Items.{ticks_all}
 use Rattle.elision_trace.proofs.Obeying.{first_good, step_good, return_good}
 use Rattle.elision_trace.proofs.Service.{Good, so_far, by_act, by_tick}
-use Rattle.elision_trace.specs.Tracing.{frame_at, event_of, events_in}
+use Rattle.elision_trace.specs.Tracing.{frame_at}
 use Rattle.one_node.specs.Alone.{EndsAs}
 use Rattle.one_node.specs.Deep.{pushed, is_return, Deep, IsTop}
 use Rattle.page_messages.specs.declared.closure.FrameId.{FrameId}
