@@ -1,7 +1,6 @@
 -- The elision is an execution depth first on one node, of at most as many ticks as it may.
 use Rattle.std.proofs.Common.{◌≡◌, ℕ, zero, suc, ◌≤◌, inl, inr, ℤ, Bool, true, sym, subst, arith}
 use Rattle.backer_order.proofs.Search.{Less3, Same3, More3, compare}
-use Rattle.backer_order.specs.Log.{Nothing}
 use Rattle.cilk_meaning.proofs.Elisions.{elision_is_service, ticks_are_counted, budget_wants_more}
 use Rattle.cilk_meaning.specs.Instance.{Limits, wants_within}
 use Rattle.cilk_meaning.specs.Resolved.{Program}
@@ -10,12 +9,12 @@ use Rattle.determinacy.proofs.Counting.{count_yes, count_no, count_zero}
 use Rattle.determinacy.proofs.Rows.{either_bool}
 use Rattle.determinacy.specs.Ending.{count, is_item}
 use Rattle.determinacy.specs.Replies.{by}
+use Rattle.elision_alone.proofs.Lines.{no_item}
 use Rattle.elision_alone.proofs.Serving.{EndsDeep, service_ends_deep}
 use Rattle.elision_alone.specs.Laws.{ElisionIsAlone}
 use Rattle.elision_trace.proofs.Elisions.{ended, elision_obeys, elision_reads, elision_ticks}
 use Rattle.elision_trace.specs.Laws.{end_of, elision_trace, finish_of}
 use Rattle.one_node.specs.Alone.{Within}
-use Rattle.page_messages.specs.declared.closure.FrameId.{FrameId}
 
 count_within : (holds : ℕ → Bool) (number : ℕ) → count holds number ≤ number
 count_within holds zero = let none = count_zero holds in omega (arith, none)
@@ -25,10 +24,6 @@ count_within holds (suc number) =
       | inl is ↦ let more = count_yes holds number is in omega (arith, before, more)
       | inr none ↦ let same = count_no holds number none in omega (arith, before, same)
     ]
-
-no_item : (frame : FrameId) → by frame Nothing ≡ true → ⊥
-unfolding by
-no_item frame is = cc
 
 module _ (most : Limits) (program : Program) (start : ℕ → ℤ) (budget : ℕ) where
   ends_deep : EndsDeep (wants_within most program) program.main budget (end_of most program start budget)

@@ -18,7 +18,7 @@ use Rattle.one_node.specs.Deep.{pop, pushed, returned, live, IsTop, Deep}
 use Rattle.page_messages.specs.declared.closure.FrameId.{FrameId}
 use Rattle.span_tree.specs.Program.{Starts}
 
-no_item : (frame : FrameId) → by frame Nothing ≡ true → ⊥
+pub no_item : (frame : FrameId) → by frame Nothing ≡ true → ⊥
 unfolding by
 no_item frame is = cc
 

@@ -63,12 +63,14 @@ module _ (starts : Starts) (main budget : ℕ) (ends more : End) (counted : ends
 
   -- ---- a request
 
+  -- what asks for something has not returned
   stays : (s : State) (request : Request) → now s.running.goes ≡ Some (Asks request) → Good starts main s →
       returned_in starts main s.world.log (frame_at s.running.row) ≡ false
   stays s request is good =
       asks_none (want_at starts (so_far starts main s.world.log) (length s.world.log) (frame_at s.running.row)) request
       (wants_as s (Some (Asks request)) is good)
 
+  -- the line grows by the child that is spawned, and is else the same
   line_more : (s : State) (request : Request) (is : now s.running.goes ≡ Some (Asks request)) → Good starts main s →
       Good starts main (served starts request s) → Lined starts main s.world.log (frame_at s.running.row ∷ frames_waiting s.waiting) →
       Lined starts main (served starts request s).world.log (frame_at (served starts request s).running.row ∷ frames_waiting (served starts request s).waiting)
