@@ -19,7 +19,8 @@ use Rattle.determinacy.proofs.Rows.{either_bool, same_is, given, grew, still, bl
 use Rattle.determinacy.proofs.Matches.{asked}
 use Rattle.word_order.proofs.Rows.{shown, act_by, acts_before, number_get}
 use Rattle.word_order.proofs.Places.{AreRows, number_is}
-use Rattle.trace_rows.proofs.RunAs.{RunAs, row_of_child}
+use Rattle.trace_rows.proofs.RunAs.{row_of_child}
+use Rattle.trace_rows.specs.RunAs.{RunAs}
 use Rattle.trace_rows.proofs.Blocks.{returned, block_of, have_returned, spawned_by}
 
 nothing_more : {A : Type 0} (list : List A) → list ++ [] ≡ list
