@@ -16,4 +16,5 @@ pub mod Accounted
 pub mod Changes
 pub mod Doing
 pub mod Onwards
+pub mod OldComing
 pub mod Always
