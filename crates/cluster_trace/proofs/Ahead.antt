@@ -1,5 +1,5 @@
 -- The old value that a home has told for a node which does not know it yet: there the execution is one answer ahead of the node.
-use Rattle.std.proofs.Common.{◌≡◌, ◌⊎◌, ◌<◌, ℕ, ℤ, List, [], ◌∷◌, Option, Some, None, Bool, true, false, cond, eqb, is_some, inl, inr, refl, sym, ◌∙◌, ap, subst}
+use Rattle.std.proofs.Common.{◌≡◌, ◌⊎◌, ◌<◌, ℕ, ℤ, List, [], ◌∷◌, Option, Some, None, Bool, true, false, cond, eqb, inl, inr, refl, sym, ◌∙◌, ap, subst}
 use Rattle.page_messages.specs.declared.closure.FrameId.{FrameId}
 use Rattle.page_messages.specs.declared.message.Msg.{Msg}
 use Rattle.page_messages.specs.declared.message.Body.{Body}

@@ -1,17 +1,14 @@
 -- An old value that a node takes is the one that its home told for it last.
-use Rattle.std.proofs.Common.{◌≡◌, ℕ, ℤ, List, Option, Some, ◌∙◌, ap}
+use Rattle.std.proofs.Common.{List, ◌∙◌, ap}
 use Rattle.cilk_meaning.specs.Resolved.{Program}
 use Rattle.machine_code.specs.StandsFor.{StandsFor}
-use Rattle.page_messages.specs.declared.message.Msg.{Msg}
-use Rattle.page_messages.specs.declared.message.Body.TheVariants as body
-use Rattle.page_messages.specs.declared.log.PostAt.{PostAt}
 use Rattle.cluster_rules.specs.Turns.{WholeTurn, Took}
 use Rattle.cluster_rules.specs.Positions.{Course, course_of, before}
 use Rattle.cluster_rules.specs.Runs.{Cluster, IsLawful}
 use Rattle.cluster_rules.proofs.Asking.{phased, was_told}
 use Rattle.cluster_rules.proofs.UnderWay.{moved_by}
 use Rattle.cluster_trace.proofs.Spawning.{step_then}
-use Rattle.cluster_trace.proofs.Ahead.{ahead, old_in, told_so}
+use Rattle.cluster_trace.proofs.Ahead.{old_in, told_so}
 use Rattle.cluster_trace.proofs.Onwards.{OldComes}
 
 -- The old value in an Added that a node takes is the one by which the execution is ahead of that node.
