@@ -30,8 +30,9 @@ use Rattle.elision_trace.proofs.Racing.{are_rows}
 use Rattle.elision_alone.proofs.RunsAs.{elision_runs_as}
 use Rattle.trace_rows.proofs.OneHistory.{one_history}
 use Rattle.cluster_trace.specs.Instances.{trace_of}
-use Rattle.run_memory.specs.Laws.{left_in_order}
-use Rattle.run_memory.proofs.Memory.{run_memory}
+use Rattle.run_memory.specs.Left.{left_in_order}
+use Rattle.run_memory.proofs.RunMemory.{run_memory, memory_there}
+use Rattle.word_order.specs.Consistency.{places_by}
 use Rattle.run_ticks.specs.Posted.{adds_under_way}
 use Rattle.run_ticks.proofs.Logs.{counts_sum}
 use Rattle.run_answers.specs.Laws.{HasEnd, IsElision, elision_of}
@@ -80,10 +81,12 @@ module _ (cluster : Cluster) (program : Program) (log : List Turn) (run : IsRun 
           (runs_as cluster program turns run.lawful stands parted frames history of_them)
           (elision_runs_as limits program (start_words_of cluster.code) budget) goes.one
 
-      words_are : (word : ℕ) (order : List Listed) → IsHomeOrder cluster course word order → left_in_order cluster turns frames history word order ≡ elision.world.memory word
+      words_are : (word : ℕ) (order : List Listed) → IsHomeOrder cluster course word order
+          → left_in_order (start_words_of cluster.code) history (places_by frames course order) word ≡ elision.world.memory word
       words_are word order is =
-          goes.word word (left_in_order cluster turns frames history word order) (elision.world.memory word)
-          (run_memory cluster program log frames history word order stands parted run its is)
+          let left = memory_there cluster turns word run.lawful in
+          (run_memory cluster program turns frames history word order left.0 stands parted run.lawful (of_turns cluster log run frames history its) is).0 left.1
+          ∙ goes.word word left.0 (elision.world.memory word) left.1
           ((reads limits program (start_words_of cluster.code) budget memory (begins cluster)).holds word)
 
     ticks_are : sum (counts_of cluster.config.nodes log).ticks ≡ ticks_of elision

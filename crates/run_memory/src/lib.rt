@@ -1,7 +1,7 @@
 //! What a run of the written cluster leaves in its words is what the last writes in the home orders of its history leave.
 #![tactic(auto)]
 
-ghost use Rattle.run_memory.specs.Laws.{MemoryThere, RunMemory, RunsLeaveMemory};
+ghost use Rattle.run_memory.specs.Laws.{MemoryThere, RunMemory};
 
 /// A law, nothing is done: in whatever lawful turns, what is left in a word is what the last write in the word's home order leaves there,
 /// and nothing else.
@@ -12,10 +12,4 @@ pub fn run_memory()
 /// A law, nothing is done: and something is left in each word.
 pub fn memory_there()
     ensures { MemoryThere }
-{}
-
-/// A law, nothing is done: so each history of each run, ended or not, has orders by which it is location consistent and which leave in each
-/// word what the run does.
-pub fn runs_leave_memory()
-    ensures { RunsLeaveMemory }
 {}
