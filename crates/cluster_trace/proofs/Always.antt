@@ -100,7 +100,7 @@ module _ (cluster : Cluster) (turns : List WholeTurn) (lawful : IsLawful cluster
           let same : position ≡ now = omega (arith, less, later) in
           subst (λ now. (frame : FrameId) → by frame (trace.events now) ≡ true → Answers trace (trace.events now) (want_at (starts cluster.code) trace now frame)) same here
 
-  all_so : (position : ℕ) → position ≤ length course → AllSo position
+  pub all_so : (position : ℕ) → position ≤ length course → AllSo position
   all_so zero less = ((λ now none. absurd (omega (arith, none))), subst (Accounted cluster program stands trace 0) (sym (first_none course)) start)
   all_so (suc position) less = on (at course position) refl (all_so position (omega (arith, less)))
     where

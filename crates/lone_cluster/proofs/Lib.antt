@@ -1,1 +1,4 @@
 pub mod Silent
+pub mod Positions
+pub mod Depth
+pub mod Runs

@@ -18,12 +18,12 @@ use Rattle.cluster_rules.specs.Walking.{is_empty, last_of, latest, with_first}
 use Rattle.cluster_rules.specs.Turns.{Event, Did, Sent, Took, Ended, Past}
 use Rattle.cluster_rules.specs.Node.{Node, page_of, home_of}
 use Rattle.cluster_rules.specs.Home.{owed_home_replies, owed_adds, owed_olds, after_served, told_by}
-use Rattle.cluster_rules.specs.Lives.{Life, main_id, main_life, made, with_kept, live_from, live, answered, acted, added, after_act, returned}
+use Rattle.cluster_rules.specs.Lives.{Life, main_id, made, with_kept, live_from, live, answered, added, after_act, returned}
 use Rattle.cluster_rules.specs.Frames.{Frames, frames_item, frames_on, frames_of, stack_of}
 use Rattle.cluster_rules.specs.Asks.{asks_of, next_victim, following, receiver_of, sends_ask}
 use Rattle.cluster_rules.specs.Paging.{EachIsSending, MayTakeUp}
 use Rattle.cluster_rules.specs.Edges.{IsOldestAsk}
-use Rattle.cluster_rules.specs.Allowed.{IsAllowed, DoesItem}
+use Rattle.cluster_rules.specs.Allowed.{IsAllowed}
 use Rattle.cluster_rules.specs.Runs.{Cluster, node_at, IsOwed, IsFree, MayDo, MayPost, MaySend}
 use Rattle.cluster_rules.specs.Positions.{Moved, Course, own}
 use Rattle.cluster_rules.proofs.Stepping.{WasPosted, Carries, Stepped}
@@ -55,7 +55,7 @@ abbrev pub Silent : Course → Type 0
 Silent [] = Unit {0}
 Silent (moved ∷ course) = (moved.node ≡ 0) × OwnEvent moved.event × Silent course
 
-silent_own : (number : ℕ) (course : Course) → Silent course → SilentPast (own number course)
+pub silent_own : (number : ℕ) (course : Course) → Silent course → SilentPast (own number course)
 silent_own number [] silent = tt
 silent_own number (moved ∷ course) silent = on (eqb moved.node number) (silent_own number course silent.2)
   where
@@ -266,7 +266,7 @@ module _ (cluster : Cluster) (alone : cluster.config.nodes ≡ 1) where
     own_item (item.OwnReconcile part) rest posts may = tt
     own_item (item.Served frame index word old addend) rest posts may = tt
 
-  number_here : (number : ℕ) → number < cluster.config.nodes → number ≡ 0
+  pub number_here : (number : ℕ) → number < cluster.config.nodes → number ≡ 0
   number_here number less = omega (arith, less, alone)
 
   pub own_here : (moved : Moved) (course : Course) → moved.node ≡ 0 → own 0 (moved ∷ course) ≡ moved.event ∷ own 0 course
