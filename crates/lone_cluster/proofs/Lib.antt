@@ -2,3 +2,4 @@ pub mod Silent
 pub mod Positions
 pub mod Depth
 pub mod Runs
+pub mod Logs
