@@ -1,5 +1,6 @@
 -- The stack of a lone node is the one of its execution: the run goes depth first.
-use Rattle.std.proofs.Common.{◌≡◌, ℕ, zero, suc, ◌≤◌, ℤ, List, [], ◌∷◌, map, Option, Some, None, Bool, true, false, cond, is_some, length, refl, sym, ◌∙◌, ap, subst, arith}
+use Rattle.std.proofs.Common.{◌≡◌, ℕ, zero, suc, ◌≤◌, ℤ, List, [], ◌∷◌, map, Option, Some, None, Bool, true, false, cond, is_some, length}
+use Rattle.std.proofs.Common.{refl, sym, ◌∙◌, ap, subst, arith}
 use Rattle.backer_order.specs.Log as log
 use Rattle.cilk_meaning.specs.Parted.{IsParted}
 use Rattle.cilk_meaning.specs.Resolved.{Program}
@@ -55,7 +56,8 @@ Told test [] = Unit {0}
 Told test (life ∷ below) = (test life.id ≡ is_some (returned life)) × Told test below
 
 -- The frames that have not returned, by a test of their names.
-live_from_names : (test : FrameId → Bool) (deposits : List Deposit) (lives : List Life) → Told test lives → names (live_from deposits lives) ≡ pop test (names lives)
+live_from_names : (test : FrameId → Bool) (deposits : List Deposit) (lives : List Life) → Told test lives
+    → names (live_from deposits lives) ≡ pop test (names lives)
 unfolding pop
 live_from_names test deposits [] told = refl
 live_from_names test deposits (life ∷ below) told = on (returned life) told.0 (λ given. live_from_names test given below told.1)
@@ -73,7 +75,9 @@ live_again_from deposits (life ∷ below) = on (returned life) refl (λ given. l
   where
     first_stays : returned life ≡ None → names (live (with_kept deposits life ∷ below)) ≡ life.id ∷ names below
     first_stays none =
-        subst (λ value. names (elim value [ None ↦ with_kept [] (with_kept deposits life) ∷ below | Some it ↦ live_from ((life.spawned.target, it) ∷ []) below ]) ≡ life.id ∷ names below)
+        subst
+        (λ value. names (elim value [ None ↦ with_kept [] (with_kept deposits life) ∷ below | Some it ↦ live_from ((life.spawned.target, it) ∷ []) below ])
+        ≡ life.id ∷ names below)
         (sym none) refl
 
     on : (value : Option ℤ) → returned life ≡ value → ((given : List Deposit) → names (live (live_from given below)) ≡ names (live_from given below))
@@ -83,19 +87,25 @@ live_again_from deposits (life ∷ below) = on (returned life) refl (λ given. l
     on (Some value) is rest = rest ((life.spawned.target, value) ∷ [])
 
 -- Where none is left, the bottom one has returned.
-pub all_returned : (deposits : List Deposit) (lives : List Life) (life : Life) → live_from deposits lives ≡ [] → last_of lives ≡ Some life → (value : ℤ) × (returned life ≡ Some value)
+pub all_returned : (deposits : List Deposit) (lives : List Life) (life : Life) → live_from deposits lives ≡ [] → last_of lives ≡ Some life
+    → (value : ℤ) × (returned life ≡ Some value)
 all_returned deposits [] life none is = absurd (cc)
-all_returned deposits (top ∷ []) life none is = let same : top ≡ life = cc in subst (λ it. (value : ℤ) × (returned it ≡ Some value)) same (on (returned top) refl none)
+all_returned deposits (top ∷ []) life none is =
+    let same : top ≡ life = cc in subst (λ it. (value : ℤ) × (returned it ≡ Some value)) same (on (returned top) refl none)
   where
-    on : (value : Option ℤ) → returned top ≡ value → ◌≡◌ {A = List Life} (elim value [ None ↦ with_kept deposits top ∷ [] | Some it ↦ live_from ((top.spawned.target, it) ∷ []) [] ]) []
+    on : (value : Option ℤ) → returned top ≡ value
+        → ◌≡◌ {A = List Life} (elim value [ None ↦ with_kept deposits top ∷ [] | Some it ↦ live_from ((top.spawned.target, it) ∷ []) [] ]) []
         → (value : ℤ) × (returned top ≡ Some value)
     on None is none = absurd (cc)
     on (Some value) is none = (value, is)
 all_returned deposits (top ∷ (second ∷ below)) life none is =
     on (returned top) none (λ given left. all_returned given (second ∷ below) life left is)
   where
-    on : (value : Option ℤ) → ◌≡◌ {A = List Life} (elim value [ None ↦ with_kept deposits top ∷ (second ∷ below) | Some it ↦ live_from ((top.spawned.target, it) ∷ []) (second ∷ below) ]) []
-        → ((given : List Deposit) → live_from given (second ∷ below) ≡ [] → (value : ℤ) × (returned life ≡ Some value)) → (value : ℤ) × (returned life ≡ Some value)
+    on : (value : Option ℤ)
+        → ◌≡◌ {A = List Life}
+        (elim value [ None ↦ with_kept deposits top ∷ (second ∷ below) | Some it ↦ live_from ((top.spawned.target, it) ∷ []) (second ∷ below) ]) []
+        → ((given : List Deposit) → live_from given (second ∷ below) ≡ [] → (value : ℤ) × (returned life ≡ Some value))
+        → (value : ℤ) × (returned life ≡ Some value)
     on None none rest = absurd (cc)
     on (Some value) none rest = rest ((top.spawned.target, value) ∷ []) none
 
@@ -116,7 +126,8 @@ tick_names : (number : ℕ) (frame : FrameId) (below : List FrameId) → pushed 
 unfolding pushed
 tick_names number frame below = refl
 
-add_names : (number : ℕ) (frame : FrameId) (word : ℕ) (old addend : ℤ) (below : List FrameId) → pushed (log.Acts number frame (log.Add word old addend)) below ≡ below
+add_names : (number : ℕ) (frame : FrameId) (word : ℕ) (old addend : ℤ) (below : List FrameId)
+    → pushed (log.Acts number frame (log.Add word old addend)) below ≡ below
 unfolding pushed
 add_names number frame word old addend below = refl
 
@@ -150,8 +161,8 @@ never_ahead number (moved ∷ course) silent = on moved.event silent.1 (never_ah
     on (Took message) itself none = absurd itself
     on (Ended end) itself none = none
 
-module _ (cluster : Cluster) (turns : List WholeTurn) (lawful : IsLawful cluster turns) (program : Program) (stands : StandsFor cluster.code program) (parted : IsParted program)
-    (alone : cluster.config.nodes ≡ 1) where
+module _ (cluster : Cluster) (turns : List WholeTurn) (lawful : IsLawful cluster turns) (program : Program) (stands : StandsFor cluster.code program)
+    (parted : IsParted program) (alone : cluster.config.nodes ≡ 1) where
   abbrev course : Course
   course = course_of turns
 
@@ -192,7 +203,8 @@ module _ (cluster : Cluster) (turns : List WholeTurn) (lawful : IsLawful cluster
   Wanting position [] = Unit {0}
   Wanting position (life ∷ below) = (want_at (starts cluster.code) trace position life.id ≡ want_of life) × Wanting position below
 
-  stacked_wanting : (position : ℕ) (so_far : Course) (above : List FrameId) (lives : List Life) → Stacked cluster program stands trace position so_far above lives → Wanting position lives
+  stacked_wanting : (position : ℕ) (so_far : Course) (above : List FrameId) (lives : List Life)
+      → Stacked cluster program stands trace position so_far above lives → Wanting position lives
   stacked_wanting position so_far above [] stacked = tt
   stacked_wanting position so_far above (life ∷ below) stacked =
       (account_wants cluster program stands trace position so_far life above stacked.0, stacked_wanting position so_far (life.id ∷ []) below stacked.2)
@@ -237,7 +249,8 @@ module _ (cluster : Cluster) (turns : List WholeTurn) (lawful : IsLawful cluster
       → names (after_act node done lives) ≡ pushed (log.Acts 0 frame (act_of done)) (names lives)
   act_pushes frame done lives life is =
       let top = first_is lives life is in
-      subst (λ lives. names (after_act node done lives) ≡ pushed (log.Acts 0 frame (act_of done)) (names lives)) (sym top.1) (act_names node 0 frame done life top.0)
+      subst (λ lives. names (after_act node done lives) ≡ pushed (log.Acts 0 frame (act_of done)) (names lives)) (sym top.1)
+      (act_names node 0 frame done life top.0)
 
   module _ (earlier : Course) (before_it : Lone cluster alone earlier) where
     abbrev past : Past
@@ -277,17 +290,18 @@ module _ (cluster : Cluster) (turns : List WholeTurn) (lawful : IsLawful cluster
   unfolding frames_of
   stack_start = refl
 
-  goes_at : (position : ℕ) (moved : Moved) → at course position ≡ Some moved → Goes (trace.events position) (names (live (stack_at position))) (stack_at (suc position))
+  goes_at : (position : ℕ) (moved : Moved) → at course position ≡ Some moved
+      → Goes (trace.events position) (names (live (stack_at position))) (stack_at (suc position))
   goes_at position moved found =
       let it = stands_at cluster alone course stepped position moved found in
       let earlier = before course position in
-      let later : stack_at (suc position) ≡ (frames_on node moved.event (own 0 earlier) (frames_of node (own 0 earlier))).stack =
+      let next : List Life = (frames_on node moved.event (own 0 earlier) (frames_of node (own 0 earlier))).stack in
+      let later : stack_at (suc position) ≡ next =
       ap (λ so_far. stack_of node (own 0 so_far)) (first_next position course moved found)
       ∙ ap (stack_of node) (own_here cluster alone moved earlier it.here) ∙ stack_behind moved.event (own 0 earlier) in
       subst (λ event. Goes event (names (live (stack_at position))) (stack_at (suc position))) (sym it.event_is)
       (subst (Goes (happens_to cluster earlier 0 moved.message moved.event) (names (live (stack_at position)))) (sym later)
-      (subst
-      (λ so_far. Goes (happens_to cluster earlier 0 moved.message moved.event) (names (live (stack_of node (own 0 so_far)))) (frames_on node moved.event (own 0 earlier) (frames_of node (own 0 earlier))).stack)
+      (subst (λ so_far. Goes (happens_to cluster earlier 0 moved.message moved.event) (names (live (stack_of node (own 0 so_far)))) next)
       (sym (first_at position course moved found)) (goes_on earlier it.lone_before moved.message moved.event it.itself it.allowed)))
 
   -- ---- what is no item changes no stack
@@ -300,13 +314,15 @@ module _ (cluster : Cluster) (turns : List WholeTurn) (lawful : IsLawful cluster
   pub still_live : (position : ℕ) → is_item (trace.events position) ≡ false → live_at (suc position) ≡ live_at position
   still_live position none =
       let same : returned_at (suc position) ≡ returned_at position = λ i frame. is_return (still_wants position none frame i) in
-      ap (λ test. pop test (stack (starts cluster.code) trace (suc position))) same ∙ ap (pop (returned_at position)) (stack_other (starts cluster.code) trace position none)
+      ap (λ test. pop test (stack (starts cluster.code) trace (suc position))) same
+      ∙ ap (pop (returned_at position)) (stack_other (starts cluster.code) trace position none)
 
   -- The live frames of the node are those of the execution.
   pub same_live : (position : ℕ) → position ≤ length course → names (live (stack_at position)) ≡ live_at position
   same_live zero less =
       live_names zero less
-      ∙ ap (pop (returned_at zero)) (ap (λ so_far. names (stack_of node (own 0 so_far))) (first_none course) ∙ stack_start ∙ sym (stack_first (starts cluster.code) trace))
+      ∙ ap (pop (returned_at zero))
+      (ap (λ so_far. names (stack_of node (own 0 so_far))) (first_none course) ∙ stack_start ∙ sym (stack_first (starts cluster.code) trace))
   same_live (suc position) less = on (at course position) refl (same_live position (omega (arith, less)))
     where
       on_event : Goes (trace.events position) (names (live (stack_at position))) (stack_at (suc position)) → names (live (stack_at position)) ≡ live_at position
@@ -316,7 +332,8 @@ module _ (cluster : Cluster) (turns : List WholeTurn) (lawful : IsLawful cluster
           ∙ ap (pop (returned_at (suc position))) (same ∙ ap (pushed (trace.events position)) so_far ∙ sym (stack_item (starts cluster.code) trace position is))
       on_event (Stays none same) so_far = same ∙ so_far ∙ sym (still_live position none)
 
-      on : (option : Option Moved) → at course position ≡ option → names (live (stack_at position)) ≡ live_at position → names (live (stack_at (suc position))) ≡ live_at (suc position)
+      on : (option : Option Moved) → at course position ≡ option → names (live (stack_at position)) ≡ live_at position
+          → names (live (stack_at (suc position))) ≡ live_at (suc position)
       on None none so_far = let past = nothing_past position course none in absurd (omega (arith, past, less))
       on (Some moved) found so_far = on_event (goes_at position moved found) so_far
 
@@ -325,11 +342,13 @@ module _ (cluster : Cluster) (turns : List WholeTurn) (lawful : IsLawful cluster
     pub top : IsTop (starts cluster.code) trace position life.id
     pub wants : want_at (starts cluster.code) trace position life.id ≡ want_of life
 
-  pub top_at : (position : ℕ) (moved : Moved) → at course position ≡ Some moved → (life : Life) → highest node (own 0 (before course position)) ≡ Some life → Tops position life
+  pub top_at : (position : ℕ) (moved : Moved) → at course position ≡ Some moved → (life : Life)
+      → highest node (own 0 (before course position)) ≡ Some life → Tops position life
   top_at position moved found life is =
       let inside = within course position moved found in
       let less : position ≤ length course = omega (arith, inside) in
-      let top = first_is (live (stack_at position)) life (ap (λ so_far. first_of (live (stack_of node (own 0 so_far)))) (first_at position course moved found) ∙ is) in
+      let top = first_is (live (stack_at position)) life
+      (ap (λ so_far. first_of (live (stack_of node (own 0 so_far)))) (first_at position course moved found) ∙ is) in
       record {
         top = (names top.0, sym (same_live position less) ∙ ap names top.1);
         wants = (subst (Wanting position) top.1 (live_wants position less)).0;

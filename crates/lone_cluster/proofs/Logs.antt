@@ -71,7 +71,8 @@ module _ (cluster : Cluster) (alone : cluster.config.nodes ≡ 1) where
       let posts = with_posts turn.node start turn.posts items in
       let message = posted_at older turn.took in
       let taking = with_taking turn.node turn.took message posts in
-      let whole : Silent (with_end turn.node turn.end taking) = (lone cluster alone (course_of (turn ∷ older)) (lawful_stepped cluster (turn ∷ older) lawful)).0 in
+      let whole : Silent (with_end turn.node turn.end taking) =
+      (lone cluster alone (course_of (turn ∷ older)) (lawful_stepped cluster (turn ∷ older) lawful)).0 in
       let taken : Silent taking = silent_under taking (with_end turn.node turn.end taking) (grown_end turn.node turn.end taking) whole in
       let posted : Silent posts = silent_under posts taking (grown_taking turn.node turn.took message posts) taken in
       let done : Silent items = silent_under items posts (grown_posts turn.node start turn.posts items) posted in

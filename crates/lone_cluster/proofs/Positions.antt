@@ -73,7 +73,9 @@ module _ (cluster : Cluster) (alone : cluster.config.nodes ≡ 1) (course : Cour
         itself = whole.0.1;
         lone_before = lone cluster alone (before course position) earlier;
         allowed = subst (λ number. IsAllowed (node_at cluster number) (own number (before course position)) moved.event) here step.allowed;
-        event_is = event_at cluster course position moved found ∙ ap (λ number. happens_to cluster (before course position) number moved.message moved.event) here;
+        event_is =
+            event_at cluster course position moved found
+            ∙ ap (λ number. happens_to cluster (before course position) number moved.message moved.event) here;
       }
 
   pub silent_at : (position : ℕ) (moved : Moved) → Stands position moved → SilentPast (past_at position)
@@ -84,7 +86,8 @@ module _ (cluster : Cluster) (alone : cluster.config.nodes ≡ 1) (course : Cour
   served_here : (position : ℕ) (moved : Moved) → Stands position moved → served_for 0 (owed_adds (past_at position)) ≡ 0
   served_here position moved stands = ap (served_for 0) (no_adds (past_at position) (silent_at position moved stands))
 
-  happens_here : (position : ℕ) (moved : Moved) (place : Option PostAt) → Stands position moved → (event : Event) → node_in (happens_to cluster (before course position) 0 place event) ≡ 0
+  happens_here : (position : ℕ) (moved : Moved) (place : Option PostAt) → Stands position moved → (event : Event)
+      → node_in (happens_to cluster (before course position) 0 place event) ≡ 0
   happens_here position moved place stands (Did (item.Act frame index act)) = refl
   happens_here position moved place stands (Did (item.Tick frame)) = refl
   happens_here position moved place stands (Did (item.Drop page)) = refl
@@ -102,7 +105,8 @@ module _ (cluster : Cluster) (alone : cluster.config.nodes ≡ 1) (course : Cour
     where
       on : (option : Option Moved) → at course position ≡ option → node_in (events position) ≡ 0
       on None none = rw none refl
-      on (Some moved) found = let stands = stands_at position moved found in ap node_in stands.event_is ∙ happens_here position moved moved.message stands moved.event
+      on (Some moved) found =
+          let stands = stands_at position moved found in ap node_in stands.event_is ∙ happens_here position moved moved.message stands moved.event
 
   acts_here : (node position : ℕ) (frame : FrameId) (act : log.Act) → events position ≡ log.Acts node frame act → node ≡ 0
   acts_here node position frame act is = sym (ap node_in is) ∙ node_here position
@@ -126,7 +130,8 @@ module _ (cluster : Cluster) (alone : cluster.config.nodes ≡ 1) (course : Cour
   may_act past frame index done (inl owed) = absurd owed
   may_act past frame index done (inr both) = (both.1.life, both.1.acts)
 
-  may_tick : (past : Past) (frame : FrameId) → ⊥ ⊎ (IsFree past × MayTick (node_at cluster 0) past frame) → (life : Life) × Acts (node_at cluster 0) past frame life
+  may_tick : (past : Past) (frame : FrameId) → ⊥ ⊎ (IsFree past × MayTick (node_at cluster 0) past frame)
+      → (life : Life) × Acts (node_at cluster 0) past frame life
   may_tick past frame (inl owed) = absurd owed
   may_tick past frame (inr both) = (both.1.life, both.1.acts)
 
@@ -136,12 +141,14 @@ module _ (cluster : Cluster) (alone : cluster.config.nodes ≡ 1) (course : Cour
   may_add past silent frame index word old addend (inl serves) = let both = sym serves.oldest ∙ no_adds past silent in absurd (cc)
   may_add past silent frame index word old addend (inr both) = (both.1.add.life, both.1.add.acts)
 
-  acting_on : (position : ℕ) (frame : FrameId) → SilentPast (past_at position) → (place : Option PostAt) (event : Event) → IsAllowed (node_at cluster 0) (past_at position) event
+  acting_on : (position : ℕ) (frame : FrameId) → SilentPast (past_at position) → (place : Option PostAt) (event : Event)
+      → IsAllowed (node_at cluster 0) (past_at position) event
       → by frame (happens_to cluster (before course position) 0 place event) ≡ true → Acting position frame
   unfolding by
   acting_on position frame silent place (Did (item.Act actor index act)) does is =
       subst (Acting position) (same_name actor frame is) (may_act (past_at position) actor index act does.may)
-  acting_on position frame silent place (Did (item.Tick actor)) does is = subst (Acting position) (same_name actor frame is) (may_tick (past_at position) actor does.may)
+  acting_on position frame silent place (Did (item.Tick actor)) does is =
+      subst (Acting position) (same_name actor frame is) (may_tick (past_at position) actor does.may)
   acting_on position frame silent place (Did (item.Drop page)) does is = absurd (cc)
   acting_on position frame silent place (Did (item.TakeUp taken)) does is = absurd (cc)
   acting_on position frame silent place (Did (item.OwnFetch page words)) does is = absurd (cc)
@@ -157,14 +164,16 @@ module _ (cluster : Cluster) (alone : cluster.config.nodes ≡ 1) (course : Cour
   nobody frame event is acts = let none = ap (by frame) (sym is) ∙ acts in absurd (cc)
 
   -- The frame of an item acts by the rules, as the highest that has not returned.
-  pub acting : (position : ℕ) (frame : FrameId) → by frame (events position) ≡ true → (moved : Moved) × (at course position ≡ Some moved) × Acting position frame
+  pub acting : (position : ℕ) (frame : FrameId) → by frame (events position) ≡ true
+      → (moved : Moved) × (at course position ≡ Some moved) × Acting position frame
   acting position frame acts = on (at course position) refl
     where
       on : (option : Option Moved) → at course position ≡ option → (moved : Moved) × (at course position ≡ Some moved) × Acting position frame
       on None none = absurd (nobody frame (events position) (rw none refl) acts)
       on (Some moved) found =
           let stands = stands_at position moved found in
-          (moved, found, acting_on position frame (silent_at position moved stands) moved.message moved.event stands.allowed (ap (by frame) (sym stands.event_is) ∙ acts))
+          let named = ap (by frame) (sym stands.event_is) ∙ acts in
+          (moved, found, acting_on position frame (silent_at position moved stands) moved.message moved.event stands.allowed named)
 
   -- ---- ticks
 

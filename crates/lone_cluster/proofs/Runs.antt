@@ -49,8 +49,8 @@ no_item_ends : (node : ℕ) → is_item (log.End node) ≡ false
 unfolding is_item
 no_item_ends node = refl
 
-module _ (cluster : Cluster) (turns : List WholeTurn) (lawful : IsLawful cluster turns) (program : Program) (stands : StandsFor cluster.code program) (parted : IsParted program)
-    (alone : cluster.config.nodes ≡ 1) where
+module _ (cluster : Cluster) (turns : List WholeTurn) (lawful : IsLawful cluster turns) (program : Program) (stands : StandsFor cluster.code program)
+    (parted : IsParted program) (alone : cluster.config.nodes ≡ 1) where
   abbrev course : Course
   course = course_of turns
 
@@ -65,7 +65,8 @@ module _ (cluster : Cluster) (turns : List WholeTurn) (lawful : IsLawful cluster
 
   -- all ticks before something that stands in the course are those that the node had made
   ticks_at : (position : ℕ) (moved : Moved) → at course position ≡ Some moved → all_ticks trace.events position ≡ ticks_of (past_at position)
-  ticks_at position moved found = ticks_here cluster alone course stepped position ∙ ap (λ so_far. ticks_of (own 0 so_far)) (first_at position course moved found)
+  ticks_at position moved found =
+      ticks_here cluster alone course stepped position ∙ ap (λ so_far. ticks_of (own 0 so_far)) (first_at position course moved found)
 
   within_budget : Within trace cluster.config.budget
   within_budget position frame acts =
@@ -77,7 +78,8 @@ module _ (cluster : Cluster) (turns : List WholeTurn) (lawful : IsLawful cluster
   pub lone_runs : OneNode (starts cluster.code) cluster.code.main trace (memory_of cluster) cluster.config.budget
   lone_runs = record {
     obeys =
-        obeys_if cluster turns lawful program stands (comes cluster turns lawful program stands parted alone) (asked cluster turns lawful program stands parted alone) parted;
+        obeys_if cluster turns lawful program stands (comes cluster turns lawful program stands parted alone)
+        (asked cluster turns lawful program stands parted alone) parted;
     deep = goes_deep cluster turns lawful program stands parted alone;
     caching = keeps_the_page_rules cluster turns lawful;
     one = one_accesses cluster alone course stepped;

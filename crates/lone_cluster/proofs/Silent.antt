@@ -1,5 +1,6 @@
 -- On one node nothing is posted and nothing taken, and no frame leaves the stack.
-use Rattle.std.proofs.Common.{◌≡◌, ◌≢◌, ◌⊎◌, inl, inr, ℕ, ◌+◌, ◌<◌, ◌%◌, ℤ, List, [], ◌∷◌, ◌++◌, Option, Some, None, Bool, true, false, cond, eqb, refl, sym, ◌∙◌, ap, subst, arith}
+use Rattle.std.proofs.Common.{◌≡◌, ◌≢◌, ◌⊎◌, inl, inr, ℕ, ◌+◌, ◌<◌, ◌%◌, ℤ, List, [], ◌∷◌, ◌++◌, Option, Some, None, Bool, true, false, cond, eqb}
+use Rattle.std.proofs.Common.{refl, sym, ◌∙◌, ap, subst, arith}
 use Rattle.std.proofs.Math.Nat.{mod-one}
 use Rattle.cilk_meaning.specs.Wants.{Deposit, Answer, Value, Done}
 use Rattle.page_messages.specs.declared.closure.FrameId.{FrameId}
@@ -18,7 +19,7 @@ use Rattle.cluster_rules.specs.Walking.{is_empty, last_of, latest, with_first}
 use Rattle.cluster_rules.specs.Turns.{Event, Did, Sent, Took, Ended, Past}
 use Rattle.cluster_rules.specs.Node.{Node, page_of, home_of}
 use Rattle.cluster_rules.specs.Home.{owed_home_replies, owed_adds, owed_olds, after_served, told_by}
-use Rattle.cluster_rules.specs.Lives.{Life, main_id, made, with_kept, live_from, live, answered, added, after_act, returned}
+use Rattle.cluster_rules.specs.Lives.{Life, main_id, main_life, made, with_kept, live_from, live, answered, added, after_act, returned}
 use Rattle.cluster_rules.specs.Frames.{Frames, frames_item, frames_on, frames_of, stack_of}
 use Rattle.cluster_rules.specs.Asks.{asks_of, next_victim, following, receiver_of, sends_ask}
 use Rattle.cluster_rules.specs.Paging.{EachIsSending, MayTakeUp}
@@ -145,7 +146,8 @@ pub record AtHome (frames : Frames) : Type 0 where
 kept_homely : (deposits : List Deposit) (life : Life) → IsHomely life → IsHomely (with_kept deposits life)
 kept_homely deposits life it = record { rooted = it.rooted; near = it.near; whole = it.whole }
 
-live_on : (deposits : List Deposit) (life : Life) (below : List Life) (value : Option ℤ) → AllHomely (life ∷ below) → ((given : List Deposit) → AllHomely (live_from given below))
+live_on : (deposits : List Deposit) (life : Life) (below : List Life) (value : Option ℤ) → AllHomely (life ∷ below)
+    → ((given : List Deposit) → AllHomely (live_from given below))
     → AllHomely (elim value [ None ↦ with_kept deposits life ∷ below | Some it ↦ live_from ((life.spawned.target, it) ∷ []) below ])
 live_on deposits life below None all rest = (kept_homely deposits life all.0, all.1)
 live_on deposits life below (Some value) all rest = rest ((life.spawned.target, value) ∷ [])
@@ -173,7 +175,8 @@ act_homely node (act.Spawn child procedure arguments) (life ∷ below) all = (
 )
 act_homely node act.Sync (life ∷ below) all = (record { rooted = all.0.rooted; near = all.0.near; whole = refl }, all.1)
 
-first_homely : (change : Life → Life) → ((life : Life) → IsHomely life → IsHomely (change life)) → (stack : List Life) → AllHomely stack → AllHomely (with_first change stack)
+first_homely : (change : Life → Life) → ((life : Life) → IsHomely life → IsHomely (change life)) → (stack : List Life) → AllHomely stack
+    → AllHomely (with_first change stack)
 first_homely change each [] all = tt
 first_homely change each (life ∷ below) all = (each life all.0, all.1)
 
@@ -187,12 +190,14 @@ item_home : (node : Node) (done : Item) (past : Past) (frames : Frames) → OwnI
 item_home node (item.Act frame index done) past frames own it =
     record { stack = act_homely node done (live frames.stack) (live_homely frames.stack it.stack); ready = it.ready; parked = it.parked }
 item_home node (item.Tick frame) past frames own it =
-    record { stack = first_homely (answered Done) (answered_homely Done) (live frames.stack) (live_homely frames.stack it.stack); ready = it.ready; parked = it.parked }
+    let stack = first_homely (answered Done) (answered_homely Done) (live frames.stack) (live_homely frames.stack it.stack) in
+    record { stack = stack; ready = it.ready; parked = it.parked }
 item_home node (item.Drop page) past frames own it = it
 item_home node (item.TakeUp frame) past frames own it = absurd own
 item_home node (item.OwnFetch page words) past frames own it = record { stack = live_homely frames.stack it.stack; ready = it.ready; parked = it.parked }
 item_home node (item.OwnReconcile part) past frames own it = it
-item_home node (item.Served frame index word old addend) past frames own it = record { stack = on (is_empty (owed_adds past)); ready = it.ready; parked = it.parked }
+item_home node (item.Served frame index word old addend) past frames own it =
+    record { stack = on (is_empty (owed_adds past)); ready = it.ready; parked = it.parked }
   where
     on : (b : Bool) → AllHomely (cond b (added old (live frames.stack)) frames.stack)
     on true = first_homely (made (Value old)) (made_homely (Value old)) (live frames.stack) (live_homely frames.stack it.stack)
@@ -200,7 +205,9 @@ item_home node (item.Served frame index word old addend) past frames own it = re
 
 home_start : (node : Node) → node.me ≡ 0 → AtHome (frames_of node [])
 unfolding frames_of
-home_start node is = rw is (record { stack = (record { rooted = λ root. refl; near = λ join away. absurd (cc); whole = refl }, tt); ready = refl; parked = refl })
+home_start node is =
+    let main : IsHomely (main_life node) = record { rooted = λ root. refl; near = λ join away. absurd (cc); whole = refl } in
+    rw is (record { stack = (main, tt); ready = refl; parked = refl })
 
 -- ---- it may not post
 
@@ -301,7 +308,8 @@ module _ (cluster : Cluster) (alone : cluster.config.nodes ≡ 1) where
       behind : (event : Event) → moved.event ≡ event → Lone course → OwnEvent event → Lone (moved ∷ course)
       behind event is it own = (
         (here, subst OwnEvent (sym is) own, it.0),
-        subst (λ past. AtHome (frames_of node past)) (sym (own_here moved course here ∙ ap (λ event. event ∷ past) is)) (frames_here event past (goes_on event own it.1)),
+        subst (λ past. AtHome (frames_of node past)) (sym (own_here moved course here ∙ ap (λ event. event ∷ past) is))
+            (frames_here event past (goes_on event own it.1)),
       )
 
       allowed : (event : Event) → moved.event ≡ event → IsAllowed node past event
