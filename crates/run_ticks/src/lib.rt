@@ -1,0 +1,2 @@
+//! The ticks of the nodes of a run: together as many as the items of its trace, and one for each Add that is under way.
+#![tactic(auto)]
