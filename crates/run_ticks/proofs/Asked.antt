@@ -214,7 +214,7 @@ module _ (frame : FrameId) (index : ℕ) where
     acts_more [] course = omega arith
     acts_more (moved ∷ newer) course = let less = acts_more newer course in omega (arith, less)
 
-    stepped_front : (newer course : Course) → Stepped cluster (newer ++ course) → Stepped cluster course
+    pub stepped_front : (newer course : Course) → Stepped cluster (newer ++ course) → Stepped cluster course
     stepped_front [] course stepped = stepped
     stepped_front (moved ∷ newer) course stepped = stepped_front newer course stepped.0
 

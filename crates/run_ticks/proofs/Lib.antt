@@ -1,3 +1,4 @@
 pub mod Waiting
 pub mod Ticking
 pub mod Asked
+pub mod Logs
