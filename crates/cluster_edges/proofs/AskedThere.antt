@@ -24,9 +24,10 @@ use Rattle.cluster_order.proofs.Events.{happens}
 use Rattle.cluster_order.proofs.Between.{Stands, stands_at, past_parts, none_newer}
 use Rattle.cluster_order.proofs.Messages.{length_before, happens_before, happened_before, Taking, delivery}
 use Rattle.cluster_order.proofs.Accesses.{ev}
+use Rattle.cluster_order.proofs.Lawful.{sent_by}
 use Rattle.cluster_order.proofs.Adding.{AddTaken, add_other, add_for, served_at_home, serves_other}
 use Rattle.cluster_order.proofs.Answering.{Request, Answer, DoneAt, ended_by, told_by, told_behind_answer, done_once, adding}
-use Rattle.cluster_edges.proofs.Asking.{AsksFirst, asks_since, stepped_allowed, step_at}
+use Rattle.cluster_edges.proofs.Asking.{AsksFirst, AsksSome, asks_since, stepped_allowed, step_at}
 
 module _ (cluster : Cluster) (turns : List WholeTurn) (lawful : IsLawful cluster turns) where
   abbrev course : Course
@@ -45,9 +46,9 @@ module _ (cluster : Cluster) (turns : List WholeTurn) (lawful : IsLawful cluster
   -- Where no old value came since an add was asked for, its frame is the first.
   asks_there : (number post position : ℕ) (message : Msg) (frame : FrameId) (index word : ℕ) (addend : ℤ) (moved : Moved) → at course position ≡ Some moved
       → Happens course number post (Sent message) → message.body ≡ body.Add frame index word addend → post < position → NoAnswer number post position
-      → AsksFirst frame (stack_of (node_at cluster number) (past number position))
+      → AsksFirst frame word addend (stack_of (node_at cluster number) (past number position))
   asks_there number post position message frame index word addend moved found sent is less no_answer =
-      subst (λ it. AsksFirst frame (stack_of (node_at cluster number) it)) (sym parts)
+      subst (λ it. AsksFirst frame word addend (stack_of (node_at cluster number) it)) (sym parts)
       (asks_since (node_at cluster number) newer.0 (own number (before front post)) message frame index word addend
       (subst (AllAllowed (node_at cluster number)) parts (stepped_allowed cluster front (stepped_before cluster course (lawful_stepped cluster turns lawful) position) number))
       is none)
@@ -79,12 +80,14 @@ module _ (cluster : Cluster) (turns : List WholeTurn) (lawful : IsLawful cluster
   -- ---- where the old value comes
 
   pub asks_told : (number position : ℕ) (message : Msg) (old : ℤ) → Happens course number position (Took message) → message.body ≡ body.Added old
-      → (frame : FrameId) × AsksFirst frame (stack_of (node_at cluster number) (past number position))
+      → AsksSome (stack_of (node_at cluster number) (past number position))
   asks_told number position message old took is =
       let answer : Answer cluster turns lawful number ForAdded position = record { message = message; is = took; tells = ap tells_in is } in
       let due = told_by cluster turns lawful number ForAdded position answer in
       let said = adding due.1.message.body due.1.asks in (
         said.0,
+        said.2,
+        said.3,
         asks_there number due.0 position due.1.message said.0 said.1 said.2 said.3 took.moved took.is due.1.is said.4 due.2
             (λ between after earlier other.
             let found = told_behind_answer cluster turns lawful number ForAdded between due.0 due.1 after other in
@@ -146,7 +149,11 @@ module _ (cluster : Cluster) (turns : List WholeTurn) (lawful : IsLawful cluster
         posted : (sender : ℕ) × (note : log.Note) × (events it.reply ≡ log.Post sender asked.sender note) × (it.reply < told)
         posted = (delivery cluster turns lawful).posted told asked.sender it.reply it.takes
 
-    asks_then : AsksFirst frame (stack_of (node_at cluster asked.sender) (past asked.sender position))
+    -- who asked for it is its sender
+    sender_is : asked.sender ≡ owes.add.sender
+    sender_is = sym (sent_by cluster turns lawful asked.sender taken.2.post owes.add sent)
+
+    asks_then : AsksFirst frame word addend (stack_of (node_at cluster asked.sender) (past asked.sender position))
     asks_then =
         let earlier = asked.before in
         let served_later = owed.head-before (λ (at : ℕ). takes_add events home (events at)) (λ (at : ℕ). serves (memory_of cluster) home (events at)) position taken.0 taken.1 in
@@ -162,6 +169,9 @@ module _ (cluster : Cluster) (turns : List WholeTurn) (lawful : IsLawful cluster
         subst (λ it. it < cluster.config.nodes) sent.by
         ((step_at cluster course (lawful_stepped cluster turns lawful) taken.2.post sent.moved sent.is).within)
 
-    -- a node has that frame as its first, and it wants the add
-    pub asks_served : (number : ℕ) × (number < cluster.config.nodes) × AsksFirst frame (stack_of (node_at cluster number) (past number position))
-    asks_served = (asked.sender, asker_within, asks_then)
+    -- The sender of the add is a node that has that frame as its first, and the frame wants this very add.
+    pub asks_served : (owes.add.sender < cluster.config.nodes)
+        × AsksFirst frame word addend (stack_of (node_at cluster owes.add.sender) (past owes.add.sender position))
+    asks_served =
+        subst (λ number. (number < cluster.config.nodes) × AsksFirst frame word addend (stack_of (node_at cluster number) (past number position))) sender_is
+        (asker_within, asks_then)

@@ -117,6 +117,7 @@ module _ (cluster : Cluster) (course : Course) (stepped : Stepped cluster course
   joined_lies one waiting complete = record {
     fits = record {
       known = waiting.fits.known;
+      rooted = waiting.fits.rooted;
       linked = waiting.fits.linked;
       joined = λ join is. absurd (cc);
       waits = λ child gone. inl (on child (waiting.fits.waits child gone));

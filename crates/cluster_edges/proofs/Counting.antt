@@ -33,7 +33,7 @@ use Rattle.cluster_order.specs.Standing.{first}
 use Rattle.cluster_edges.proofs.Anywhere.{Saying, Each, Everywhere, live_each, everywhere_both}
 use Rattle.cluster_edges.proofs.Onward.{Keeps, Answers, ByBody, everywhere_next}
 use Rattle.cluster_edges.proofs.Lone.{lone}
-use Rattle.cluster_edges.proofs.Asking.{AsksFirst}
+use Rattle.cluster_edges.proofs.Asking.{AsksFirst, AsksSome}
 use Rattle.cluster_edges.proofs.Returned.{child_unknown}
 use Rattle.cluster_edges.proofs.Meant.{Meant, block_so, meant_first, meant_closed, meant_answered, steady_wants, returned_block}
 use Rattle.cluster_edges.proofs.BlockOf.{BlockOf, IsSpawn, AddsNone, spawn_or_none, spawned_block, actor_known, spawn_may, known_block}
@@ -83,7 +83,7 @@ module _ (cluster : Cluster) (program : Program) (stands : StandsFor cluster.cod
 
     -- the frame that an event answers
     answers_count : (event : Event)
-        → ((message : Msg) (old : ℤ) → event ≡ Took message → message.body ≡ body.Added old → (frame : FrameId) × AsksFirst frame (stack_of (node_at cluster number) (own number course)))
+        → ((message : Msg) (old : ℤ) → event ≡ Took message → message.body ≡ body.Added old → AsksSome (stack_of (node_at cluster number) (own number course)))
         → (life : Life) (answer : Answer) → Answers (node_at cluster number) (own number course) event life answer
         → Counts (BlockOf cluster course) life.id life.goes → Counts (Behind event) life.id (after life.goes answer)
     answers_count (Did (item.Act frame index (act.Read word value))) told life answer by counts =
@@ -125,14 +125,14 @@ module _ (cluster : Cluster) (program : Program) (stands : StandsFor cluster.cod
         on (body.Add frame index word addend) says by = absurd by
         on (body.Added old) says by =
             let first = told message old refl says in
-            let asks : AsksFirst first.0 (life ∷ by.0) = subst (AsksFirst first.0) by.1 first.1 in
-            plain (Took message) life (want.Add asks.1.0 asks.1.1) answer asks.1.2 (λ block. refl) (λ frame child block. block) counts
+            let asks : AsksFirst first.0 first.1 first.2 (life ∷ by.0) = subst (AsksFirst first.0 first.1 first.2) by.1 first.3 in
+            plain (Took message) life (want.Add first.1 first.2) answer asks.1 (λ block. refl) (λ frame child block. block) counts
 
   -- ---- one event more
 
   module _ (course : Course) (moved : Moved) (stepped : Stepped cluster course) (step : Step cluster course moved)
       (told : (message : Msg) (old : ℤ) → moved.event ≡ Took message → message.body ≡ body.Added old
-      → (frame : FrameId) × AsksFirst frame (stack_of (node_at cluster moved.node) (own moved.node course))) where
+      → AsksSome (stack_of (node_at cluster moved.node) (own moved.node course))) where
     abbrev Old : Saying
     Old = Counts (BlockOf cluster course)
 

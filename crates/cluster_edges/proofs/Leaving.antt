@@ -4,7 +4,7 @@ use Rattle.std.specs.Prelude.{map}
 use Rattle.page_messages.specs.declared.closure.FrameId.{FrameId}
 use Rattle.page_messages.specs.declared.closure.JoinId.{JoinId}
 use Rattle.page_messages.specs.declared.closure.Child.{Child}
-use Rattle.page_messages.specs.declared.closure.Link.TheVariants.{Away}
+use Rattle.page_messages.specs.declared.closure.Link.TheVariants.{Root, Away}
 use Rattle.page_messages.specs.declared.closure.Closure.{Closure}
 use Rattle.page_messages.specs.declared.message.Msg.{Msg}
 use Rattle.page_messages.specs.declared.message.Body.TheVariants as body
@@ -45,6 +45,7 @@ module _ (cluster : Cluster) (course : Course) (node : Node) (life : Life) (clos
   pub carried_fits : Fits cluster course (tie_of life) → Fits cluster course (tie_in closure)
   carried_fits fits = record {
     known = subst (λ id. Known cluster id course) (sym state.id) fits.known;
+    rooted = λ root. state.id ∙ fits.rooted (sym state.link ∙ root);
     linked = carried_parent fits;
     joined = λ join is. subst (λ id. Named join id course) (sym state.id) (fits.joined join (sym state.join ∙ is));
     waits = carried_waits fits;
@@ -147,6 +148,7 @@ module _ (cluster : Cluster) (moved : Moved) (course : Course) (step : Step clus
   parted_fits : Fits cluster (moved ∷ course) (tie_of (parted node past child parent))
   parted_fits = record {
     known = known_more cluster moved course parent.id it.parent.fits.known;
+    rooted = it.parent.fits.rooted;
     linked = λ join away. parent_more cluster moved course (named_stays cluster moved course step tied) parent.id parent.spawned.index join (it.parent.fits.linked join away);
     joined = λ join joins. parent_named join (it.may.state.join ∙ joins);
     waits = λ other gone. parted_waits other (parted_gone other gone);
@@ -169,12 +171,17 @@ module _ (cluster : Cluster) (moved : Moved) (course : Course) (step : Step clus
   linked_join None other away = absurd (cc)
   linked_join (Some join) other away = cc
 
+  not_root : (join : Option JoinId) → link_to join ≡ Root → ⊥
+  not_root None root = absurd (cc)
+  not_root (Some join) root = absurd (cc)
+
   child_stands : Apart cluster moved course child.id → Standing cluster (moved ∷ course) (tie_of (record child { link = link_to closure.join }))
   child_stands apart =
       let stands = standing_more cluster moved course (named_stays cluster moved course step tied) (tie_of child) apart it.child in
       record {
         fits = record {
           known = stands.fits.known;
+          rooted = λ root. absurd (not_root closure.join root);
           linked = λ join away. record { parent = parent.id; named = parent_named join (linked_join closure.join join away); born = inr it.born };
           joined = stands.fits.joined;
           waits = stands.fits.waits;

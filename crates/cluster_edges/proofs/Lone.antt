@@ -61,6 +61,15 @@ module _ (frame : FrameId) (Q : Meaning → Type 0) where
         parked = none_parked code frames.parked (omega (arith, a, b, none));
       }
 
+  -- So it is of a frame that is nowhere.
+  pub nowhere : (cluster : Cluster) (course : Course) → held cluster course frame ≡ 0 → Everywhere cluster course Only
+  nowhere cluster course none = record {
+    at = λ number less.
+        let here = sum_one cluster.config.nodes (at_node cluster course (named frame)) number less in
+        none_frames cluster.code (frames_of (node_at cluster number) (own number course)) (omega (arith, none, here));
+    letters = none_letters cluster.code (letters_of course) (omega (arith, none));
+  }
+
   its_mark : (life : Life) → life.id ≡ frame → one (same_frame life.id frame) ≡ 1
   its_mark life is = ap (λ it. one (same_frame it frame)) is ∙ ap one (same_self frame)
 

@@ -144,6 +144,7 @@ module _ (cluster : Cluster) (moved : Moved) (course : Course) (stays : StaysNam
       → Fits cluster (moved ∷ course) tie
   fits_more tie back fits = record {
     known = known_more cluster moved course tie.id fits.known;
+    rooted = fits.rooted;
     linked = λ join is. parent_more tie.id tie.spawned.index join (fits.linked join is);
     joined = λ join is. stays join tie.id (fits.joined join is);
     waits = λ child gone. waits_more tie.id tie.away child (fits.waits child (back child gone));

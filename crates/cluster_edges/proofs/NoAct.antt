@@ -25,7 +25,7 @@ use Rattle.cluster_order.proofs.Accesses.{ev}
 use Rattle.cluster_order.proofs.Lawful.{act_allowed, served_allowed}
 use Rattle.cluster_edges.proofs.Anywhere.{Each, Everywhere, live_each}
 use Rattle.cluster_edges.proofs.Onward.{Keeps, Answers, ByBody, everywhere_next}
-use Rattle.cluster_edges.proofs.Asking.{AsksFirst, step_at}
+use Rattle.cluster_edges.proofs.Asking.{AsksFirst, asks_life, step_at}
 use Rattle.cluster_edges.proofs.AskedThere.{asks_told, asks_served}
 use Rattle.cluster_edges.proofs.Returned.{IsReturned, StaysReturned, standing_everywhere, grown, known_returned, wants_none, makes_none, child_unknown}
 
@@ -75,8 +75,8 @@ module _ (cluster : Cluster) (turns : List WholeTurn) (lawful : IsLawful cluster
       on (body.Add frame index word addend) says by = absurd by
       on (body.Added old) says by =
           let told = asks_told cluster turns lawful moved.node position message old (record { moved = moved; is = found; by = refl; event_is = is }) says in
-          let asks : AsksFirst told.0 (life ∷ by.0) = subst (AsksFirst told.0) by.1 told.1 in
-          wants_none life (want.Add asks.1.0 asks.1.1) asks.1.2 returned
+          let asks : AsksFirst told.0 told.1 told.2 (life ∷ by.0) = subst (AsksFirst told.0 told.1 told.2) by.1 told.3 in
+          wants_none life (want.Add told.1 told.2) asks.1 returned
 
   keeps_returned : (position : ℕ) (moved : Moved) → at course position ≡ Some moved
       → Keeps (node_at cluster moved.node) (past moved.node position) moved.event (StaysReturned cluster (before course position)) (StaysReturned cluster (before course position))
@@ -122,11 +122,12 @@ module _ (cluster : Cluster) (turns : List WholeTurn) (lawful : IsLawful cluster
         all.0 (subst (λ it. has_returned cluster it (before course position) ≡ true) acts.named has)
 
     -- nor has the one that waits for an add
-    asks_returned : (number : ℕ) → number < cluster.config.nodes → (stack : List Life) → stack_of (node_at cluster number) (past number position) ≡ stack → AsksFirst frame stack → ⊥
-    asks_returned number less [] is asks = absurd asks
-    asks_returned number less (life ∷ below) is asks =
-        let all = subst (Each (StaysReturned cluster (before course position))) is (everywhere_there.at number less).stack in
-        wants_none life (want.Add asks.1.0 asks.1.1) asks.1.2 (all.0 (subst (λ it. has_returned cluster it (before course position) ≡ true) (sym asks.0) has))
+    asks_returned : (number : ℕ) → number < cluster.config.nodes → (word : ℕ) (addend : ℤ)
+        → AsksFirst frame word addend (stack_of (node_at cluster number) (past number position)) → ⊥
+    asks_returned number less word addend asks =
+        let first = asks_life frame word addend (stack_of (node_at cluster number) (past number position)) asks in
+        let all = subst (Each (StaysReturned cluster (before course position))) first.2 (everywhere_there.at number less).stack in
+        wants_none first.0 (want.Add word addend) first.4 (all.0 (subst (λ it. has_returned cluster it (before course position) ≡ true) (sym first.3) has))
 
     within : (number : ℕ) → moved.node ≡ number → number < cluster.config.nodes
     within number by = subst (λ it. it < cluster.config.nodes) by (step_then position moved found).within
@@ -145,7 +146,7 @@ module _ (cluster : Cluster) (turns : List WholeTurn) (lawful : IsLawful cluster
             ⊎ (IsFree (past home position) × MayAddHere (node_at cluster home) (past home position) frame index word old addend) → ⊥
         own_or_owed home index word old addend happens (inl owes) =
             let it = asks_served cluster turns lawful home position frame index word old addend happens owes in
-            asks_returned it.0 it.1 (stack_of (node_at cluster it.0) (past it.0 position)) refl it.2
+            asks_returned owes.add.sender it.0 word addend it.1
         own_or_owed home index word old addend happens (inr may) =
             let add = may.1.add in
             wants_none add.life (want.Add word addend) add.wanted (acts_returned home (number_within home (Did (item.Served frame index word old addend)) happens) add.life add.acts)

@@ -49,6 +49,7 @@ module _ (cluster : Cluster) (course : Course) where
   synced life none standing = record {
     fits = record {
       known = standing.fits.known;
+      rooted = standing.fits.rooted;
       linked = standing.fits.linked;
       joined = λ join is. absurd (cc);
       waits = λ child gone. absurd (none child gone);
@@ -62,6 +63,7 @@ module _ (cluster : Cluster) (course : Course) where
   born_standing node child procedure arguments parent known none not_parked = record {
     fits = record {
       known = known;
+      rooted = λ root. absurd (cc);
       linked = λ join is. absurd (cc);
       joined = λ join is. absurd (cc);
       waits = λ other gone. absurd (none other gone);

@@ -7,7 +7,7 @@ use Rattle.page_messages.specs.declared.closure.FrameId.{FrameId}
 use Rattle.page_messages.specs.declared.closure.JoinId.{JoinId}
 use Rattle.page_messages.specs.declared.closure.Child.{Child}
 use Rattle.page_messages.specs.declared.closure.Link.{Link}
-use Rattle.page_messages.specs.declared.closure.Link.TheVariants.{Away}
+use Rattle.page_messages.specs.declared.closure.Link.TheVariants.{Root, Away}
 use Rattle.page_messages.specs.declared.closure.Closure.{Closure}
 use Rattle.page_messages.specs.declared.message.Msg.{Msg}
 use Rattle.page_messages.specs.declared.message.Body.{Body}
@@ -19,7 +19,7 @@ use Rattle.page_messages.specs.declared.log.Item.TheVariants as item
 use Rattle.page_messages.specs.declared.log.PostAt.{PostAt}
 use Rattle.cluster_rules.specs.Walking.{given}
 use Rattle.cluster_rules.specs.Turns.{Event, Did, Sent, Took, Ended}
-use Rattle.cluster_rules.specs.Lives.{Life}
+use Rattle.cluster_rules.specs.Lives.{Life, main_id}
 use Rattle.cluster_rules.specs.Frames.{Frames, Parked, frames_of, stack_of, next_frame, next_join}
 use Rattle.cluster_rules.specs.Positions.{Moved, Course, own}
 use Rattle.cluster_rules.specs.Runs.{Cluster, node_at}
@@ -145,9 +145,10 @@ pub record IsNoted (course : Course) (id : FrameId) (away : List Child) (child :
   pub among : Among entry away
   pub born : Born id entry.index child course
 
--- Each child that was separated from it has told its return, or is noted to be away.
+-- Only `main` has no parent. Each child that was separated from it has told its return, or is noted to be away.
 pub record Fits (cluster : Cluster) (course : Course) (tie : Tie) : Type 0 where
   pub known : Known cluster tie.id course
+  pub rooted : tie.link ≡ Root → tie.id ≡ main_id
   pub linked : (join : JoinId) → tie.link ≡ Away join → HasParent course tie.id tie.spawned.index join
   pub joined : (join : JoinId) → tie.join ≡ Some join → Named join tie.id course
   pub waits : (child : FrameId) → Gone cluster course tie.id child → Told cluster course tie.id child ⊎ IsNoted course tie.id tie.away child

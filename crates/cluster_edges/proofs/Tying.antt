@@ -306,6 +306,7 @@ unfolding next_frame
 main_stands cluster node = record {
   fits = record {
     known = omega (arith);
+    rooted = λ root. refl;
     linked = λ join is. absurd (cc);
     joined = λ join is. absurd (cc);
     waits = λ child gone. absurd gone;

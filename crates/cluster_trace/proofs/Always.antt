@@ -1,5 +1,5 @@
--- Every course of lawful turns obeys, where the adds of other nodes are those that were asked for and their old values come.
-use Rattle.std.proofs.Common.{◌≡◌, ◌⊎◌, inl, inr, ℕ, zero, suc, ◌<◌, ◌≤◌, ℤ, List, [], ◌∷◌, Option, Some, None, Bool, true, false, eqb, length, refl, sym, ◌∙◌, ap, subst, arith}
+-- Every course of lawful turns obeys: by what holds at each position of it.
+use Rattle.std.proofs.Common.{◌≡◌, ◌⊎◌, inl, inr, ℕ, zero, suc, ◌<◌, ◌≤◌, ℤ, List, [], ◌∷◌, Option, Some, None, Bool, true, false, eqb, length, reverse, refl, sym, ◌∙◌, ap, subst, arith}
 use Rattle.backer_order.specs.Edges.{IsOn}
 use Rattle.backer_order.specs.Log as log
 use Rattle.cilk_meaning.specs.Parted.{IsParted}
@@ -28,6 +28,7 @@ use Rattle.cluster_order.proofs.Growing.{within}
 use Rattle.cluster_edges.proofs.OnePlace.{less_or_not}
 use Rattle.determinacy.specs.Replies.{Trace, Instance, by, children, want_at, Answers, Obeys}
 use Rattle.cluster_trace.specs.Instances.{trace_of}
+use Rattle.cluster_trace.specs.Laws.{RunsObey}
 use Rattle.cluster_trace.proofs.Spawning.{all_stepped, step_then, not_nothing}
 use Rattle.cluster_trace.proofs.Running.{main_runs}
 use Rattle.cluster_trace.proofs.Blocks.{AnsweredBefore}
@@ -37,7 +38,9 @@ use Rattle.cluster_trace.proofs.Answering.{sync_joined}
 use Rattle.cluster_trace.proofs.Ahead.{quiet_none}
 use Rattle.cluster_trace.proofs.Accounted.{NodeAccounts, Accounted}
 use Rattle.cluster_trace.proofs.Changes.{live_here}
-use Rattle.cluster_trace.proofs.Onwards.{OldComes, AddsAsked, event_next}
+use Rattle.cluster_trace.proofs.AddsAsking.{adds_asked}
+use Rattle.cluster_trace.proofs.OldComing.{old_comes}
+use Rattle.cluster_trace.proofs.Onwards.{event_next}
 use Rattle.cluster_trace.proofs.Obeying.{AllAnswer, AllJoined, obeys_so}
 
 is_sync : (done : LoggedAct) → act_of done ≡ log.Sync → done ≡ act.Sync
@@ -48,7 +51,7 @@ is_sync (act.Spawn child procedure arguments) is = absurd (cc)
 is_sync act.Sync is = refl
 
 module _ (cluster : Cluster) (turns : List WholeTurn) (lawful : IsLawful cluster turns) (program : Program) (stands : StandsFor cluster.code program)
-    (comes : OldComes cluster turns lawful program stands) (asked : AddsAsked cluster turns lawful program stands) (parted : IsParted program) where
+    (parted : IsParted program) where
   abbrev course : Course
   course = course_of turns
 
@@ -80,13 +83,14 @@ module _ (cluster : Cluster) (turns : List WholeTurn) (lawful : IsLawful cluster
 
   -- ---- at each position
 
-  abbrev AllSo : ℕ → Type 0
+  abbrev pub AllSo : ℕ → Type 0
   AllSo position = AnsweredBefore cluster program stands trace position × Accounted cluster program stands trace position (first position course)
 
   next_so : (position : ℕ) (moved : Moved) → at course position ≡ Some moved → AllSo position → AllSo (suc position)
   next_so position moved found it =
       let old : Accounted cluster program stands trace position (before course position) = subst (Accounted cluster program stands trace position) (first_at position course moved found) it.1 in
-      let result = event_next cluster turns lawful program stands position moved.node moved.message comes asked it.0 moved.event found old in (
+      let result = event_next cluster turns lawful program stands position moved.node moved.message
+      (old_comes cluster turns lawful program stands) (adds_asked cluster turns lawful program stands) it.0 moved.event found old in (
         λ now less. on now less result.0 (less_or_not now position),
         subst (Accounted cluster program stands trace (suc position)) (sym (first_next position course moved found)) result.1,
       )
@@ -100,7 +104,7 @@ module _ (cluster : Cluster) (turns : List WholeTurn) (lawful : IsLawful cluster
           let same : position ≡ now = omega (arith, less, later) in
           subst (λ now. (frame : FrameId) → by frame (trace.events now) ≡ true → Answers trace (trace.events now) (want_at (starts cluster.code) trace now frame)) same here
 
-  all_so : (position : ℕ) → position ≤ length course → AllSo position
+  pub all_so : (position : ℕ) → position ≤ length course → AllSo position
   all_so zero less = ((λ now none. absurd (omega (arith, none))), subst (Accounted cluster program stands trace 0) (sym (first_none course)) start)
   all_so (suc position) less = on (at course position) refl (all_so position (omega (arith, less)))
     where
@@ -148,5 +152,9 @@ module _ (cluster : Cluster) (turns : List WholeTurn) (lawful : IsLawful cluster
           joined_at position it.is.moved it.is.is frame it.index (it.is.event_is ∙ ap (λ done. Did (item.Act frame it.index done)) (is_sync it.act it.act_is)) child on_it
 
   -- A course of lawful turns obeys.
-  pub obeys_if : Obeys (starts cluster.code) cluster.code.main trace
-  obeys_if = obeys_so cluster turns lawful program stands parted all_answer all_joined
+  pub obeys : Obeys (starts cluster.code) cluster.code.main trace
+  obeys = obeys_so cluster turns lawful program stands parted all_answer all_joined
+
+-- And so do the turns of a run.
+pub runs_obey : RunsObey
+runs_obey cluster program log stands parted run = obeys cluster (reverse run.turns) run.lawful program stands parted

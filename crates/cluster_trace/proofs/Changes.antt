@@ -61,7 +61,7 @@ module _ (cluster : Cluster) (program : Program) (stands : StandsFor cluster.cod
   abbrev here : Keeps led frames
   here = it.nodes number less
 
-  on_none : (one : Option ℤ) (stack : List Life) → one ≡ None → On [] (lead one stack) → On [] stack
+  pub on_none : (one : Option ℤ) (stack : List Life) → one ≡ None → On [] (lead one stack) → On [] stack
   on_none None stack none all = all
   on_none (Some old) stack none all = absurd (cc)
 
@@ -126,7 +126,7 @@ module _ (cluster : Cluster) (program : Program) (stands : StandsFor cluster.cod
       closed cluster program stands trace at course number may.life closure may.state (subst (On []) may.at_join.alone (live_here none)).0
 
   -- the bottom frame
-  last_has : (tops : List FrameId) (stack : List Life) (life : Life) → last_of stack ≡ Some life → On tops stack → ties.Stacked cluster course stack
+  pub last_has : (tops : List FrameId) (stack : List Life) (life : Life) → last_of stack ≡ Some life → On tops stack → ties.Stacked cluster course stack
       → (above : List FrameId) × Has life above × ties.Standing cluster course (ties.tie_of life)
   last_has tops [] life is all tied = absurd (cc)
   last_has tops (first ∷ []) life is all tied =

@@ -16,4 +16,6 @@ pub mod Accounted
 pub mod Changes
 pub mod Doing
 pub mod Onwards
+pub mod AddsAsking
 pub mod Always
+pub mod Ending

@@ -102,7 +102,7 @@ one_more frame self more all less = let some : one (same_frame frame frame) ≡ 
 no_more : (count : ℕ) → count ≤ count
 no_more count = omega arith
 
-none_of : (one : Option ℤ) → is_some one ≡ false → one ≡ None
+pub none_of : (one : Option ℤ) → is_some one ≡ false → one ≡ None
 none_of None is = refl
 none_of (Some old) is = absurd (cc)
 

@@ -158,10 +158,10 @@ module _ (cluster : Cluster) (turns : List WholeTurn) (lawful : IsLawful cluster
       (actor_held cluster (before course position) node frame may.life less may.acts)
 
   -- what was made before a position is born there
-  pub made_born : (position : ℕ) (moved : Moved) → at course position ≡ Some moved → (frame : FrameId) → WasMade frame (before course position) → Born events position frame
-  made_born position moved found frame (inl main) = inl main
-  made_born position moved found frame (inr was) =
-      let it = spawned_at frame (first position course) (subst (WasSpawned frame) (sym (first_at position course moved found)) was) in
+  pub made_first : (position : ℕ) (frame : FrameId) → WasMade frame (first position course) → Born events position frame
+  made_first position frame (inl main) = inl main
+  made_first position frame (inr was) =
+      let it = spawned_at frame (first position course) was in
       let birth = births frame it.moved.event it.spawns in
       let there = at_whole course position it.position it.moved it.found in
       inr
@@ -174,6 +174,10 @@ module _ (cluster : Cluster) (turns : List WholeTurn) (lawful : IsLawful cluster
             event_at cluster course it.position it.moved there
             ∙ ap (λ event. happens_to cluster (before course it.position) it.moved.node it.moved.message event) birth.is;
       })
+
+  -- so it is at an event
+  pub made_born : (position : ℕ) (moved : Moved) → at course position ≡ Some moved → (frame : FrameId) → WasMade frame (before course position) → Born events position frame
+  made_born position moved found frame made = made_first position frame (subst (WasMade frame) (sym (first_at position course moved found)) made)
 
   -- ---- what executions keep of births
 

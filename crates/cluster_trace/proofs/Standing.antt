@@ -44,7 +44,7 @@ module _ (cluster : Cluster) (program : Program) (stands : StandsFor cluster.cod
   pub account_wants : (at : ℕ) (course : Course) (life : Life) (above : List FrameId) → LifeAccount at course life above → want_at (starts cluster.code) trace at life.id ≡ now life.goes
   account_wants at course life above it = ap first_of (sym (it.account.goes_is []))
 
-  value_returns : (wanted : Option Want) (value : ℤ) → value_in wanted ≡ Some value → wanted ≡ Some (Returns value)
+  pub value_returns : (wanted : Option Want) (value : ℤ) → value_in wanted ≡ Some value → wanted ≡ Some (Returns value)
   value_returns None value is = absurd (cc)
   value_returns (Some (Asks request)) value is = absurd (cc)
   value_returns (Some (Returns other)) value is = let same : other ≡ value = cc in ap (λ it. Some (Returns it)) same

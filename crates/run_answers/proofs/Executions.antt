@@ -32,6 +32,7 @@ use Rattle.trace_rows.proofs.IsHistory.{is_history, is_complete}
 use Rattle.trace_rows.proofs.RunAs.{RunAs}
 use Rattle.elision_trace.specs.Laws.{Begins}
 use Rattle.cluster_trace.specs.Instances.{trace_of}
+use Rattle.cluster_trace.proofs.Always.{obeys}
 use Rattle.run_answers.proofs.Running.{run_as}
 
 -- The memory of a cluster starts with the words of its code, and adds as the language does.
@@ -44,40 +45,36 @@ pub obeys_program : (cluster : Cluster) (program : Program) (trace : Trace) → 
 obeys_program cluster program trace stands obeys =
     subst (λ main. Obeys (wants program) main trace) stands.main (subst (λ (begin : Starts). Obeys begin cluster.code.main trace) stands.wants obeys)
 
-module _ (cluster : Cluster) (program : Program) (turns : List WholeTurn) (lawful : IsLawful cluster turns) (stands : StandsFor cluster.code program) (parted : IsParted program)
-    (obeys : Obeys (starts cluster.code) cluster.code.main (trace_of cluster (course_of turns))) where
+module _ (cluster : Cluster) (program : Program) (turns : List WholeTurn) (lawful : IsLawful cluster turns) (stands : StandsFor cluster.code program)
+    (parted : IsParted program) where
   abbrev pub trace : Trace
   trace = trace_of cluster (course_of turns)
 
+  -- A run of a cluster is an execution of its program.
+  pub obeys_it : Obeys (wants program) program.main trace
+  obeys_it = obeys_program cluster program trace stands (obeys cluster turns lawful program stands parted)
+
   -- At each position it is location consistent.
-  pub consistent_then : (now : ℕ) → Consistent (events_of cluster (course_of turns)) (memory_of cluster) now
+  consistent_then : (now : ℕ) → Consistent (events_of cluster (course_of turns)) (memory_of cluster) now
   consistent_then now =
       location_consistent (events_of cluster (course_of turns)) (memory_of cluster) (returns_of cluster (course_of turns)) (stacks_of cluster (course_of turns))
       (stages_of cluster (course_of turns)) now
       (keeps_the_page_rules cluster turns lawful) (keeps_edges cluster program turns stands parted lawful) (keeps_ready_rules cluster turns lawful)
 
-  -- A run of a cluster is an execution of its code.
-  pub runs : Runs (starts cluster.code) cluster.code.main trace (memory_of cluster)
-  runs = record { obeys = obeys; caching = keeps_the_page_rules cluster turns lawful; consistent = consistent_then }
-
-  -- And so of the program for which the code stands.
   pub runs_program : Runs (wants program) program.main trace (memory_of cluster)
-  runs_program = record { obeys = obeys_program cluster program trace stands obeys; caching = keeps_the_page_rules cluster turns lawful; consistent = consistent_then }
+  runs_program = record { obeys = obeys_it; caching = keeps_the_page_rules cluster turns lawful; consistent = consistent_then }
 
   module _ (frames : List FrameId) (history : History) (its : IsHistoryOf cluster.code.main (map logged (reverse turns)) frames history) where
     pub rows_of : AreRows (events_of cluster (course_of turns)) (length (course_of turns)) frames history
     rows_of = are_rows cluster turns cluster.code.main frames history its (made_of cluster turns lawful program stands parted)
 
-    runs_as : RunAs trace frames history
+    pub runs_as : RunAs trace frames history
     runs_as = run_as cluster turns lawful frames history its
 
     -- The history of a run is one of the program.
     pub is_history_of : of_program.IsHistoryOf program history
-    is_history_of =
-        is_history (wants program) program.main trace (obeys_program cluster program trace stands obeys) (length (course_of turns)) frames history rows_of runs_as
+    is_history_of = is_history (wants program) program.main trace obeys_it (length (course_of turns)) frames history rows_of runs_as
 
     -- It is complete where `main` has returned at the end.
-    pub is_complete_of : (value : ℤ) → want_at (starts cluster.code) trace (length (course_of turns)) main_id ≡ Some (Returns value) → of_program.IsCompleteOf program history
-    is_complete_of value want =
-        is_complete (wants program) program.main trace (obeys_program cluster program trace stands obeys) (length (course_of turns)) frames history rows_of runs_as value
-        (subst (λ (begin : Starts). want_at begin trace (length (course_of turns)) main_id ≡ Some (Returns value)) stands.wants want)
+    pub is_complete_of : (value : ℤ) → want_at (wants program) trace (length (course_of turns)) main_id ≡ Some (Returns value) → of_program.IsCompleteOf program history
+    is_complete_of value want = is_complete (wants program) program.main trace obeys_it (length (course_of turns)) frames history rows_of runs_as value want

@@ -31,7 +31,7 @@ fn assert_run(
 
 #[test]
 fn finished_programs(rt: HostRuntime) -> Result<(), Fail> {
-    static ROWS: [(&str, &str); 14] = [
+    static ROWS: [(&str, &str); 15] = [
         (
             "cilk int fib(int n) { int x, y; if (n < 2) return n; x = spawn fib(n - 1); y = spawn fib(n - 2); sync; return x + y; } cilk int main(void) { int r; r = spawn fib(10); sync; print(r); return 0; }",
             "55\n",
@@ -74,6 +74,10 @@ fn finished_programs(rt: HostRuntime) -> Result<(), Fail> {
         (
             "int a[1]; cilk int one(int v) { int x; x = fetch_add(a[0], v); return x; } cilk int main() { int x, y; x = spawn one(3); y = spawn one(4); sync; print(x + y); print(a[0]); return 0; }",
             "3\n7\n",
+        ),
+        (
+            "int a[1]; cilk void get() { int x; x = a[0]; } cilk int main() { int y; spawn get(); y = a[0]; a[0] = 1; sync; return 0; }",
+            "",
         ),
         // a declaration in a loop is 0 at each turn
         (

@@ -1,0 +1,16 @@
+-- The law of this crate.
+use Rattle.std.specs.Prelude.{List, reverse}
+use Rattle.cilk_meaning.specs.Parted.{IsParted}
+use Rattle.cilk_meaning.specs.Resolved.{Program}
+use Rattle.cluster_rules.specs.Positions.{course_of}
+use Rattle.cluster_rules.specs.Runs.{Cluster, IsRun}
+use Rattle.cluster_trace.specs.Instances.{trace_of}
+use Rattle.determinacy.specs.Replies.{Obeys}
+use Rattle.machine_code.specs.Machine.{starts}
+use Rattle.machine_code.specs.StandsFor.{StandsFor}
+use Rattle.page_messages.specs.declared.log.Turn.{Turn}
+
+-- The events of a run are an execution of its code, whatever its nodes, pages and interleaving, ended or not, with races or without.
+abbrev pub RunsObey : Type 0
+RunsObey = (cluster : Cluster) (program : Program) (log : List Turn) → StandsFor cluster.code program → IsParted program → (run : IsRun cluster log) →
+    Obeys (starts cluster.code) cluster.code.main (trace_of cluster (course_of (reverse run.turns)))
