@@ -39,7 +39,7 @@ both_false : (first second : Bool) → second ≡ false → first && second ≡ 
 both_false true second is = is
 both_false false second is = refl
 
-some_of : (first second : ℕ) → 1 ≤ first + second → (1 ≤ first) ⊎ (1 ≤ second)
+pub some_of : (first second : ℕ) → 1 ≤ first + second → (1 ≤ first) ⊎ (1 ≤ second)
 some_of zero second some = inr (omega (arith, some))
 some_of (suc first) second some = inl (omega arith)
 

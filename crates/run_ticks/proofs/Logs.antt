@@ -28,9 +28,10 @@ use Rattle.cluster_rules.proofs.Coursing.{own_course}
 use Rattle.cluster_rules.proofs.Phasing.{equal_number}
 use Rattle.cluster_rules.proofs.Stepping.{Stepped, lawful_stepped}
 use Rattle.cluster_rules.proofs.Summing.{sum_below, sum_same}
+use Rattle.run_ticks.specs.Laws.{items_in}
 use Rattle.run_ticks.specs.Posted.{adds_under_way}
 use Rattle.run_ticks.proofs.Asked.{asks_event, asked_in, served_asked, stepped_front}
-use Rattle.run_ticks.proofs.Ticking.{ticks_sum_of, items_in, ticks_sum}
+use Rattle.run_ticks.proofs.Ticking.{ticks_sum}
 
 abbrev pub log_of : List WholeTurn → List Turn
 log_of turns = map logged (reverse turns)

@@ -20,16 +20,13 @@ use Rattle.cluster_order.specs.Reading.{happens_to, event_of, events_of}
 use Rattle.cluster_order.proofs.Growing.{at_behind, before_behind, at_last, before_last}
 use Rattle.determinacy.specs.Ending.{count, is_item, all_ticks}
 use Rattle.determinacy.proofs.Counting.{count_yes, count_no, count_zero}
+use Rattle.run_ticks.specs.Laws.{items_in}
 use Rattle.run_ticks.specs.Posted.{posts_add, adds_posted, serves_item, serves_add, adds_served, adds_under_way}
 use Rattle.run_ticks.proofs.Waiting.{sum_event, first_amount, serves_amount, event_serves, posts_amount, posted_amount, served_amount, waiting, waiting_sum}
 
 -- the ticks of all nodes
 abbrev pub ticks_sum_of : Cluster → Course → ℕ
 ticks_sum_of cluster course = sum_below cluster.config.nodes (λ number. ticks_of (own number course))
-
--- the items in the trace
-abbrev pub items_in : Cluster → Course → ℕ
-items_in cluster course = all_ticks (events_of cluster course) (length course)
 
 -- ---- counts that agree below a number
 
