@@ -1,5 +1,6 @@
 -- One Add of a node is under way at most, and while one is, the frame that wants it stays the first of the stack.
 use Rattle.std.proofs.Common.{◌≡◌, ◌≢◌, ◌≤◌, ◌<◌, ◌+◌, ◌⊎◌, inl, inr, ℕ, ℤ, List, [], ◌∷◌, Option, Bool, true, false, cond, eqb, ◌&&◌, ◌||◌, refl, sym, ◌∙◌, ap, subst, arith}
+use Rattle.std.specs.Ordering.{int_eq}
 use Rattle.cilk_meaning.specs.declared.ends.NodeEnd.{NodeEnd}
 use Rattle.page_messages.specs.declared.closure.FrameId.{FrameId}
 use Rattle.page_messages.specs.declared.message.Msg.{Msg}
@@ -26,7 +27,7 @@ use Rattle.cluster_rules.proofs.Phases.{Phase, Idle, Asked, Told, after_post, af
 use Rattle.cluster_rules.proofs.Phases.{is_asked, is_told, IsFirst, first_idle, awaits_told, awaits_took}
 use Rattle.cluster_rules.proofs.UnderWay.{adds_body, add_from, under_way, tells_body, old_to, to_tell, amount_in, moved_by, adds_sent, adds_took, adds_ended}
 use Rattle.cluster_rules.proofs.UnderWay.{adds_kept, adds_served, owed_counts, olds_ended, olds_took, olds_did, olds_posted, olds_told}
-use Rattle.cluster_rules.proofs.Phasing.{Phased, equal_number, cond_same, is_one, asked_same, told_not_asked, first_granted, first_done}
+use Rattle.cluster_rules.proofs.Phasing.{Phased, equal_number, cond_same, is_one, asked_same, told_same, own_value, first_granted, first_done}
 use Rattle.cluster_rules.proofs.Testing.{own_number, other_number}
 use Rattle.cluster_rules.proofs.Phasing.{first_parked, awaits_more, stack_more, first_more, kept, quiet_idle}
 
@@ -46,8 +47,8 @@ module _ (cluster : Cluster) (course : Course) (node : ℕ) (here : Option PostA
   did_kept done same served told free =
       kept cluster course node here less phased (Did done) (λ number. same number (phase_of number course))
       (λ number frame index. adds_kept cluster course node here less number frame index done served)
-      (λ number. let olds = olds_did cluster course node here less number done in
-      let none : amount_in (old_to number) (told_by (node_at cluster node) done (owed_adds past)) ≡ 0 = ap (amount_in (old_to number)) told in omega (arith, olds, none))
+      (λ such number. let olds = olds_did cluster course node here less such number done in
+      let none : amount_in (old_to such number) (told_by (node_at cluster node) done (owed_adds past)) ≡ 0 = ap (amount_in (old_to such number)) told in omega (arith, olds, none))
       refl (first_idle (phase_of node course) (stack_of (node_at cluster node) (Did done ∷ past)) (quiet_idle cluster course node here less phased free.quiet))
 
   module _ (frame : FrameId) (index word : ℕ) (old addend : ℤ) (serves : Serves (node_at cluster node) past frame index word old addend) where
@@ -67,14 +68,14 @@ module _ (cluster : Cluster) (course : Course) (node : ℕ) (here : Option PostA
         let before = phased.adds asker frame index in
         asked_same frame index (phase_of asker course) (is_one (is_asked frame index (phase_of asker course)) (omega (arith, counts, here_one, before)))
 
-    pub phase_served : (number : ℕ) → phase_of number (more served) ≡ cond (eqb asker number) (Told frame index) (phase_of number course)
-    phase_served number = ap (λ adds. after_adding number frame index adds (phase_of number course)) serves.oldest
+    pub phase_served : (number : ℕ) → phase_of number (more served) ≡ cond (eqb asker number) (Told frame index old) (phase_of number course)
+    phase_served number = ap (λ adds. after_adding number frame index old adds (phase_of number course)) serves.oldest
 
-    pub phase_asker : phase_of asker (more served) ≡ Told frame index
-    phase_asker = phase_served asker ∙ ap (λ b. cond b (Told frame index) (phase_of asker course)) (own_number asker)
+    pub phase_asker : phase_of asker (more served) ≡ Told frame index old
+    phase_asker = phase_served asker ∙ ap (λ b. cond b (Told frame index old) (phase_of asker course)) (own_number asker)
 
     pub phase_others : (number : ℕ) → eqb asker number ≡ false → phase_of number (more served) ≡ phase_of number course
-    phase_others number other = phase_served number ∙ ap (λ b. cond b (Told frame index) (phase_of number course)) other
+    phase_others number other = phase_served number ∙ ap (λ b. cond b (Told frame index old) (phase_of number course)) other
 
     stack_stays : stack_of (node_at cluster node) (served ∷ past) ≡ stack_of (node_at cluster node) past
     unfolding frames_of
@@ -88,8 +89,9 @@ module _ (cluster : Cluster) (course : Course) (node : ℕ) (here : Option PostA
         on true is = subst P (equal_number asker number is) asks
         on false is = others number is
 
-    told_amount : (number : ℕ) → amount_in (old_to number) (told_by (node_at cluster node) (item.Served frame index word old addend) (owed_adds past)) ≡ one (eqb asker number) + 0
-    told_amount number = ap (λ it. amount_in (old_to number) (told_by (node_at cluster node) (item.Served frame index word old addend) it)) serves.oldest
+    told_amount : (such : ℤ → Bool) (number : ℕ)
+        → amount_in (old_to such number) (told_by (node_at cluster node) (item.Served frame index word old addend) (owed_adds past)) ≡ one (eqb asker number && such old) + 0
+    told_amount such number = ap (λ it. amount_in (old_to such number) (told_by (node_at cluster node) (item.Served frame index word old addend) it)) serves.oldest
 
     adds_asker : (other : FrameId) (acts : ℕ) → under_way cluster (more served) asker other acts ≡ one (is_asked other acts (phase_of asker (more served)))
     adds_asker other acts =
@@ -108,21 +110,22 @@ module _ (cluster : Cluster) (course : Course) (node : ℕ) (here : Option PostA
         ap (λ it. one (is_asked other acts it)) (phase_others number apart) in
         omega (arith, change, amount, before, after)
 
-    olds_asker : to_tell cluster (more served) asker ≡ one (is_told (phase_of asker (more served)))
-    olds_asker =
-        let change = olds_did cluster course node here less asker (item.Served frame index word old addend) in
-        let amount : amount_in (old_to asker) (told_by (node_at cluster node) (item.Served frame index word old addend) (owed_adds past)) ≡ 1 = told_amount asker
-        ∙ ap (λ it. one it + 0) (own_number asker) in
-        let before : to_tell cluster course asker ≡ 0 = phased.olds asker ∙ ap (λ it. one (is_told it)) was_asked in
-        let after : one (is_told (phase_of asker (more served))) ≡ 1 = ap (λ it. one (is_told it)) phase_asker in
+    olds_asker : (such : ℤ → Bool) → to_tell cluster (more served) such asker ≡ one (is_told such (phase_of asker (more served)))
+    olds_asker such =
+        let change = olds_did cluster course node here less such asker (item.Served frame index word old addend) in
+        let amount : amount_in (old_to such asker) (told_by (node_at cluster node) (item.Served frame index word old addend) (owed_adds past)) ≡ one (such old) + 0 = told_amount such asker
+        ∙ ap (λ b. one (b && such old) + 0) (own_number asker) in
+        let before : to_tell cluster course such asker ≡ 0 = phased.olds such asker ∙ ap (λ it. one (is_told such it)) was_asked in
+        let after : one (is_told such (phase_of asker (more served))) ≡ one (such old) = ap (λ it. one (is_told such it)) phase_asker in
         omega (arith, change, amount, before, after)
 
-    olds_others : (number : ℕ) → eqb asker number ≡ false → to_tell cluster (more served) number ≡ one (is_told (phase_of number (more served)))
-    olds_others number apart =
-        let change = olds_did cluster course node here less number (item.Served frame index word old addend) in
-        let amount : amount_in (old_to number) (told_by (node_at cluster node) (item.Served frame index word old addend) (owed_adds past)) ≡ 0 = told_amount number ∙ ap (λ it. one it + 0) apart in
-        let before = phased.olds number in
-        let after : one (is_told (phase_of number (more served))) ≡ one (is_told (phase_of number course)) = ap (λ it. one (is_told it)) (phase_others number apart) in
+    olds_others : (such : ℤ → Bool) (number : ℕ) → eqb asker number ≡ false → to_tell cluster (more served) such number ≡ one (is_told such (phase_of number (more served)))
+    olds_others such number apart =
+        let change = olds_did cluster course node here less such number (item.Served frame index word old addend) in
+        let amount : amount_in (old_to such number) (told_by (node_at cluster node) (item.Served frame index word old addend) (owed_adds past)) ≡ 0 =
+        told_amount such number ∙ ap (λ b. one (b && such old) + 0) apart in
+        let before = phased.olds such number in
+        let after : one (is_told such (phase_of number (more served))) ≡ one (is_told such (phase_of number course)) = ap (λ it. one (is_told such it)) (phase_others number apart) in
         omega (arith, change, amount, before, after)
 
     served_phased : Phased cluster (more served)
@@ -140,7 +143,7 @@ module _ (cluster : Cluster) (course : Course) (node : ℕ) (here : Option PostA
           (subst (λ it. IsFirst it (stack_of (node_at cluster number) (own number course))) (sym (phase_others number apart)) (phased.first number)));
       adds = λ number other acts. by_number (λ number. under_way cluster (more served) number other acts ≡ one (is_asked other acts (phase_of number (more served))))
           (adds_asker other acts) (λ number apart. adds_others other acts number apart) number;
-      olds = by_number (λ number. to_tell cluster (more served) number ≡ one (is_told (phase_of number (more served)))) olds_asker olds_others;
+      olds = λ such. by_number (λ number. to_tell cluster (more served) such number ≡ one (is_told such (phase_of number (more served)))) (olds_asker such) (olds_others such);
     }
 
   free_of : (done : Item) (rest : List Item) (posts : List Msg) → (IsOwed (node_at cluster node) past done → ⊥)
@@ -159,7 +162,7 @@ module _ (cluster : Cluster) (course : Course) (node : ℕ) (here : Option PostA
   did_phased (item.Served frame index word old addend) rest posts (inl serves) = served_phased frame index word old addend serves
   did_phased (item.Served frame index word old addend) rest posts (inr both) =
       let none = both.0.none_owed in
-      did_kept (item.Served frame index word old addend) (λ number phase. ap (λ adds. after_adding number frame index adds phase) none) (ap rest_of none ∙ sym none)
+      did_kept (item.Served frame index word old addend) (λ number phase. ap (λ adds. after_adding number frame index old adds phase) none) (ap rest_of none ∙ sym none)
       (ap (told_by (node_at cluster node) (item.Served frame index word old addend)) none) both.0
 
   -- ---- posts
@@ -174,7 +177,7 @@ module _ (cluster : Cluster) (course : Course) (node : ℕ) (here : Option PostA
     -- it is neither an Add nor an Added
     other_post : (said : Body) → message.body ≡ said → ((phase : Phase) → after_post said phase ≡ phase)
         → ((number : ℕ) (frame : FrameId) (index sender : ℕ) → adds_body number frame index sender said ≡ false)
-        → ((number : ℕ) → to_tell cluster (more post) number ≡ to_tell cluster course number) → adds_in said ≡ false
+        → ((such : ℤ → Bool) (number : ℕ) → to_tell cluster (more post) such number ≡ to_tell cluster course such number) → adds_in said ≡ false
         → IsFirst (phase_of node course) (stack_sent said (stack_of (node_at cluster node) past)) → Phased cluster (more post)
     unfolding frames_of
     other_post said is same adds olds waits first =
@@ -186,10 +189,11 @@ module _ (cluster : Cluster) (course : Course) (node : ℕ) (here : Option PostA
         olds (ap (λ it. adds_in it || awaits ForAdded past) is ∙ ap (λ b. b || awaits ForAdded past) waits)
         (subst (λ it. IsFirst (phase_of node course) (stack_sent it (stack_of (node_at cluster node) past))) (sym is) first)
 
-    olds_stay : (said : Body) → message.body ≡ said → tells_in said ≡ false → ((number : ℕ) (receiver : ℕ) → tells_body number receiver said ≡ false) → (number : ℕ)
-        → to_tell cluster (more post) number ≡ to_tell cluster course number
-    olds_stay said is other none number =
-        olds_posted cluster course node here less number message posts (ap tells_in is ∙ other) (ap (λ it. one (tells_body number message.receiver it)) is ∙ ap one (none number message.receiver))
+    olds_stay : (said : Body) → message.body ≡ said → tells_in said ≡ false → ((such : ℤ → Bool) (number receiver : ℕ) → tells_body such number receiver said ≡ false)
+        → (such : ℤ → Bool) (number : ℕ) → to_tell cluster (more post) such number ≡ to_tell cluster course such number
+    olds_stay said is other none such number =
+        olds_posted cluster course node here less such number message posts (ap tells_in is ∙ other)
+        (ap (λ it. one (tells_body such number message.receiver it)) is ∙ ap one (none such number message.receiver))
 
     module _ (frame : FrameId) (index word : ℕ) (addend : ℤ) (is : message.body ≡ body.Add frame index word addend)
         (may : MayPostAdd (node_at cluster node) past message.receiver frame index word addend) where
@@ -243,8 +247,8 @@ module _ (cluster : Cluster) (course : Course) (node : ℕ) (here : Option PostA
           ap (λ it. one (is_asked other acts it)) (phase_apart number not) in
           omega (arith, sent, amount, before, after)
 
-      olds_same : (number : ℕ) → to_tell cluster (more post) number ≡ to_tell cluster course number
-      olds_same = olds_stay (body.Add frame index word addend) is refl (λ number receiver. refl)
+      olds_same : (such : ℤ → Bool) (number : ℕ) → to_tell cluster (more post) such number ≡ to_tell cluster course such number
+      olds_same = olds_stay (body.Add frame index word addend) is refl (λ such number receiver. refl)
 
       add_phased : Phased cluster (more post)
       add_phased = record {
@@ -257,9 +261,9 @@ module _ (cluster : Cluster) (course : Course) (node : ℕ) (here : Option PostA
         adds =
             λ number other acts. by_node (λ number. under_way cluster (more post) number other acts ≡ one (is_asked other acts (phase_of number (more post))))
             (adds_node other acts) (adds_apart other acts) number;
-        olds = by_node (λ number. to_tell cluster (more post) number ≡ one (is_told (phase_of number (more post))))
-            (olds_same node ∙ phased.olds node ∙ ap (λ it. one (is_told it)) was_idle ∙ ap (λ it. one (is_told it)) (sym phase_node))
-            (λ number not. olds_same number ∙ phased.olds number ∙ ap (λ it. one (is_told it)) (sym (phase_apart number not)));
+        olds = λ such. by_node (λ number. to_tell cluster (more post) such number ≡ one (is_told such (phase_of number (more post))))
+            (olds_same such node ∙ phased.olds such node ∙ ap (λ it. one (is_told such it)) was_idle ∙ ap (λ it. one (is_told such it)) (sym phase_node))
+            (λ number not. olds_same such number ∙ phased.olds such number ∙ ap (λ it. one (is_told such it)) (sym (phase_apart number not)));
       }
 
     abbrev first_here : IsFirst (phase_of node course) (stack_of (node_at cluster node) past)
@@ -268,32 +272,32 @@ module _ (cluster : Cluster) (course : Course) (node : ℕ) (here : Option PostA
     sent_phased : (said : Body) → message.body ≡ said → (replies_in said ≡ true) ⊎ MayPost (node_at cluster node) past message.receiver said → Phased cluster (more post)
     sent_phased (body.Fetch page) is (inl reply) = absurd (cc)
     sent_phased (body.Fetch page) is (inr may) =
-        other_post (body.Fetch page) is (λ phase. refl) (λ number frame index sender. refl) (olds_stay (body.Fetch page) is refl (λ number receiver. refl)) refl
+        other_post (body.Fetch page) is (λ phase. refl) (λ number frame index sender. refl) (olds_stay (body.Fetch page) is refl (λ such number receiver. refl)) refl
         (first_idle (phase_of node course) (live (stack_of (node_at cluster node) past)) (quiet_idle cluster course node here less phased may.quiet))
     sent_phased (body.Page page words) is may =
-        other_post (body.Page page words) is (λ phase. refl) (λ number frame index sender. refl) (olds_stay (body.Page page words) is refl (λ number receiver. refl)) refl first_here
+        other_post (body.Page page words) is (λ phase. refl) (λ number frame index sender. refl) (olds_stay (body.Page page words) is refl (λ such number receiver. refl)) refl first_here
     sent_phased (body.Reconcile parts) is may =
-        other_post (body.Reconcile parts) is (λ phase. refl) (λ number frame index sender. refl) (olds_stay (body.Reconcile parts) is refl (λ number receiver. refl)) refl first_here
-    sent_phased body.Ack is may = other_post body.Ack is (λ phase. refl) (λ number frame index sender. refl) (olds_stay body.Ack is refl (λ number receiver. refl)) refl first_here
-    sent_phased body.Ask is may = other_post body.Ask is (λ phase. refl) (λ number frame index sender. refl) (olds_stay body.Ask is refl (λ number receiver. refl)) refl first_here
+        other_post (body.Reconcile parts) is (λ phase. refl) (λ number frame index sender. refl) (olds_stay (body.Reconcile parts) is refl (λ such number receiver. refl)) refl first_here
+    sent_phased body.Ack is may = other_post body.Ack is (λ phase. refl) (λ number frame index sender. refl) (olds_stay body.Ack is refl (λ such number receiver. refl)) refl first_here
+    sent_phased body.Ask is may = other_post body.Ask is (λ phase. refl) (λ number frame index sender. refl) (olds_stay body.Ask is refl (λ such number receiver. refl)) refl first_here
     sent_phased (body.Grant closure) is (inl reply) = absurd (cc)
     sent_phased (body.Grant closure) is (inr may) =
-        other_post (body.Grant closure) is (λ phase. refl) (λ number frame index sender. refl) (olds_stay (body.Grant closure) is refl (λ number receiver. refl)) refl
+        other_post (body.Grant closure) is (λ phase. refl) (λ number frame index sender. refl) (olds_stay (body.Grant closure) is refl (λ such number receiver. refl)) refl
         (first_granted (node_at cluster node) past message.receiver closure (phase_of node course) may first_here)
-    sent_phased body.Refuse is may = other_post body.Refuse is (λ phase. refl) (λ number frame index sender. refl) (olds_stay body.Refuse is refl (λ number receiver. refl)) refl first_here
+    sent_phased body.Refuse is may = other_post body.Refuse is (λ phase. refl) (λ number frame index sender. refl) (olds_stay body.Refuse is refl (λ such number receiver. refl)) refl first_here
     sent_phased (body.Done join index value) is (inl reply) = absurd (cc)
     sent_phased (body.Done join index value) is (inr may) =
-        other_post (body.Done join index value) is (λ phase. refl) (λ number frame index sender. refl) (olds_stay (body.Done join index value) is refl (λ number receiver. refl)) refl
+        other_post (body.Done join index value) is (λ phase. refl) (λ number frame index sender. refl) (olds_stay (body.Done join index value) is refl (λ such number receiver. refl)) refl
         (first_done (phase_of node course) (stack_of (node_at cluster node) past) may.returned.none_left first_here)
     sent_phased (body.Park join closure) is (inl reply) = absurd (cc)
     sent_phased (body.Park join closure) is (inr may) =
-        other_post (body.Park join closure) is (λ phase. refl) (λ number frame index sender. refl) (olds_stay (body.Park join closure) is refl (λ number receiver. refl)) refl
+        other_post (body.Park join closure) is (λ phase. refl) (λ number frame index sender. refl) (olds_stay (body.Park join closure) is refl (λ such number receiver. refl)) refl
         (first_parked (phase_of node course) (stack_of (node_at cluster node) past) may.life may.at_join.alone may.at_join.wanted first_here)
     sent_phased (body.Add frame index word addend) is (inl reply) = absurd (cc)
     sent_phased (body.Add frame index word addend) is (inr may) = add_phased frame index word addend is may
     sent_phased (body.Added old) is (inl reply) = absurd (cc)
     sent_phased (body.Added old) is (inr may) =
-        other_post (body.Added old) is (λ phase. refl) (λ number frame index sender. refl) (λ number. olds_told cluster course node here less number message old posts is may) refl first_here
+        other_post (body.Added old) is (λ phase. refl) (λ number frame index sender. refl) (λ such number. olds_told cluster course node here less such number message old posts is may) refl first_here
 
   -- ---- takings
 
@@ -305,15 +309,15 @@ module _ (cluster : Cluster) (course : Course) (node : ℕ) (here : Option PostA
     phase_taken number said is = ap (λ it. cond (eqb node number) (after_taking it (phase_of number course)) (phase_of number course)) is
 
     -- it is no Added
-    other_taking : (said : Body) → message.body ≡ said → ((phase : Phase) → after_taking said phase ≡ phase) → ((number : ℕ) (receiver : ℕ) → tells_body number receiver said ≡ false)
+    other_taking : (said : Body) → message.body ≡ said → ((phase : Phase) → after_taking said phase ≡ phase) → ((such : ℤ → Bool) (number receiver : ℕ) → tells_body such number receiver said ≡ false)
         → tells_in said ≡ false
         → stack_of (node_at cluster node) (taking ∷ past) ≡ stack_of (node_at cluster node) past → Phased cluster (more taking)
     other_taking said is same none other stack =
         kept cluster course node here less phased taking
         (λ number. phase_taken number said is ∙ cond_same (eqb node number) (after_taking said (phase_of number course)) (phase_of number course) (same (phase_of number course)))
         (λ number frame index. adds_took cluster course node here less number frame index message stepped takes)
-        (λ number. let took = olds_took cluster course node here less number message stepped takes in
-        let zero : old_to number message ≡ 0 = ap (λ it. one (tells_body number message.receiver it)) is ∙ ap one (none number message.receiver) in omega (arith, took, zero))
+        (λ such number. let took = olds_took cluster course node here less such number message stepped takes in
+        let zero : old_to such number message ≡ 0 = ap (λ it. one (tells_body such number message.receiver it)) is ∙ ap one (none such number message.receiver) in omega (arith, took, zero))
         (awaits_took message past (ap tells_in is ∙ other))
         (subst (IsFirst (phase_of node course)) (sym stack) (phased.first node))
 
@@ -324,30 +328,32 @@ module _ (cluster : Cluster) (course : Course) (node : ℕ) (here : Option PostA
       pub phase_far : (number : ℕ) → number ≢ node → phase_of number (more taking) ≡ phase_of number course
       phase_far number not = phase_taken number (body.Added old) is ∙ ap (λ b. cond b Idle (phase_of number course)) (other_number node number (λ same. not (sym same)))
 
-      old_amount : (number : ℕ) → old_to number message ≡ one (eqb node number)
-      old_amount number = ap (λ it. one (tells_body number message.receiver it)) is ∙ ap (λ it. one (eqb it number)) takes.receiver
+      old_amount : (such : ℤ → Bool) (number : ℕ) (b : Bool) → eqb node number ≡ b → old_to such number message ≡ one (b && such old)
+      old_amount such number b same =
+          ap (λ it. one (tells_body such number message.receiver it)) is ∙ ap (λ it. one (eqb it number && such old)) takes.receiver ∙ ap (λ b. one (b && such old)) same
 
-      pub was_told : is_told (phase_of node course) ≡ true
+      -- It is the old value that its home told for it.
+      pub was_told : (frame : FrameId) × (acts : ℕ) × (phase_of node course ≡ Told frame acts old)
       was_told =
-          let took = olds_took cluster course node here less node message stepped takes in
-          let amount : old_to node message ≡ 1 = old_amount node ∙ ap one (own_number node) in
-          let before = phased.olds node in
-          is_one (is_told (phase_of node course)) (omega (arith, took, amount, before))
+          let took = olds_took cluster course node here less (int_eq old) node message stepped takes in
+          let amount : old_to (int_eq old) node message ≡ 1 = old_amount (int_eq old) node true (own_number node) ∙ ap one (own_value old) in
+          let before = phased.olds (int_eq old) node in
+          told_same old (phase_of node course) (is_one (is_told (int_eq old) (phase_of node course)) (omega (arith, took, amount, before)))
 
-      olds_done : to_tell cluster (more taking) node ≡ one (is_told (phase_of node (more taking)))
-      olds_done =
-          let took = olds_took cluster course node here less node message stepped takes in
-          let amount : old_to node message ≡ 1 = old_amount node ∙ ap one (own_number node) in
-          let before : to_tell cluster course node ≡ 1 = phased.olds node ∙ ap one was_told in
-          let after : one (is_told (phase_of node (more taking))) ≡ 0 = ap (λ it. one (is_told it)) phase_done in
+      olds_done : (such : ℤ → Bool) → to_tell cluster (more taking) such node ≡ one (is_told such (phase_of node (more taking)))
+      olds_done such =
+          let took = olds_took cluster course node here less such node message stepped takes in
+          let amount : old_to such node message ≡ one (such old) = old_amount such node true (own_number node) in
+          let before : to_tell cluster course such node ≡ one (such old) = phased.olds such node ∙ ap (λ it. one (is_told such it)) was_told.2 in
+          let after : one (is_told such (phase_of node (more taking))) ≡ 0 = ap (λ it. one (is_told such it)) phase_done in
           omega (arith, took, amount, before, after)
 
-      olds_far : (number : ℕ) → number ≢ node → to_tell cluster (more taking) number ≡ one (is_told (phase_of number (more taking)))
-      olds_far number not =
-          let took = olds_took cluster course node here less number message stepped takes in
-          let amount : old_to number message ≡ 0 = old_amount number ∙ ap one (other_number node number (λ same. not (sym same))) in
-          let before = phased.olds number in
-          let after : one (is_told (phase_of number (more taking))) ≡ one (is_told (phase_of number course)) = ap (λ it. one (is_told it)) (phase_far number not) in
+      olds_far : (such : ℤ → Bool) (number : ℕ) → number ≢ node → to_tell cluster (more taking) such number ≡ one (is_told such (phase_of number (more taking)))
+      olds_far such number not =
+          let took = olds_took cluster course node here less such number message stepped takes in
+          let amount : old_to such number message ≡ 0 = old_amount such number false (other_number node number (λ same. not (sym same))) in
+          let before = phased.olds such number in
+          let after : one (is_told such (phase_of number (more taking))) ≡ one (is_told such (phase_of number course)) = ap (λ it. one (is_told such it)) (phase_far number not) in
           omega (arith, took, amount, before, after)
 
       by_place : (P : ℕ → Type 0) → P node → ((number : ℕ) → number ≢ node → P number) → (number : ℕ) → P number
@@ -367,9 +373,9 @@ module _ (cluster : Cluster) (course : Course) (node : ℕ) (here : Option PostA
         first = first_more cluster course node here less phased taking phase_far (first_idle (phase_of node (more taking)) (stack_of (node_at cluster node) (taking ∷ past)) phase_done);
         adds = λ number frame index. adds_took cluster course node here less number frame index message stepped takes
             ∙ by_place (λ number. under_way cluster course number frame index ≡ one (is_asked frame index (phase_of number (more taking))))
-            (phased.adds node frame index ∙ ap one (told_not_asked frame index (phase_of node course) was_told) ∙ ap (λ it. one (is_asked frame index it)) (sym phase_done))
+            (phased.adds node frame index ∙ ap (λ it. one (is_asked frame index it)) was_told.2 ∙ ap (λ it. one (is_asked frame index it)) (sym phase_done))
             (λ number not. phased.adds number frame index ∙ ap (λ it. one (is_asked frame index it)) (sym (phase_far number not))) number;
-        olds = by_place (λ number. to_tell cluster (more taking) number ≡ one (is_told (phase_of number (more taking)))) olds_done olds_far;
+        olds = λ such. by_place (λ number. to_tell cluster (more taking) such number ≡ one (is_told such (phase_of number (more taking)))) (olds_done such) (olds_far such);
       }
 
     stack_taken : (said : Body) → message.body ≡ said
@@ -378,17 +384,17 @@ module _ (cluster : Cluster) (course : Course) (node : ℕ) (here : Option PostA
     stack_taken said is = ap (λ it. (frames_took (node_at cluster node) it (taking ∷ past) (frames_of (node_at cluster node) past)).stack) is
 
     took_phased : (said : Body) → message.body ≡ said → Phased cluster (more taking)
-    took_phased (body.Fetch page) is = other_taking (body.Fetch page) is (λ phase. refl) (λ number receiver. refl) refl (stack_taken (body.Fetch page) is)
-    took_phased (body.Page page words) is = other_taking (body.Page page words) is (λ phase. refl) (λ number receiver. refl) refl (stack_taken (body.Page page words) is)
-    took_phased (body.Reconcile parts) is = other_taking (body.Reconcile parts) is (λ phase. refl) (λ number receiver. refl) refl (stack_taken (body.Reconcile parts) is)
-    took_phased body.Ack is = other_taking body.Ack is (λ phase. refl) (λ number receiver. refl) refl (stack_taken body.Ack is)
-    took_phased body.Ask is = other_taking body.Ask is (λ phase. refl) (λ number receiver. refl) refl (stack_taken body.Ask is)
-    took_phased (body.Grant closure) is = other_taking (body.Grant closure) is (λ phase. refl) (λ number receiver. refl) refl (stack_taken (body.Grant closure) is)
-    took_phased body.Refuse is = other_taking body.Refuse is (λ phase. refl) (λ number receiver. refl) refl (stack_taken body.Refuse is)
-    took_phased (body.Done join index value) is = other_taking (body.Done join index value) is (λ phase. refl) (λ number receiver. refl) refl (stack_taken (body.Done join index value) is)
-    took_phased (body.Park join closure) is = other_taking (body.Park join closure) is (λ phase. refl) (λ number receiver. refl) refl (stack_taken (body.Park join closure) is)
+    took_phased (body.Fetch page) is = other_taking (body.Fetch page) is (λ phase. refl) (λ such number receiver. refl) refl (stack_taken (body.Fetch page) is)
+    took_phased (body.Page page words) is = other_taking (body.Page page words) is (λ phase. refl) (λ such number receiver. refl) refl (stack_taken (body.Page page words) is)
+    took_phased (body.Reconcile parts) is = other_taking (body.Reconcile parts) is (λ phase. refl) (λ such number receiver. refl) refl (stack_taken (body.Reconcile parts) is)
+    took_phased body.Ack is = other_taking body.Ack is (λ phase. refl) (λ such number receiver. refl) refl (stack_taken body.Ack is)
+    took_phased body.Ask is = other_taking body.Ask is (λ phase. refl) (λ such number receiver. refl) refl (stack_taken body.Ask is)
+    took_phased (body.Grant closure) is = other_taking (body.Grant closure) is (λ phase. refl) (λ such number receiver. refl) refl (stack_taken (body.Grant closure) is)
+    took_phased body.Refuse is = other_taking body.Refuse is (λ phase. refl) (λ such number receiver. refl) refl (stack_taken body.Refuse is)
+    took_phased (body.Done join index value) is = other_taking (body.Done join index value) is (λ phase. refl) (λ such number receiver. refl) refl (stack_taken (body.Done join index value) is)
+    took_phased (body.Park join closure) is = other_taking (body.Park join closure) is (λ phase. refl) (λ such number receiver. refl) refl (stack_taken (body.Park join closure) is)
     took_phased (body.Add frame index word addend) is =
-        other_taking (body.Add frame index word addend) is (λ phase. refl) (λ number receiver. refl) refl (stack_taken (body.Add frame index word addend) is)
+        other_taking (body.Add frame index word addend) is (λ phase. refl) (λ such number receiver. refl) refl (stack_taken (body.Add frame index word addend) is)
     took_phased (body.Added old) is = added_phased old is
 
   -- ---- ends
@@ -397,7 +403,7 @@ module _ (cluster : Cluster) (course : Course) (node : ℕ) (here : Option PostA
   unfolding frames_of
   ended_phased end =
       kept cluster course node here less phased (Ended end) (λ number. refl) (λ number frame index. adds_ended cluster course node here less number frame index end)
-      (λ number. olds_ended cluster course node here less number end) refl (phased.first node)
+      (λ such number. olds_ended cluster course node here less such number end) refl (phased.first node)
 
 -- ---- all events
 
@@ -415,9 +421,9 @@ start_adds : (cluster : Cluster) (number : ℕ) (frame : FrameId) (index : ℕ) 
 unfolding owed_adds
 start_adds cluster number frame index = let sum = sum_none cluster.config.nodes (λ home. 0) (λ home below. refl) in omega (arith, sum)
 
-start_olds : (cluster : Cluster) (number : ℕ) → to_tell cluster [] number ≡ 0
+start_olds : (cluster : Cluster) (such : ℤ → Bool) (number : ℕ) → to_tell cluster [] such number ≡ 0
 unfolding owed_olds
-start_olds cluster number = let sum = sum_none cluster.config.nodes (λ home. 0) (λ home below. refl) in omega (arith, sum)
+start_olds cluster such number = let sum = sum_none cluster.config.nodes (λ home. 0) (λ home below. refl) in omega (arith, sum)
 
 pub phased : (cluster : Cluster) (course : Course) → Stepped cluster course → Phased cluster course
 phased cluster [] stepped = record {
@@ -425,7 +431,7 @@ phased cluster [] stepped = record {
   waiting = λ number. refl;
   first = λ number. tt;
   adds = λ number frame index. start_adds cluster number frame index;
-  olds = λ number. start_olds cluster number;
+  olds = λ such number. start_olds cluster such number;
 }
 phased cluster (moved ∷ course) stepped = event_phased cluster course moved.node moved.message moved.event stepped.0 stepped.1 (phased cluster course stepped.0)
 

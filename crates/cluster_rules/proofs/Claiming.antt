@@ -18,11 +18,11 @@ use Rattle.cluster_rules.specs.Runs.{Cluster, node_at, IsFree, IsOwed, MayDo, Ma
 use Rattle.cluster_rules.specs.Positions.{Course, own}
 use Rattle.cluster_rules.proofs.Stepping.{Takes, Step, Stepped}
 use Rattle.cluster_rules.proofs.Summing.{sum_below, sum_same, sum_none, sum_change}
-use Rattle.cluster_rules.proofs.Marks.{one, many, named}
+use Rattle.cluster_rules.proofs.Marks.{one, many, named, AddsFirst}
 use Rattle.cluster_rules.proofs.Passing.{advanced_body, first_marks, may_post}
 use Rattle.cluster_rules.proofs.Holding.{advanced}
 use Rattle.cluster_rules.proofs.Advancing.{counted}
-use Rattle.cluster_rules.proofs.Phases.{Phase, Idle, Asked, Told, after_post, after_taking, after_adding, phase_of, is_told, is_told_of, waits_in, IsFirst}
+use Rattle.cluster_rules.proofs.Phases.{Phase, Idle, Asked, after_post, after_taking, after_adding, phase_of, is_told_of, waits_in, IsFirst}
 use Rattle.cluster_rules.proofs.UnderWay.{moved_by}
 use Rattle.cluster_rules.proofs.Phasing.{Phased, quiet_idle}
 use Rattle.cluster_rules.proofs.Asking.{phased, was_asked, phase_asker, phase_others, phase_done, phase_far, was_told}
@@ -113,7 +113,7 @@ module _ (cluster : Cluster) (course : Course) (node : ℕ) (here : Option PostA
       let advances : many (named frame) (advanced cluster course (moved_by node (Did (item.Served other index word old addend)) here)) ≡ one (same_frame other frame) + 0 =
       ap (λ adds. many (named frame) (cond (is_empty adds) (record { id = other; acts = index } ∷ []) [])) free.none_owed in
       plain (Did (item.Served other index word old addend)) frame (omega (arith, advances))
-      (λ number. ap (λ adds. is_told_of frame (after_adding number other index adds (phase_of number course))) free.none_owed)
+      (λ number. ap (λ adds. is_told_of frame (after_adding number other index old adds (phase_of number course))) free.none_owed)
 
   did_adds_up : (done : Item) (rest : List Item) (posts : List Msg) → IsOwed (node_at cluster node) past done ⊎ (IsFree past × MayDo (node_at cluster node) past done rest posts)
       → AddsUp cluster (more (Did done))
@@ -172,11 +172,9 @@ module _ (cluster : Cluster) (course : Course) (node : ℕ) (here : Option PostA
         (λ number. ap (λ it. is_told_of frame (cond (eqb node number) (after_taking it (phase_of number course)) (phase_of number course))) is
         ∙ told_stays message (eqb node number) frame (phase_of number course) (after_taking said (phase_of number course)) (same (phase_of number course)))
 
-    told_first : (frame : FrameId) (phase : Phase) (stack : List Life) → is_told phase ≡ true → IsFirst phase stack → many (named frame) (first_marks stack) ≡ one (is_told_of frame phase)
-    told_first frame Idle stack told first = absurd (cc)
-    told_first frame (Asked other acts) stack told first = absurd (cc)
-    told_first frame (Told other acts) [] told first = absurd first
-    told_first frame (Told other acts) (life ∷ below) told first =
+    told_first : (frame other : FrameId) (acts : ℕ) (stack : List Life) → AddsFirst other acts stack → many (named frame) (first_marks stack) ≡ one (same_frame other frame)
+    told_first frame other acts [] first = absurd first
+    told_first frame other acts (life ∷ below) first =
         let same : one (same_frame life.id frame) ≡ one (same_frame other frame) = ap (λ it. one (same_frame it frame)) first.0 in omega (arith, same)
 
     added_adds_up : (old : ℤ) → message.body ≡ body.Added old → AddsUp cluster (more (Took message))
@@ -185,7 +183,8 @@ module _ (cluster : Cluster) (course : Course) (node : ℕ) (here : Option PostA
         let done = phase_done cluster course node here less known message stepped takes old is in
         let advances : many (named frame) (advanced cluster course (moved_by node (Took message) here)) ≡ one (is_told_of frame (phase_of node course)) =
         ap (λ it. many (named frame) (advanced_body it (stack_of (node_at cluster node) past))) is
-        ∙ told_first frame (phase_of node course) (stack_of (node_at cluster node) past) told (known.first node) in
+        ∙ told_first frame told.0 told.1 (stack_of (node_at cluster node) past) (subst (λ it. IsFirst it (stack_of (node_at cluster node) past)) told.2 (known.first node))
+        ∙ sym (ap (λ it. one (is_told_of frame it)) told.2) in
         let sum = sum_change cluster.config.nodes (pending_at course frame) (pending_at (more (Took message)) frame) node less
         (λ number not. ap (λ it. one (is_told_of frame it)) (phase_far cluster course node here less known message stepped takes old is number not)) in
         let now : pending_at (more (Took message)) frame node ≡ 0 = ap (λ it. one (is_told_of frame it)) done in

@@ -58,7 +58,7 @@ module _ (cluster : Cluster) (course : Course) (stepped : Stepped cluster course
   pub told_there : (number : ℕ) (frame : FrameId) (phase : Phase) → phase_of number course ≡ phase → is_told_of frame phase ≡ true → 1 ≤ at_node cluster course (named frame) number
   told_there number frame Idle is told = absurd (cc)
   told_there number frame (Asked other acts) is told = absurd (cc)
-  told_there number frame (Told other acts) is told =
+  told_there number frame (Told other acts old) is told =
       let name = same_name other frame told in
       let first : AddsFirst other acts (stack_of (node_at cluster number) (own number course)) =
       subst (λ it. IsFirst it (stack_of (node_at cluster number) (own number course))) is ((phased cluster course stepped).first number) in
@@ -68,7 +68,7 @@ module _ (cluster : Cluster) (course : Course) (stepped : Stepped cluster course
   pub told_within : (number : ℕ) (frame : FrameId) (phase : Phase) → phase_of number course ≡ phase → is_told_of frame phase ≡ true → number < cluster.config.nodes
   told_within number frame Idle is told = absurd (cc)
   told_within number frame (Asked other acts) is told = absurd (cc)
-  told_within number frame (Told other acts) is told = (phased cluster course stepped).within number (ap waits_in is)
+  told_within number frame (Told other acts old) is told = (phased cluster course stepped).within number (ap waits_in is)
 
   -- a frame that one node has, which was told of its adds, is nowhere to be told
   none_pending : (node : ℕ) → node < cluster.config.nodes → (frame : FrameId) → 1 ≤ at_node cluster course (named frame) node → is_told_of frame (phase_of node course) ≡ false

@@ -1,5 +1,5 @@
 -- What a mark of a frame says of its acts, wherever the frame is.
-use Rattle.std.proofs.Common.{◌≡◌, ◌≢◌, ◌≤◌, ◌<◌, ◌+◌, ◌⊎◌, inl, inr, ℕ, suc, List, [], ◌∷◌, Bool, true, false, refl, ◌∙◌, ap, subst, arith}
+use Rattle.std.proofs.Common.{◌≡◌, ◌≢◌, ◌≤◌, ◌<◌, ◌+◌, ◌⊎◌, inl, inr, ℕ, suc, ℤ, List, [], ◌∷◌, Bool, true, false, refl, ◌∙◌, ap, subst, arith}
 use Rattle.page_messages.specs.declared.closure.FrameId.{FrameId}
 use Rattle.cluster_rules.specs.Lives.{Life}
 use Rattle.cluster_rules.specs.Frames.{stack_of}
@@ -68,9 +68,9 @@ pending_one cluster course stepped number frame told =
         absurd (not (one_node cluster course stepped frame at number below less there here))
 
 -- The first frame of the stack of such a node counts one act less than it made.
-pub told_acts : (cluster : Cluster) (course : Course) → Stepped cluster course → (number : ℕ) (frame : FrameId) (acts : ℕ) → phase_of number course ≡ Told frame acts
+pub told_acts : (cluster : Cluster) (course : Course) → Stepped cluster course → (number : ℕ) (frame : FrameId) (acts : ℕ) (old : ℤ) → phase_of number course ≡ Told frame acts old
     → AddsFirst frame acts (stack_of (node_at cluster number) (own number course)) × (suc acts ≡ acts_before frame course)
-told_acts cluster course stepped number frame acts is =
+told_acts cluster course stepped number frame acts old is =
     let known = phased cluster course stepped in
     let first : AddsFirst frame acts (stack_of (node_at cluster number) (own number course)) =
     subst (λ it. IsFirst it (stack_of (node_at cluster number) (own number course))) is (known.first number) in

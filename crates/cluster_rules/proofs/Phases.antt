@@ -1,5 +1,5 @@
 -- Where a node is with its add: it wants none, it has asked the home, or the home has done it and the node does not know yet.
-use Rattle.std.proofs.Common.{◌≡◌, ℕ, List, [], ◌∷◌, Bool, true, false, cond, eqb, ◌&&◌, ◌||◌, refl, sym, subst}
+use Rattle.std.proofs.Common.{◌≡◌, ℕ, ℤ, List, [], ◌∷◌, Bool, true, false, cond, eqb, ◌&&◌, ◌||◌, refl, sym, subst}
 use Rattle.page_messages.specs.declared.closure.FrameId.{FrameId}
 use Rattle.page_messages.specs.declared.message.Msg.{Msg}
 use Rattle.page_messages.specs.declared.message.Body.{Body}
@@ -16,7 +16,7 @@ use Rattle.cluster_rules.proofs.Marks.{AddsFirst}
 pub data Phase : Type 0 where
   Idle : Phase
   Asked : (frame : FrameId) (acts : ℕ) → Phase
-  Told : (frame : FrameId) (acts : ℕ) → Phase
+  Told : (frame : FrameId) (acts : ℕ) (old : ℤ) → Phase
 
 abbrev pub after_post : Body → Phase → Phase
 after_post (body.Fetch page) phase = phase
@@ -44,9 +44,9 @@ after_taking (body.Park join closure) phase = phase
 after_taking (body.Add frame index word addend) phase = phase
 after_taking (body.Added old) phase = Idle
 
-abbrev pub after_adding : ℕ → FrameId → ℕ → List Msg → Phase → Phase
-after_adding number frame index [] phase = phase
-after_adding number frame index (add ∷ later) phase = cond (eqb add.sender number) (Told frame index) phase
+abbrev pub after_adding : ℕ → FrameId → ℕ → ℤ → List Msg → Phase → Phase
+after_adding number frame index old [] phase = phase
+after_adding number frame index old (add ∷ later) phase = cond (eqb add.sender number) (Told frame index old) phase
 
 abbrev pub after_item : ℕ → Item → List Msg → Phase → Phase
 after_item number (item.Act frame index act) adds phase = phase
@@ -55,7 +55,7 @@ after_item number (item.Drop page) adds phase = phase
 after_item number (item.TakeUp frame) adds phase = phase
 after_item number (item.OwnFetch page words) adds phase = phase
 after_item number (item.OwnReconcile part) adds phase = phase
-after_item number (item.Served frame index word old addend) adds phase = after_adding number frame index adds phase
+after_item number (item.Served frame index word old addend) adds phase = after_adding number frame index old adds phase
 
 -- what an event of a node makes of the phase of one of this number
 abbrev pub phase_on : ℕ → ℕ → Past → Event → Phase → Phase
@@ -73,34 +73,35 @@ phase_of number (moved ∷ course) = phase_on number moved.node (own moved.node 
 abbrev pub waits_in : Phase → Bool
 waits_in Idle = false
 waits_in (Asked frame acts) = true
-waits_in (Told frame acts) = true
+waits_in (Told frame acts old) = true
 
 abbrev pub is_asked : FrameId → ℕ → Phase → Bool
 is_asked frame index Idle = false
 is_asked frame index (Asked other acts) = same_frame other frame && eqb acts index
-is_asked frame index (Told other acts) = false
+is_asked frame index (Told other acts old) = false
 
-abbrev pub is_told : Phase → Bool
-is_told Idle = false
-is_told (Asked frame acts) = false
-is_told (Told frame acts) = true
+-- the add is done with such an old value, and the node does not know yet
+abbrev pub is_told : (ℤ → Bool) → Phase → Bool
+is_told such Idle = false
+is_told such (Asked frame acts) = false
+is_told such (Told frame acts old) = such old
 
 -- the add of this frame is done, and its node does not know yet
 abbrev pub is_told_of : FrameId → Phase → Bool
 is_told_of frame Idle = false
 is_told_of frame (Asked other acts) = false
-is_told_of frame (Told other acts) = same_frame other frame
+is_told_of frame (Told other acts old) = same_frame other frame
 
 -- while it waits, the frame that wants the add is the first of the stack
 abbrev pub IsFirst : Phase → List Life → Type 0
 IsFirst Idle stack = Unit {0}
 IsFirst (Asked frame acts) stack = AddsFirst frame acts stack
-IsFirst (Told frame acts) stack = AddsFirst frame acts stack
+IsFirst (Told frame acts old) stack = AddsFirst frame acts stack
 
 pub idle_is : (phase : Phase) → waits_in phase ≡ false → phase ≡ Idle
 idle_is Idle none = refl
 idle_is (Asked frame acts) none = absurd (cc)
-idle_is (Told frame acts) none = absurd (cc)
+idle_is (Told frame acts old) none = absurd (cc)
 
 pub first_idle : (phase : Phase) (stack : List Life) → phase ≡ Idle → IsFirst phase stack
 first_idle phase stack idle = subst (λ it. IsFirst it stack) (sym idle) tt
@@ -109,12 +110,7 @@ first_idle phase stack idle = subst (λ it. IsFirst it stack) (sym idle) tt
 pub asked_is : (frame : FrameId) (index : ℕ) (phase : Phase) → is_asked frame index phase ≡ true → waits_in phase ≡ true
 asked_is frame index Idle is = absurd (cc)
 asked_is frame index (Asked other acts) is = refl
-asked_is frame index (Told other acts) is = absurd (cc)
-
-pub told_waits : (phase : Phase) → is_told phase ≡ true → waits_in phase ≡ true
-told_waits Idle is = absurd (cc)
-told_waits (Asked frame acts) is = absurd (cc)
-told_waits (Told frame acts) is = refl
+asked_is frame index (Told other acts old) is = absurd (cc)
 
 -- ---- what a node waits for
 

@@ -1,6 +1,7 @@
 -- What the phases of all nodes say together, and what an event keeps of it that changes no phase.
-use Rattle.std.proofs.Common.{◌≡◌, ◌≢◌, ◌≤◌, ◌<◌, ◌⊎◌, inl, inr, ℕ, List, [], ◌∷◌, ◌++◌, Option, Some, Bool, true, false, cond, eqb, refl, sym, ◌∙◌, ap, subst, arith}
-use Rattle.std.proofs.lemmas.Bool.Decides.{nat_tests}
+use Rattle.std.proofs.Common.{◌≡◌, ◌≢◌, ◌≤◌, ◌<◌, ◌⊎◌, inl, inr, ℕ, ℤ, List, [], ◌∷◌, ◌++◌, Option, Some, Bool, true, false, cond, eqb, refl, sym, ◌∙◌, ap, subst, arith}
+use Rattle.std.proofs.lemmas.Bool.Decides.{nat_tests, Decides-int_eq}
+use Rattle.std.specs.Ordering.{int_eq}
 use Rattle.cilk_meaning.specs.Wants as want
 use Rattle.cilk_meaning.specs.Wants.{Asks}
 use Rattle.page_messages.specs.declared.closure.FrameId.{FrameId}
@@ -28,12 +29,15 @@ pub record Phased (cluster : Cluster) (course : Course) : Type 0 where
   pub waiting : (number : ℕ) → awaits ForAdded (own number course) ≡ waits_in (phase_of number course)
   pub first : (number : ℕ) → IsFirst (phase_of number course) (stack_of (node_at cluster number) (own number course))
   pub adds : (number : ℕ) (frame : FrameId) (index : ℕ) → under_way cluster course number frame index ≡ one (is_asked frame index (phase_of number course))
-  pub olds : (number : ℕ) → to_tell cluster course number ≡ one (is_told (phase_of number course))
+  pub olds : (such : ℤ → Bool) (number : ℕ) → to_tell cluster course such number ≡ one (is_told such (phase_of number course))
 
 -- ---- small laws
 
 pub equal_number : (number other : ℕ) → eqb number other ≡ true → number ≡ other
 equal_number number other is = grind (arith, nat_tests)
+
+pub own_value : (old : ℤ) → int_eq old old ≡ true
+own_value old = (Decides-int_eq old old).1 refl
 
 pub cond_same : {A : Type 0} (b : Bool) (one other : A) → one ≡ other → cond b one other ≡ other
 cond_same true one other same = same
@@ -45,17 +49,18 @@ is_one false some = absurd (omega (arith, some))
 
 pub asked_same : (frame : FrameId) (index : ℕ) (phase : Phase) → is_asked frame index phase ≡ true → phase ≡ Asked frame index
 asked_same frame index Idle is = absurd (cc)
-asked_same frame index (Told other acts) is = absurd (cc)
+asked_same frame index (Told other acts old) is = absurd (cc)
 asked_same frame index (Asked other acts) is =
     let both = both_true (same_frame other frame) (eqb acts index) is in
     let names = same_name other frame both.0 in
     let numbers = equal_number acts index both.1 in
     ap (λ it. Asked it acts) names ∙ ap (Asked frame) numbers
 
-pub told_not_asked : (frame : FrameId) (index : ℕ) (phase : Phase) → is_told phase ≡ true → is_asked frame index phase ≡ false
-told_not_asked frame index Idle is = absurd (cc)
-told_not_asked frame index (Asked other acts) is = absurd (cc)
-told_not_asked frame index (Told other acts) is = refl
+-- it is told this old value
+pub told_same : (old : ℤ) (phase : Phase) → is_told (int_eq old) phase ≡ true → (frame : FrameId) × (acts : ℕ) × (phase ≡ Told frame acts old)
+told_same old Idle is = absurd (cc)
+told_same old (Asked frame acts) is = absurd (cc)
+told_same old (Told frame acts other) is = (frame, acts, ap (Told frame acts) (sym ((Decides-int_eq old other).0 is)))
 
 -- ---- the first frame stays
 
@@ -68,7 +73,7 @@ first_granted node past receiver closure phase may first =
     on : (phase : Phase) → IsFirst phase (may.above ++ (may.child ∷ (may.parent ∷ []))) → IsFirst phase (may.above ++ (record may.child { link = link_to closure.join } ∷ []))
     on Idle first = tt
     on (Asked frame acts) first = kept_first frame acts closure.join may.above may.child may.parent first
-    on (Told frame acts) first = kept_first frame acts closure.join may.above may.child may.parent first
+    on (Told frame acts old) first = kept_first frame acts closure.join may.above may.child may.parent first
 
 pub returned_none : (frame : FrameId) (acts : ℕ) (stack : List Life) → AddsFirst frame acts stack → live stack ≡ [] → ⊥
 returned_none frame acts stack first none =
@@ -89,12 +94,12 @@ parked_none frame acts stack life first alone sync =
 pub first_done : (phase : Phase) (stack : List Life) → live stack ≡ [] → IsFirst phase stack → IsFirst phase []
 first_done Idle stack none first = tt
 first_done (Asked frame acts) stack none first = absurd (returned_none frame acts stack first none)
-first_done (Told frame acts) stack none first = absurd (returned_none frame acts stack first none)
+first_done (Told frame acts old) stack none first = absurd (returned_none frame acts stack first none)
 
 pub first_parked : (phase : Phase) (stack : List Life) (life : Life) → live stack ≡ life ∷ [] → Wants life want.Sync → IsFirst phase stack → IsFirst phase []
 first_parked Idle stack life alone sync first = tt
 first_parked (Asked frame acts) stack life alone sync first = absurd (parked_none frame acts stack life first alone sync)
-first_parked (Told frame acts) stack life alone sync first = absurd (parked_none frame acts stack life first alone sync)
+first_parked (Told frame acts old) stack life alone sync first = absurd (parked_none frame acts stack life first alone sync)
 
 -- ---- one event more
 
@@ -135,14 +140,14 @@ module _ (cluster : Cluster) (course : Course) (node : ℕ) (here : Option PostA
   -- no phase changes
   pub kept : (event : Event) → ((number : ℕ) → phase_of number (more event) ≡ phase_of number course)
       → ((number : ℕ) (frame : FrameId) (index : ℕ) → under_way cluster (more event) number frame index ≡ under_way cluster course number frame index)
-      → ((number : ℕ) → to_tell cluster (more event) number ≡ to_tell cluster course number)
+      → ((such : ℤ → Bool) (number : ℕ) → to_tell cluster (more event) such number ≡ to_tell cluster course such number)
       → awaits ForAdded (event ∷ past) ≡ awaits ForAdded past → IsFirst (phase_of node course) (stack_of (node_at cluster node) (event ∷ past)) → Phased cluster (more event)
   kept event same adds olds waits first = record {
     within = λ number waits. phased.within number (ap waits_in (sym (same number)) ∙ waits);
     waiting = λ number. awaits_more event waits number ∙ phased.waiting number ∙ ap waits_in (sym (same number));
     first = first_more event (λ number other. same number) (subst (λ it. IsFirst it (stack_of (node_at cluster node) (event ∷ past))) (sym (same node)) first);
     adds = λ number frame index. adds number frame index ∙ phased.adds number frame index ∙ ap (λ it. one (is_asked frame index it)) (sym (same number));
-    olds = λ number. olds number ∙ phased.olds number ∙ ap (λ it. one (is_told it)) (sym (same number));
+    olds = λ such number. olds such number ∙ phased.olds such number ∙ ap (λ it. one (is_told such it)) (sym (same number));
   }
 
   pub quiet_idle : IsQuiet past → phase_of node course ≡ Idle

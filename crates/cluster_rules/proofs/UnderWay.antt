@@ -57,29 +57,29 @@ abbrev pub under_way : Cluster → Course → ℕ → FrameId → ℕ → ℕ
 under_way cluster course number frame index =
     sum_below cluster.config.nodes (owed_at cluster course (add_from number frame index)) + amount_of (add_from number frame index) (letters_of course)
 
--- it tells an old value to this node
-abbrev pub tells_body : ℕ → ℕ → Body → Bool
-tells_body number receiver (body.Fetch page) = false
-tells_body number receiver (body.Page page words) = false
-tells_body number receiver (body.Reconcile parts) = false
-tells_body number receiver body.Ack = false
-tells_body number receiver body.Ask = false
-tells_body number receiver (body.Grant closure) = false
-tells_body number receiver body.Refuse = false
-tells_body number receiver (body.Done join index value) = false
-tells_body number receiver (body.Park join closure) = false
-tells_body number receiver (body.Add frame index word addend) = false
-tells_body number receiver (body.Added old) = eqb receiver number
+-- it tells such an old value to this node
+abbrev pub tells_body : (ℤ → Bool) → ℕ → ℕ → Body → Bool
+tells_body such number receiver (body.Fetch page) = false
+tells_body such number receiver (body.Page page words) = false
+tells_body such number receiver (body.Reconcile parts) = false
+tells_body such number receiver body.Ack = false
+tells_body such number receiver body.Ask = false
+tells_body such number receiver (body.Grant closure) = false
+tells_body such number receiver body.Refuse = false
+tells_body such number receiver (body.Done join index value) = false
+tells_body such number receiver (body.Park join closure) = false
+tells_body such number receiver (body.Add frame index word addend) = false
+tells_body such number receiver (body.Added old) = eqb receiver number && such old
 
-abbrev pub old_to : ℕ → Msg → ℕ
-old_to number message = one (tells_body number message.receiver message.body)
+abbrev pub old_to : (ℤ → Bool) → ℕ → Msg → ℕ
+old_to such number message = one (tells_body such number message.receiver message.body)
 
 abbrev pub olds_at : Cluster → Course → (Msg → ℕ) → ℕ → ℕ
 olds_at cluster course amount home = amount_in amount (owed_olds (node_at cluster home) (own home course))
 
--- The old values for a node that were not told.
-abbrev pub to_tell : Cluster → Course → ℕ → ℕ
-to_tell cluster course number = sum_below cluster.config.nodes (olds_at cluster course (old_to number)) + amount_of (old_to number) (letters_of course)
+-- The Addeds of such old values for a node that it did not take.
+abbrev pub to_tell : Cluster → Course → (ℤ → Bool) → ℕ → ℕ
+to_tell cluster course such number = sum_below cluster.config.nodes (olds_at cluster course (old_to such number)) + amount_of (old_to such number) (letters_of course)
 
 -- ---- sums over the pasts of nodes
 
@@ -174,30 +174,30 @@ module _ (cluster : Cluster) (course : Course) (node : ℕ) (here : Option PostA
 
   -- ---- old values
 
-  module _ (number : ℕ) where
+  module _ (such : ℤ → Bool) (number : ℕ) where
     abbrev told : Msg → ℕ
-    told = old_to number
+    told = old_to such number
 
-    pub olds_ended : (end : NodeEnd) → to_tell cluster (moved_by node (Ended end) here ∷ course) number ≡ to_tell cluster course number
+    pub olds_ended : (end : NodeEnd) → to_tell cluster (moved_by node (Ended end) here ∷ course) such number ≡ to_tell cluster course such number
     unfolding owed_olds
     olds_ended end = let sum = olds_sum told (Ended end) in omega (arith, sum)
 
     pub olds_took : (message : Msg) → Stepped cluster course → Takes course node here message
-        → to_tell cluster (moved_by node (Took message) here ∷ course) number + told message ≡ to_tell cluster course number
+        → to_tell cluster (moved_by node (Took message) here ∷ course) such number + told message ≡ to_tell cluster course such number
     unfolding owed_olds
     olds_took message stepped takes =
         let sum = olds_sum told (Took message) in
         let letters = letter_taken cluster told course node here message stepped takes in omega (arith, sum, letters)
 
     pub olds_did : (done : Item)
-        → to_tell cluster (moved_by node (Did done) here ∷ course) number ≡ to_tell cluster course number + amount_in told (told_by (node_at cluster node) done (owed_adds past))
+        → to_tell cluster (moved_by node (Did done) here ∷ course) such number ≡ to_tell cluster course such number + amount_in told (told_by (node_at cluster node) done (owed_adds past))
     unfolding owed_olds
     olds_did done =
         let sum = olds_sum told (Did done) in
         let both = amount_append told (owed_olds (node_at cluster node) past) (told_by (node_at cluster node) done (owed_adds past)) in omega (arith, sum, both)
 
     pub olds_posted : (message : Msg) → Posts course node here message → tells_in message.body ≡ false → told message ≡ 0
-        → to_tell cluster (moved_by node (Sent message) here ∷ course) number ≡ to_tell cluster course number
+        → to_tell cluster (moved_by node (Sent message) here ∷ course) such number ≡ to_tell cluster course such number
     unfolding owed_olds
     olds_posted message posts other none =
         let sum = olds_sum told (Sent message) in
@@ -207,13 +207,13 @@ module _ (cluster : Cluster) (course : Course) (node : ℕ) (here : Option PostA
         let letters = letter_sent cluster told course node here message posts in omega (arith, sum, owed, letters, none)
 
     pub olds_told : (message : Msg) (old : ℤ) → Posts course node here message → message.body ≡ body.Added old → Tells (node_at cluster node) past message.receiver old
-        → to_tell cluster (moved_by node (Sent message) here ∷ course) number ≡ to_tell cluster course number
+        → to_tell cluster (moved_by node (Sent message) here ∷ course) such number ≡ to_tell cluster course such number
     unfolding owed_olds
     olds_told message old posts is tells =
         let sum = olds_sum told (Sent message) in
         let owed : amount_in told (cond (tells_in message.body) (rest_of (owed_olds (node_at cluster node) past)) (owed_olds (node_at cluster node) past)) ≡ amount_in told tells.later =
         ap (λ b. amount_in told (cond b (rest_of (owed_olds (node_at cluster node) past)) (owed_olds (node_at cluster node) past))) (ap tells_in is)
         ∙ ap (λ it. amount_in told (rest_of it)) tells.oldest in
-        let before : amount_in told (owed_olds (node_at cluster node) past) ≡ one (eqb message.receiver number) + amount_in told tells.later = ap (amount_in told) tells.oldest in
-        let said : told message ≡ one (eqb message.receiver number) = ap (λ it. one (tells_body number message.receiver it)) is in
+        let before : amount_in told (owed_olds (node_at cluster node) past) ≡ one (eqb message.receiver number && such old) + amount_in told tells.later = ap (amount_in told) tells.oldest in
+        let said : told message ≡ one (eqb message.receiver number && such old) = ap (λ it. one (tells_body such number message.receiver it)) is in
         let letters = letter_sent cluster told course node here message posts in omega (arith, sum, owed, before, said, letters)

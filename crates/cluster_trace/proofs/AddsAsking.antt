@@ -11,23 +11,21 @@ use Rattle.cluster_rules.specs.Acting.{Serves}
 use Rattle.cluster_rules.specs.Positions.{Course, course_of, own, before}
 use Rattle.cluster_rules.specs.Runs.{Cluster, IsLawful, node_at}
 use Rattle.cluster_rules.proofs.Stepping.{Stepped}
-use Rattle.cluster_rules.proofs.Phases.{is_told}
 use Rattle.cluster_rules.proofs.Asking.{phased, was_asked}
 use Rattle.cluster_rules.proofs.UnderWay.{moved_by}
 use Rattle.cluster_edges.proofs.Asking.{asks_life}
 use Rattle.cluster_edges.proofs.AskedThere.{asks_served}
 use Rattle.cluster_trace.proofs.Spawning.{step_then}
-use Rattle.cluster_trace.proofs.Ahead.{ahead, told_so}
-use Rattle.cluster_trace.proofs.Onwards.{AddsAsked, none_of}
+use Rattle.cluster_trace.proofs.Ahead.{ahead, old_in, told_so}
+use Rattle.cluster_trace.proofs.Onwards.{AddsAsked}
 
 -- Where a home does an add, the execution is not yet ahead of the node that asked for it.
 not_ahead : (cluster : Cluster) (course : Course) → Stepped cluster course → (number : ℕ) (here : Option PostAt) → number < cluster.config.nodes
     → (frame : FrameId) (index word : ℕ) (old addend : ℤ) (serves : Serves (node_at cluster number) (own number course) frame index word old addend)
     → ahead serves.add.sender course ≡ None
 not_ahead cluster course stepped number here less frame index word old addend serves =
-    none_of (ahead serves.add.sender course)
-    (told_so cluster course stepped serves.add.sender
-    ∙ ap is_told (was_asked cluster course number here less (phased cluster course stepped) frame index word old addend serves))
+    told_so cluster course stepped serves.add.sender
+    ∙ ap old_in (was_asked cluster course number here less (phased cluster course stepped) frame index word old addend serves)
 
 -- A served add is the one that the first frame of the asker wants, and the execution is not ahead of the asker.
 pub adds_asked : (cluster : Cluster) (turns : List WholeTurn) (lawful : IsLawful cluster turns) (program : Program) (stands : StandsFor cluster.code program)

@@ -1,5 +1,5 @@
 -- The old value that a home has told for a node which does not know it yet: there the execution is one answer ahead of the node.
-use Rattle.std.proofs.Common.{◌≡◌, ◌⊎◌, ◌<◌, ℕ, ℤ, List, [], ◌∷◌, Option, Some, None, Bool, true, false, cond, eqb, is_some, inl, inr, refl, sym, ◌∙◌, ap, subst}
+use Rattle.std.proofs.Common.{◌≡◌, ◌⊎◌, ◌<◌, ℕ, ℤ, List, [], ◌∷◌, Option, Some, None, Bool, true, false, cond, eqb, inl, inr, refl, sym, ◌∙◌, ap, subst}
 use Rattle.page_messages.specs.declared.closure.FrameId.{FrameId}
 use Rattle.page_messages.specs.declared.message.Msg.{Msg}
 use Rattle.page_messages.specs.declared.message.Body.{Body}
@@ -18,7 +18,7 @@ use Rattle.cluster_rules.specs.Allowed.{IsAllowed}
 use Rattle.cluster_rules.proofs.Stepping.{Stepped}
 use Rattle.cluster_rules.proofs.Marks.{AddsFirst}
 use Rattle.cluster_rules.proofs.Passing.{may_post}
-use Rattle.cluster_rules.proofs.Phases.{Phase, Idle, Asked, Told, after_post, after_taking, after_adding, after_item, phase_on, phase_of, is_told, IsFirst}
+use Rattle.cluster_rules.proofs.Phases.{Phase, Idle, Asked, Told, after_post, after_taking, after_adding, after_item, phase_on, phase_of, IsFirst}
 use Rattle.cluster_rules.proofs.Phasing.{equal_number, quiet_idle}
 use Rattle.cluster_rules.proofs.Asking.{phased}
 
@@ -65,17 +65,23 @@ lead (Some old) stack = added old stack
 
 -- ---- it is so by the phases
 
+-- the old value of an add that is done, which the node does not know yet
+abbrev pub old_in : Phase → Option ℤ
+old_in Idle = None
+old_in (Asked frame acts) = None
+old_in (Told frame acts old) = Some old
+
 abbrev Same : Option ℤ → Phase → Type 0
-Same old phase = is_some old ≡ is_told phase
+Same led phase = led ≡ old_in phase
 
 same_cond : (b : Bool) (one other : Option ℤ) (first second : Phase) → Same one first → Same other second → Same (cond b one other) (cond b first second)
 same_cond true one other first second this that = this
 same_cond false one other first second this that = that
 
 same_adding : (number : ℕ) (old : ℤ) (frame : FrameId) (index : ℕ) (adds : List Msg) (earlier : Option ℤ) (phase : Phase) → Same earlier phase
-    → Same (ahead_adding number old adds earlier) (after_adding number frame index adds phase)
+    → Same (ahead_adding number old adds earlier) (after_adding number frame index old adds phase)
 same_adding number old frame index [] earlier phase same = same
-same_adding number old frame index (add ∷ later) earlier phase same = same_cond (eqb add.sender number) (Some old) earlier (Told frame index) phase refl same
+same_adding number old frame index (add ∷ later) earlier phase same = same_cond (eqb add.sender number) (Some old) earlier (Told frame index old) phase refl same
 
 same_item : (number : ℕ) (done : Item) (adds : List Msg) (earlier : Option ℤ) (phase : Phase) → Same earlier phase → Same (ahead_item number done adds earlier) (after_item number done adds phase)
 same_item number (item.Act frame index act) adds earlier phase same = same
@@ -111,7 +117,7 @@ same_post (body.Grant closure) earlier phase adds same = same
 same_post body.Refuse earlier phase adds same = same
 same_post (body.Done join index value) earlier phase adds same = same
 same_post (body.Park join closure) earlier phase adds same = same
-same_post (body.Add frame index word addend) earlier phase adds same = same ∙ ap is_told (adds frame index word addend refl)
+same_post (body.Add frame index word addend) earlier phase adds same = same ∙ ap old_in (adds frame index word addend refl)
 same_post (body.Added old) earlier phase adds same = same
 
 module _ (cluster : Cluster) where
@@ -147,19 +153,15 @@ module _ (cluster : Cluster) where
           (same_taking message.body (ahead number course) (phase_of number course) same) same
       on (Ended end) is same = same
 
-  none_at : (old : Option ℤ) (phase : Phase) → Same old phase → phase ≡ Idle → old ≡ None
-  none_at None phase same idle = refl
-  none_at (Some old) phase same idle = let both = same ∙ ap is_told idle in absurd (cc)
-
   -- A node that waits for nothing is as the execution.
   pub quiet_none : (course : Course) (stepped : Stepped cluster course) (number : ℕ) → number < cluster.config.nodes → IsQuiet (own number course) → ahead number course ≡ None
   quiet_none course stepped number less quiet =
-      none_at (ahead number course) (phase_of number course) (told_so course stepped number) (quiet_idle cluster course number None less (phased cluster course stepped) quiet)
+      told_so course stepped number ∙ ap old_in (quiet_idle cluster course number None less (phased cluster course stepped) quiet)
 
   first_at : (old : ℤ) (led : Option ℤ) (phase : Phase) (stack : List Life) → led ≡ Some old → Same led phase → IsFirst phase stack → (frame : FrameId) × (acts : ℕ) × AddsFirst frame acts stack
-  first_at old led Idle stack is same first = let both = ap is_some (sym is) ∙ same in absurd (cc)
-  first_at old led (Asked frame acts) stack is same first = (frame, acts, first)
-  first_at old led (Told frame acts) stack is same first = (frame, acts, first)
+  first_at old led Idle stack is same first = let both = sym is ∙ same in absurd (cc)
+  first_at old led (Asked frame acts) stack is same first = let both = sym is ∙ same in absurd (cc)
+  first_at old led (Told frame acts other) stack is same first = (frame, acts, first)
 
   -- Where the execution is ahead, the first frame of the node wants an add.
   pub ahead_first : (course : Course) → Stepped cluster course → (number : ℕ) (old : ℤ) → ahead number course ≡ Some old

@@ -17,5 +17,6 @@ pub mod Changes
 pub mod Doing
 pub mod Onwards
 pub mod AddsAsking
+pub mod OldComing
 pub mod Always
 pub mod Ending

@@ -1,7 +1,8 @@
 -- The history of a service has the acts of its trace, row by row, and its serial order is that of the positions.
-use Rattle.std.proofs.Common.{◌≡◌, ◌≢◌, ℕ, zero, suc, ◌+◌, ◌<◌, ◌≤◌, inl, inr, true, false, List, [], ◌∷◌, ◌++◌, length, refl, sym, ◌∙◌, ap, subst, arith}
+use Rattle.std.proofs.Common.{◌≡◌, ◌≢◌, ℕ, zero, suc, ◌+◌, ◌<◌, ◌≤◌, inl, inr, true, false, Some, List, [], ◌∷◌, ◌++◌, length, refl, sym, ◌∙◌, ap, subst, arith}
 use Rattle.std.proofs.lemmas.List.{append-nil}
 use Rattle.std.specs.List.{Contains}
+use Rattle.std.specs.Prelude.{slice_get}
 use Rattle.backer_order.proofs.Search.{Less3, Same3, More3, compare}
 use Rattle.backer_order.specs.Log as log
 use Rattle.backer_order.specs.Log.{Nothing, Events}
@@ -11,7 +12,7 @@ use Rattle.cluster_rules.specs.Histories.{row_number}
 use Rattle.cluster_rules.specs.Lives.{same_frame}
 use Rattle.determinacy.proofs.Rows.{either_bool, when_true, when_false, same_is, same_self}
 use Rattle.elision_trace.proofs.Logs.{event_here, event_there}
-use Rattle.elision_trace.specs.Tracing.{frame_at, act_of, event_of, events_in}
+use Rattle.elision_trace.specs.Tracing.{frame_at, frames_from, frames_to, act_of, event_of, events_in}
 use Rattle.page_messages.specs.declared.closure.FrameId.{FrameId}
 use Rattle.span_tree.proofs.Growing.{OneMore}
 use Rattle.span_tree.proofs.Orders.{first_or_later, is_first, is_later, nothing_in_none, all_in}
@@ -24,18 +25,17 @@ use Rattle.word_order.proofs.Rows.{shown, act_by, acts_before, place_in, place_p
 
 -- ---- the frames of so many rows
 
-abbrev pub frames_from : ℕ → ℕ → List FrameId
-frames_from start zero = []
-frames_from start (suc count) = frame_at start ∷ frames_from (suc start) count
-
-abbrev pub frames_to : ℕ → List FrameId
-frames_to rows = frames_from 0 rows
-
 pub how_many : (start count : ℕ) → length (frames_from start count) ≡ count
 how_many start zero = refl
 how_many start (suc count) = ap suc (how_many (suc start) count)
 
-not_same : (first second : ℕ) → first ≢ second → same_frame (frame_at first) (frame_at second) ≡ false
+-- at each place stands the frame of the row with this number
+pub get_frame : (start count place : ℕ) (frame : FrameId) → slice_get (frames_from start count) place ≡ Some frame → frame ≡ frame_at (start + place)
+get_frame start zero place frame is = absurd cc
+get_frame start (suc count) zero frame is = let same : frame_at start ≡ frame = cc in sym same ∙ ap frame_at (omega arith)
+get_frame start (suc count) (suc place) frame is = get_frame (suc start) count place frame is ∙ ap frame_at (omega arith)
+
+pub not_same : (first second : ℕ) → first ≢ second → same_frame (frame_at first) (frame_at second) ≡ false
 not_same first second other = elim (either_bool (same_frame (frame_at first) (frame_at second))) [
   | inl is ↦ absurd (other (ap (λ (i : FrameId). i.number) (same_is (frame_at first) (frame_at second) is)))
   | inr differ ↦ differ

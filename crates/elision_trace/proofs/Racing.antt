@@ -1,5 +1,5 @@
 -- The history of the elision has its rows as the frames of its trace, in whose positions it is serial.
-use Rattle.std.proofs.Common.{◌≡◌, ℕ, zero, suc, ◌+◌, ◌<◌, inl, inr, ℤ, true, Some, List, [], ◌∷◌, length, refl, sym, ◌∙◌, ap, subst, arith}
+use Rattle.std.proofs.Common.{◌≡◌, ℕ, zero, suc, ◌<◌, inl, inr, ℤ, true, Some, List, [], ◌∷◌, length, refl, sym, ◌∙◌, ap, subst, arith}
 use Rattle.std.specs.Prelude.{slice_get}
 use Rattle.backer_order.specs.Log as log
 use Rattle.backer_order.specs.Log.{Nothing}
@@ -18,10 +18,10 @@ use Rattle.determinacy.specs.Replies.{Born}
 use Rattle.elision_history.proofs.Histories.{Inv, step_kept, return_kept, first_kept}
 use Rattle.elision_history.specs.Logged.{logged, history_of}
 use Rattle.elision_trace.proofs.Obeying.{first_good, step_good, return_good}
-use Rattle.elision_trace.proofs.Placing.{frames_from, frames_to, how_many, number_in, place_at, acts_first, Placed, placed_tick, placed_act}
+use Rattle.elision_trace.proofs.Placing.{how_many, get_frame, number_in, place_at, acts_first, Placed, placed_tick, placed_act}
 use Rattle.elision_trace.proofs.Service.{Good}
-use Rattle.elision_trace.specs.Laws.{end_of, finish_of}
-use Rattle.elision_trace.specs.Tracing.{frame_at, act_of, events_in}
+use Rattle.elision_trace.specs.Laws.{end_of, finish_of, frames_of}
+use Rattle.elision_trace.specs.Tracing.{frame_at, frames_to, act_of, events_in}
 use Rattle.page_messages.specs.declared.closure.FrameId.{FrameId}
 use Rattle.span_tree.proofs.Growing.{with_one, spawns_nothing, open_inside, act_order, child_order, one'}
 use Rattle.span_tree.specs.Dag.{IsBefore}
@@ -140,17 +140,12 @@ module _ (starts : Starts) (main : ℕ) where
 
 -- ---- the elision
 
-get_frame : (start count place : ℕ) (frame : FrameId) → slice_get (frames_from start count) place ≡ Some frame → frame ≡ frame_at (start + place)
-get_frame start zero place frame is = absurd cc
-get_frame start (suc count) zero frame is = let same : frame_at start ≡ frame = cc in sym same ∙ ap frame_at (omega arith)
-get_frame start (suc count) (suc place) frame is = get_frame (suc start) count place frame is ∙ ap frame_at (omega arith)
-
 module _ (most : Limits) (program : Program) (start : ℕ → ℤ) (budget : ℕ) where
   abbrev pub end : End
   end = end_of most program start budget
 
-  abbrev pub frames : List FrameId
-  frames = frames_to end.world.rows
+  abbrev frames : List FrameId
+  frames = frames_of most program start budget
 
   rowed : InRows (wants_within most program) program.main end
   rowed = subst (λ (e : End). InRows (wants_within most program) program.main e) (sym (elision_is_service most program start budget))

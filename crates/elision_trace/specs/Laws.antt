@@ -1,5 +1,5 @@
 -- Laws of the serial elision as an execution.
-use Rattle.std.specs.Prelude.{◌≡◌, ℕ, ◌<◌, ℤ, true, Some, slice_get}
+use Rattle.std.specs.Prelude.{◌≡◌, ℕ, ◌<◌, ℤ, true, Some, List, slice_get}
 use Rattle.backer_order.specs.Log.{main_id, SharedMemory}
 use Rattle.cilk_meaning.specs.declared.ends.NodeEnd.TheVariants.{Finished}
 use Rattle.cilk_meaning.specs.Elision.{elision_within}
@@ -14,7 +14,8 @@ use Rattle.determinacy.specs.Ending.{is_item, all_ticks}
 use Rattle.determinacy.specs.Replies.{Trace, want_at, Obeys}
 use Rattle.determinacy.specs.Serial.{LastOf, RaceFree, SerialReads, Serially}
 use Rattle.elision_history.specs.Logged.{history_of}
-use Rattle.elision_trace.specs.Tracing.{event_of, trace_of}
+use Rattle.elision_trace.specs.Tracing.{frames_to, event_of, trace_of}
+use Rattle.page_messages.specs.declared.closure.FrameId.{FrameId}
 use Rattle.span_tree.specs.Memory.{HasNoRace}
 
 module _ (most : Limits) (program : Program) (start : ℕ → ℤ) (budget : ℕ) where
@@ -27,6 +28,10 @@ module _ (most : Limits) (program : Program) (start : ℕ → ℤ) (budget : ℕ
 
   abbrev pub finish_of : ℕ
   finish_of = ticks_of end_of
+
+  -- the frames of its rows
+  abbrev pub frames_of : List FrameId
+  frames_of = frames_to end_of.world.rows
 
 -- the shared memory starts with these words, and adds as the language does
 pub record Begins (memory : SharedMemory) (start : ℕ → ℤ) : Type 0 where

@@ -1,5 +1,5 @@
 -- The execution that the log of a serial elision tells: all its rows are frames of node 0, and its positions the serial order.
-use Rattle.std.specs.Prelude.{ℕ, suc, ◌==◌, cond, Option, Some, None, List, [], ◌∷◌, length}
+use Rattle.std.specs.Prelude.{ℕ, zero, suc, ◌==◌, cond, Option, Some, None, List, [], ◌∷◌, length}
 use Rattle.backer_order.specs.Log as log
 use Rattle.backer_order.specs.Log.{Events}
 use Rattle.cilk_meaning.specs.Resolved.{Program}
@@ -15,6 +15,14 @@ use Rattle.span_tree.specs.Program.{Starts}
 -- the frame that a row is; that of `main` is row 0
 abbrev pub frame_at : ℕ → FrameId
 frame_at row = record { node = 0; number = row }
+
+-- the frames of so many rows, from a row on
+abbrev pub frames_from : ℕ → ℕ → List FrameId
+frames_from start zero = []
+frames_from start (suc count) = frame_at start ∷ frames_from (suc start) count
+
+abbrev pub frames_to : ℕ → List FrameId
+frames_to rows = frames_from 0 rows
 
 abbrev pub act_of : world.Act → log.Act
 act_of (world.Read word value) = log.Read word value

@@ -29,7 +29,7 @@ use Rattle.word_order.proofs.Made.{are_rows}
 use Rattle.word_order.proofs.Places.{AreRows}
 use Rattle.word_order.proofs.RunsAreConsistent.{made_of}
 use Rattle.trace_rows.proofs.IsHistory.{is_history, is_complete}
-use Rattle.trace_rows.proofs.RunAs.{RunAs}
+use Rattle.trace_rows.specs.RunAs.{RunAs}
 use Rattle.elision_trace.specs.Laws.{Begins}
 use Rattle.cluster_trace.specs.Instances.{trace_of}
 use Rattle.cluster_trace.proofs.Always.{obeys}

@@ -24,7 +24,7 @@ use Rattle.cluster_rules.proofs.Stepping.{Stepped}
 use Rattle.determinacy.specs.Replies.{Instance}
 use Rattle.word_order.proofs.Items.{done_by, done_in, done_is}
 use Rattle.word_order.proofs.Rows.{number_first}
-use Rattle.trace_rows.proofs.RunAs.{RunAs}
+use Rattle.trace_rows.specs.RunAs.{RunAs}
 use Rattle.cluster_trace.specs.Instances.{main_instance, child_of, instance_on, instance_of, trace_of}
 use Rattle.cluster_trace.proofs.Spawning.{all_stepped}
 

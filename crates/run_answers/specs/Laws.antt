@@ -21,7 +21,8 @@ use Rattle.cluster_rules.specs.Histories.{IsHistoryOf}
 use Rattle.cluster_rules.specs.Moments.{Listed, IsHomeOrder}
 use Rattle.cluster_rules.specs.Positions.{course_of}
 use Rattle.cluster_rules.specs.Runs.{Cluster, IsRun}
-use Rattle.run_memory.specs.Laws.{left_in_order}
+use Rattle.run_memory.specs.Left.{left_in_order}
+use Rattle.word_order.specs.Consistency.{places_by}
 
 -- The run ended so: its last turn has this end. Only the last turn of a run can have one.
 abbrev pub HasEnd : List Turn → NodeEnd → Type 0
@@ -38,7 +39,8 @@ pub record IsElision (cluster : Cluster) (program : Program) (log : List Turn) (
   pub history : (frames : List FrameId) (history : History) → IsHistoryOf cluster.code.main log frames history → history ≡ history_of program elision
   pub output : (frames : List FrameId) (history : History) → IsHistoryOf cluster.code.main log frames history → output_of history ≡ world.output_of elision
   pub words : (frames : List FrameId) (history : History) (word : ℕ) (order : List Listed) → IsHistoryOf cluster.code.main log frames history →
-      IsHomeOrder cluster (course_of (reverse run.turns)) word order → left_in_order cluster (reverse run.turns) frames history word order ≡ elision.world.memory word
+      IsHomeOrder cluster (course_of (reverse run.turns)) word order → left_in_order (start_words_of cluster.code) history (places_by frames (course_of (reverse run.turns)) order) word
+      ≡ elision.world.memory word
   pub ticks : sum (counts_of cluster.config.nodes log).ticks ≡ ticks_of elision
 
 -- Where the elision finishes without race, a run of the cluster ends as it does: no run traps, none whose nodes may each make the elision's

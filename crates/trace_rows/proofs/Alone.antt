@@ -19,14 +19,15 @@ use Rattle.determinacy.proofs.Rows.{either_bool, same_is, given, grew, still, bl
 use Rattle.determinacy.proofs.Matches.{asked}
 use Rattle.word_order.proofs.Rows.{shown, act_by, acts_before, number_get}
 use Rattle.word_order.proofs.Places.{AreRows, number_is}
-use Rattle.trace_rows.proofs.RunAs.{RunAs, row_of_child}
+use Rattle.trace_rows.proofs.RunAs.{row_of_child}
+use Rattle.trace_rows.specs.RunAs.{RunAs}
 use Rattle.trace_rows.proofs.Blocks.{returned, block_of, have_returned, spawned_by}
 
-nothing_more : {A : Type 0} (list : List A) → list ++ [] ≡ list
+pub nothing_more : {A : Type 0} (list : List A) → list ++ [] ≡ list
 nothing_more list = search rules
 
 -- what is no item of the frame is no act of it
-no_act : (frames : List FrameId) (frame : FrameId) (event : Event) → by frame event ≡ false → act_by frames frame event ≡ []
+pub no_act : (frames : List FrameId) (frame : FrameId) (event : Event) → by frame event ≡ false → act_by frames frame event ≡ []
 unfolding by
 no_act frames frame (Acts node actor act) is = ap (λ b. cond b (shown frames act ∷ []) []) is
 no_act frames frame (Tick node actor) is = refl

@@ -11,7 +11,8 @@ use Rattle.backer_order.proofs.Search.{Less3, Same3, More3, compare}
 use Rattle.determinacy.specs.Replies.{Trace, by, children, children_after, want_of, want_at, Obeys}
 use Rattle.determinacy.proofs.Rows.{either_bool, same_is, by_acts, block_grew, block_still, settled}
 use Rattle.word_order.proofs.Places.{AreRows}
-use Rattle.trace_rows.proofs.RunAs.{RunAs, spawning, first_is_main}
+use Rattle.trace_rows.proofs.RunAs.{spawning, first_is_main}
+use Rattle.trace_rows.specs.RunAs.{RunAs}
 
 -- The frame has synced with the child in its block.
 pub record Joined (trace : Trace) (now : ℕ) (frame child : FrameId) : Type 0 where

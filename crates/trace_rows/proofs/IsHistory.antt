@@ -11,7 +11,8 @@ use Rattle.backer_order.specs.Log.{main_id}
 use Rattle.determinacy.specs.Replies.{Trace, children, state_at, want_at, Obeys}
 use Rattle.word_order.proofs.Rows.{acts_before}
 use Rattle.word_order.proofs.Places.{AreRows}
-use Rattle.trace_rows.proofs.RunAs.{RunAs, has_depth, main_procedure}
+use Rattle.trace_rows.proofs.RunAs.{has_depth, main_procedure}
+use Rattle.trace_rows.specs.RunAs.{RunAs}
 use Rattle.trace_rows.proofs.Blocks.{returned, returned_by, returned_is, block_of, value_back}
 use Rattle.trace_rows.proofs.Alone.{alone_run}
 use Rattle.trace_rows.proofs.Complete.{each_returned}

@@ -1,8 +1,10 @@
 pub mod Alone
 pub mod Blocks
 pub mod Complete
+pub mod InStep
 pub mod IsHistory
 pub mod NotParallel
+pub mod OneHistory
 pub mod Races
 pub mod RunAs
 pub mod Under

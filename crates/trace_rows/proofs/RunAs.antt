@@ -13,12 +13,7 @@ use Rattle.backer_order.specs.Log.{main_id, Spawn, Acts}
 use Rattle.determinacy.specs.Replies.{Instance, Trace, Obeys}
 use Rattle.word_order.proofs.Rows.{number_get}
 use Rattle.word_order.proofs.Places.{AreRows, act_here, place_for, stands, spawned_there}
-
--- A row has the procedure and the arguments of its frame, and `main` has a row.
-pub record RunAs (trace : Trace) (frames : List FrameId) (history : History) : Type 0 where
-  pub main_there : row_number frames main_id < length frames
-  pub procedure : (row : ℕ) (frame : FrameId) → slice_get frames row ≡ Some frame → (row_at history row).proc ≡ (trace.instance frame).procedure
-  pub arguments : (row : ℕ) (frame : FrameId) → slice_get frames row ≡ Some frame → (row_at history row).args ≡ (trace.instance frame).arguments
+use Rattle.trace_rows.specs.RunAs.{RunAs}
 
 -- the act that spawned the frame of a row, and its own frame and row
 pub record Spawning (trace : Trace) (now : ℕ) (frames : List FrameId) (history : History) (row : ℕ) (frame : FrameId) : Type 0 where

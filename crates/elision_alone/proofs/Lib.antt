@@ -1,0 +1,5 @@
+pub mod Alone
+pub mod Lines
+pub mod Prefixes
+pub mod RunsAs
+pub mod Serving

@@ -1,0 +1,87 @@
+-- Where the elision finishes without race, each run ends as it does.
+use Rattle.std.proofs.Common.{◌≡◌, ◌<◌, ⊥, ¬◌, ℕ, ℤ, List, Some, length, map, reverse, sym, ◌∙◌, subst, arith}
+use Rattle.cilk_meaning.specs.declared.ends.NodeEnd.TheVariants.{Finished, Trapped, Budget}
+use Rattle.cilk_meaning.specs.declared.ends.TrapKind.{TrapKind}
+use Rattle.cilk_meaning.specs.Instance.{limits, wants}
+use Rattle.cilk_meaning.specs.Parted.{IsParted}
+use Rattle.cilk_meaning.specs.Resolved.{Program}
+use Rattle.cilk_meaning.specs.Wants.{Request, Asks, Returns}
+use Rattle.cilk_meaning.specs.World.{End, ticks_of}
+use Rattle.machine_code.specs.StandsFor.{StandsFor, start_words_of}
+use Rattle.page_messages.specs.declared.closure.FrameId.{FrameId}
+use Rattle.page_messages.specs.declared.log.Turn.{Turn}
+use Rattle.span_tree.specs.History.{History}
+use Rattle.span_tree.specs.Memory.{HasNoRace}
+use Rattle.cluster_rules.specs.Histories.{IsHistoryOf}
+use Rattle.cluster_rules.specs.Positions.{Course, course_of}
+use Rattle.cluster_rules.specs.Runs.{Cluster, IsRun}
+use Rattle.cluster_rules.specs.Turns.{WholeTurn}
+use Rattle.cluster_order.specs.Reading.{memory_of}
+use Rattle.determinacy.specs.Determinate.{Determined, IsOpen}
+use Rattle.determinacy.proofs.Determined.{then_serial}
+use Rattle.elision_history.specs.Logged.{history_of}
+use Rattle.elision_trace.proofs.Elisions.{elision_ticks}
+use Rattle.elision_trace.proofs.NoRace.{elision_is_serial}
+use Rattle.trace_rows.proofs.Races.{no_race}
+use Rattle.run_ticks.proofs.Asked.{asked_none}
+use Rattle.run_answers.specs.Laws.{HasEnd, EndsAsElision, RaceFreeRunsEndAsElision, elision_of}
+use Rattle.run_answers.proofs.Elided.{trace, serial, finish, GoesThrough, is_elision}
+use Rattle.run_answers.proofs.Ends.{main_returned, trap_wanted, more_wanted, spent_items}
+use Rattle.run_answers.proofs.Executions.{begins, obeys_it, runs_program, rows_of}
+use Rattle.run_answers.proofs.OfTheProgram.{of_turns}
+
+module _ (cluster : Cluster) (program : Program) (log : List Turn) (run : IsRun cluster log) (stands : StandsFor cluster.code program) (parted : IsParted program)
+    (budget : ℕ) (finished : (elision_of cluster program budget).end ≡ Finished) (free : HasNoRace (history_of program (elision_of cluster program budget))) where
+  abbrev turns : List WholeTurn
+  turns = reverse run.turns
+
+  abbrev now : ℕ
+  now = length (course_of turns)
+
+  abbrev elision : End
+  elision = elision_of cluster program budget
+
+  -- the run goes as the elision
+  determined : Determined (wants program) (trace cluster program log run stands parted budget) (serial cluster program log run stands parted budget) (memory_of cluster)
+      (finish cluster program log run stands parted budget) now
+  determined =
+      then_serial (wants program) program.main (trace cluster program log run stands parted budget) (serial cluster program log run stands parted budget) (memory_of cluster)
+      (finish cluster program log run stands parted budget) (runs_program cluster program turns run.lawful stands parted)
+      (elision_is_serial limits program (start_words_of cluster.code) budget (memory_of cluster) parted (begins cluster) finished free) now
+
+  no_trap : (kind : TrapKind) → ¬ HasEnd log (Trapped kind)
+  no_trap kind has = let it = trap_wanted cluster program log run stands parted kind has in determined.no_trap it.0 kind it.1 it.2
+
+  -- a node has made all its ticks, and a frame is left
+  spent : HasEnd log Budget → cluster.config.budget < ticks_of elision
+  spent has =
+      let it = more_wanted cluster program log run stands parted has in
+      let fewer = determined.fewer it.0 it.2 (λ value returns. (let both = sym it.3 ∙ returns in absurd (cc))) in
+      let made = spent_items cluster program log run stands parted has in
+      let items = (elision_ticks limits program (start_words_of cluster.code) budget).1 in
+      omega (arith, fewer, made, items)
+
+  goes_through : HasEnd log Finished → GoesThrough cluster program log run stands parted budget
+  goes_through has =
+      let main = main_returned cluster program log run stands parted has in
+      record {
+        one = determined.history main.0 main.1;
+        word = determined.word main.0 main.1;
+        idle = asked_none cluster turns run.lawful program stands parted main.0 main.1;
+      }
+
+  no_race_here : (frames : List FrameId) (history : History) → IsHistoryOf cluster.code.main log frames history → HasNoRace history
+  no_race_here frames history its =
+      no_race (wants program) program.main (trace cluster program log run stands parted budget) (obeys_it cluster program turns run.lawful stands parted) now frames history
+      (rows_of cluster program turns run.lawful stands parted frames history (of_turns cluster log run frames history its)) determined.free
+
+  pub ends_as_elision : EndsAsElision cluster program log run elision
+  ends_as_elision = record {
+    no_trap = no_trap;
+    spent = spent;
+    finished = λ has. is_elision cluster program log run stands parted budget (goes_through has) (subst (HasEnd log) (sym finished) has);
+    no_race = no_race_here;
+  }
+
+pub race_free_runs_end_as_elision : RaceFreeRunsEndAsElision
+race_free_runs_end_as_elision cluster program log budget stands parted run finished free = ends_as_elision cluster program log run stands parted budget finished free

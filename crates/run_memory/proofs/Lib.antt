@@ -1,0 +1,3 @@
+pub mod LastOnes
+pub mod Left
+pub mod RunMemory
