@@ -1,8 +1,7 @@
 -- Which adds are asked for by a message: those that a home serves while it owes one, and no others.
-use Rattle.std.proofs.Common.{◌≡◌, ◌≢◌, ◌<◌, ◌≤◌, ◌+◌, ◌⊎◌, inl, inr, ℕ, zero, suc, ℤ, List, [], ◌∷◌, ◌++◌, Option, Some, Bool, true, false, cond, not, eqb, ◌&&◌, ◌||◌, refl, sym, ◌∙◌, ap, subst, arith}
+use Rattle.std.proofs.Common.{◌≡◌, ◌≤◌, ◌+◌, ◌⊎◌, inl, inr, ℕ, zero, suc, ℤ, [], ◌∷◌, ◌++◌, Bool, true, false, cond, not, eqb, ◌&&◌, ◌||◌, refl, sym, ◌∙◌, ap, subst, arith}
 use Rattle.page_messages.specs.Posts.{note_of}
 use Rattle.page_messages.specs.declared.closure.FrameId.{FrameId}
-use Rattle.page_messages.specs.declared.message.Msg.{Msg}
 use Rattle.page_messages.specs.declared.message.Body.{Body}
 use Rattle.page_messages.specs.declared.message.Body.TheVariants as body
 use Rattle.page_messages.specs.declared.log.Item.{Item}
@@ -17,8 +16,8 @@ use Rattle.cluster_rules.specs.Allowed.{IsAllowed}
 use Rattle.cluster_rules.specs.Counting.{asks_for}
 use Rattle.cluster_rules.specs.Frames.{stack_of}
 use Rattle.cluster_rules.specs.Positions.{Moved, Course, own}
-use Rattle.cluster_rules.specs.Runs.{Cluster, IsFree, IsOwed, MayDo, node_at}
-use Rattle.cluster_rules.proofs.Stepping.{Step, Stepped}
+use Rattle.cluster_rules.specs.Runs.{Cluster, IsFree, MayDo, node_at}
+use Rattle.cluster_rules.proofs.Stepping.{Stepped}
 use Rattle.cluster_rules.proofs.Marks.{one, same_self, same_name, AddsFirst}
 use Rattle.cluster_rules.proofs.Testing.{own_number, both_true, neither}
 use Rattle.cluster_rules.proofs.Passing.{is_among}
@@ -28,24 +27,23 @@ use Rattle.cluster_rules.proofs.Phasing.{quiet_idle, is_one, equal_number}
 use Rattle.cluster_rules.proofs.Asking.{phased, asked_by}
 use Rattle.cluster_rules.proofs.UnderWay.{adds_body, add_from, owed_counts}
 use Rattle.cluster_rules.proofs.Claiming.{acts_before, claims_event}
-use Rattle.cluster_rules.proofs.Indexing.{HasMark, stack_mark, mark_named, first_stack_mark, mark_acts, index_is_count}
+use Rattle.cluster_rules.proofs.Indexing.{stack_mark, mark_named, first_stack_mark, mark_acts, index_is_count}
 use Rattle.run_ticks.proofs.Waiting.{first_amount, serves_amount, event_serves, posts_amount, posted_amount, served_amount, waiting, waiting_sum}
-
-never : (b : Bool) → false ≡ b && false
-never true = refl
-never false = refl
 
 both_false : (first second : Bool) → second ≡ false → first && second ≡ false
 both_false true second is = is
 both_false false second is = refl
 
+never : (b : Bool) → false ≡ b && false
+never b = sym (both_false b false refl)
+
 pub some_of : (first second : ℕ) → 1 ≤ first + second → (1 ≤ first) ⊎ (1 ≤ second)
 some_of zero second some = inr (omega (arith, some))
 some_of (suc first) second some = inl (omega arith)
 
-or_right : (first second : Bool) → second ≡ true → first || second ≡ true
-or_right true second is = refl
-or_right false second is = is
+either_true : (first second : Bool) → second ≡ true → first || second ≡ true
+either_true true second is = refl
+either_true false second is = is
 
 module _ (frame : FrameId) (index : ℕ) where
   -- a message that asks for the act of this frame and index is posted
@@ -220,7 +218,7 @@ module _ (frame : FrameId) (index : ℕ) where
 
     asked_more : (newer course : Course) → asked_in course ≡ true → asked_in (newer ++ course) ≡ true
     asked_more [] course is = is
-    asked_more (moved ∷ newer) course is = or_right (asks_event moved.event) (asked_in (newer ++ course)) (asked_more newer course is)
+    asked_more (moved ∷ newer) course is = either_true (asks_event moved.event) (asked_in (newer ++ course)) (asked_more newer course is)
 
     module _ (moved : Moved) (course : Course) (word : ℕ) (old addend : ℤ) (is : moved.event ≡ Did (item.Served frame index word old addend)) (stepped : Stepped cluster (moved ∷ course)) where
       abbrev past : Past

@@ -1,5 +1,5 @@
 -- What a log counts as the ticks of a node are the ticks of its past, and their sum is that of the trace.
-use Rattle.std.proofs.Common.{◌≡◌, ◌<◌, ◌+◌, ℕ, zero, suc, ℤ, List, [], ◌∷◌, ◌++◌, Option, Some, None, Bool, true, false, cond, not, eqb, ◌||◌, length, map, reverse, refl, sym, ◌∙◌, ap, subst, append_assoc, arith}
+use Rattle.std.proofs.Common.{◌≡◌, ◌+◌, ℕ, zero, suc, List, [], ◌∷◌, ◌++◌, Option, Some, None, Bool, true, false, cond, not, eqb, ◌||◌, length, map, reverse, refl, sym, ◌∙◌, ap, subst, append_assoc, arith}
 use Rattle.std.proofs.lemmas.List.{map-append, reverse-append, append-nil}
 use Rattle.std.proofs.lemmas.List.Folds.{list_any-append}
 use Rattle.std.proofs.lemmas.List.FromFn.{sum_by-map-range_with_len_more}
@@ -18,9 +18,7 @@ use Rattle.page_messages.specs.declared.log.Turn.{Turn}
 use Rattle.page_messages.specs.declared.post.Post.{Post}
 use Rattle.cluster_rules.specs.Counting.{posts_of, asks_for, is_asked, item_ticks, is_add, turn_ticks, ticks_in, counts_of}
 use Rattle.cluster_rules.specs.Frames.{ticks_on, ticks_of}
-use Rattle.cluster_rules.specs.Home.{owed_adds}
-use Rattle.cluster_rules.specs.Walking.{is_empty}
-use Rattle.cluster_rules.specs.Positions.{Moved, Course, with_items, with_posts, with_taking, with_end, with_turn, course_of, own}
+use Rattle.cluster_rules.specs.Positions.{Moved, Course, with_items, with_posts, with_taking, with_end, course_of, own}
 use Rattle.cluster_rules.specs.Runs.{Cluster, IsLawful, logged}
 use Rattle.cluster_rules.specs.Sendings.{adds_in}
 use Rattle.cluster_rules.specs.Turns.{WholeTurn, Event, Did, Sent, Took, Ended, Past, did, sent, took, ended, after_turn, posted_at, past_of}
@@ -30,7 +28,7 @@ use Rattle.cluster_rules.proofs.Stepping.{Stepped, lawful_stepped}
 use Rattle.cluster_rules.proofs.Summing.{sum_below, sum_same}
 use Rattle.run_ticks.specs.Laws.{items_in}
 use Rattle.run_ticks.specs.Posted.{adds_under_way}
-use Rattle.run_ticks.proofs.Asked.{asks_event, asked_in, served_asked, stepped_front}
+use Rattle.run_ticks.proofs.Asked.{asked_in, served_asked, stepped_front}
 use Rattle.run_ticks.proofs.Ticking.{ticks_sum}
 
 abbrev pub log_of : List WholeTurn → List Turn

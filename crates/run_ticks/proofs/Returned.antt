@@ -1,5 +1,5 @@
 -- Where `main` has returned, no Add is under way: a frame that waits for one has not returned.
-use Rattle.std.proofs.Common.{◌≡◌, ◌<◌, ◌≤◌, ◌+◌, ◌⊎◌, inl, inr, ℕ, zero, suc, ℤ, List, [], ◌∷◌, Option, Some, None, Bool, true, false, length, refl, sym, ◌∙◌, ap, subst, arith}
+use Rattle.std.proofs.Common.{◌≡◌, ◌<◌, ◌≤◌, inl, inr, ℕ, zero, suc, ℤ, List, [], ◌∷◌, Some, None, Bool, true, false, length, refl, sym, ◌∙◌, ap, subst, arith}
 use Rattle.backer_order.specs.Log.{main_id}
 use Rattle.cilk_meaning.specs.Parted.{IsParted}
 use Rattle.cilk_meaning.specs.Resolved.{Program}
@@ -18,7 +18,6 @@ use Rattle.cluster_rules.specs.Positions.{Course, course_of, own}
 use Rattle.cluster_rules.specs.Runs.{Cluster, IsLawful, node_at}
 use Rattle.cluster_rules.specs.Sendings.{adds_in}
 use Rattle.cluster_rules.specs.Turns.{WholeTurn}
-use Rattle.cluster_rules.proofs.Stepping.{Stepped}
 use Rattle.cluster_rules.proofs.Letters.{Letter, letters_of, amount_of}
 use Rattle.cluster_rules.proofs.Summing.{sum_below, sum_one}
 use Rattle.cluster_rules.proofs.Marks.{one, same_self, AddsFirst}

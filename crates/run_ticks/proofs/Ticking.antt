@@ -16,17 +16,21 @@ use Rattle.cluster_rules.specs.Runs.{Cluster, IsFree, MayDo, node_at}
 use Rattle.cluster_rules.proofs.Stepping.{Stepped}
 use Rattle.cluster_rules.proofs.Summing.{sum_below, sum_none}
 use Rattle.cluster_rules.proofs.Marks.{one}
+use Rattle.cluster_rules.proofs.UnderWay.{sum_moved}
 use Rattle.cluster_order.specs.Reading.{happens_to, event_of, events_of}
 use Rattle.cluster_order.proofs.Growing.{at_behind, before_behind, at_last, before_last}
-use Rattle.determinacy.specs.Ending.{count, is_item, all_ticks}
+use Rattle.determinacy.specs.Ending.{count, is_item}
 use Rattle.determinacy.proofs.Counting.{count_yes, count_no, count_zero}
 use Rattle.run_ticks.specs.Laws.{items_in}
 use Rattle.run_ticks.specs.Posted.{posts_add, adds_posted, serves_item, serves_add, adds_served, adds_under_way}
-use Rattle.run_ticks.proofs.Waiting.{sum_event, first_amount, serves_amount, event_serves, posts_amount, posted_amount, served_amount, waiting, waiting_sum}
+use Rattle.run_ticks.proofs.Waiting.{first_amount, serves_amount, event_serves, posts_amount, posted_amount, served_amount, waiting, waiting_sum}
 
 -- the ticks of all nodes
 abbrev pub ticks_sum_of : Cluster → Course → ℕ
 ticks_sum_of cluster course = sum_below cluster.config.nodes (λ number. ticks_of (own number course))
+
+abbrev pub is_add : Msg → ℕ
+is_add message = one (adds_in message.body)
 
 -- ---- counts that agree below a number
 
@@ -65,7 +69,7 @@ module _ (cluster : Cluster) where
 
   ticks_more : (moved : Moved) (course : Course) → moved.node < cluster.config.nodes → ticks_sum_of cluster (moved ∷ course) ≡ ticks_sum_of cluster course + ticks_on moved.event (own moved.node course)
   unfolding ticks_of
-  ticks_more moved course less = let sum = sum_event cluster.config.nodes (λ number past. ticks_of past) moved course less in omega (arith, sum)
+  ticks_more moved course less = let sum = sum_moved cluster.config.nodes (λ number past. ticks_of past) moved.node moved.event moved.message course less in omega (arith, sum)
 
   -- ---- each event
 
@@ -101,9 +105,6 @@ module _ (cluster : Cluster) where
       let here = event_ticks course moved.node moved.message moved.event in omega (arith, before, ticks, items, here)
 
   -- ---- what is under way
-
-  abbrev pub is_add : Msg → ℕ
-  is_add message = one (adds_in message.body)
 
   served_first : (done : Item) (past : Past) (number : ℕ) → IsAllowed (node_at cluster number) past (Did done) → serves_amount is_add done (owed_adds past) ≡ serves_item done past
   served_first (item.Act frame index act) past number does = refl

@@ -1,5 +1,5 @@
 -- Adds that wait at their homes or travel there, by any measure of messages: as many as were posted, less those that were served.
-use Rattle.std.proofs.Common.{◌≡◌, ◌<◌, ◌+◌, ℕ, List, [], ◌∷◌, ◌++◌, Option, false, refl, ap, arith}
+use Rattle.std.proofs.Common.{◌≡◌, ◌<◌, ◌+◌, ℕ, List, [], ◌∷◌, Option, false, refl, ap, arith}
 use Rattle.page_messages.specs.declared.message.Msg.{Msg}
 use Rattle.page_messages.specs.declared.message.Body.{Body}
 use Rattle.page_messages.specs.declared.message.Body.TheVariants as body
@@ -13,19 +13,8 @@ use Rattle.cluster_rules.specs.Positions.{Moved, Course, own}
 use Rattle.cluster_rules.specs.Runs.{Cluster}
 use Rattle.cluster_rules.proofs.Stepping.{Carries, Stepped}
 use Rattle.cluster_rules.proofs.Letters.{letters_of, amount_of, letter_sent, letter_taken}
-use Rattle.cluster_rules.proofs.Summing.{sum_below, sum_change, sum_none}
-use Rattle.cluster_rules.proofs.Holding.{own_first, own_other}
-use Rattle.cluster_rules.proofs.UnderWay.{amount_in, owed_at, moved_by}
-
--- Where a sum over the pasts of all nodes goes with one event more.
-pub sum_event : (count : ℕ) (part : ℕ → Past → ℕ) (moved : Moved) (course : Course) → moved.node < count
-    → sum_below count (λ number. part number (own number (moved ∷ course))) + part moved.node (own moved.node course)
-    ≡ sum_below count (λ number. part number (own number course)) + part moved.node (moved.event ∷ own moved.node course)
-sum_event count part moved course less =
-    let sum = sum_change count (λ number. part number (own number course)) (λ number. part number (own number (moved ∷ course))) moved.node less
-    (λ number other. ap (part number) (own_other number moved course other)) in
-    let first = ap (part moved.node) (own_first moved course) in
-    omega (arith, sum, first)
+use Rattle.cluster_rules.proofs.Summing.{sum_below, sum_none}
+use Rattle.cluster_rules.proofs.UnderWay.{amount_in, amount_append, owed_at, moved_by, sum_moved}
 
 module _ (amount : Msg → ℕ) where
   -- what an event posts
@@ -67,10 +56,6 @@ module _ (amount : Msg → ℕ) where
   abbrev pub waiting : Cluster → Course → ℕ
   waiting cluster course = sum_below cluster.config.nodes (owed_at cluster course amount) + amount_of amount (letters_of course)
 
-  amount_last : (front : List Msg) (message : Msg) → amount_in amount (front ++ message ∷ []) ≡ amount_in amount front + amount message
-  amount_last [] message = omega arith
-  amount_last (first ∷ front) message = let rest = amount_last front message in omega (arith, rest)
-
   served_less : (done : Item) (adds : List Msg) → amount_in amount (after_served done adds) + serves_amount done adds ≡ amount_in amount adds
   served_less (item.Act frame index act) adds = omega arith
   served_less (item.Tick frame) adds = omega arith
@@ -93,14 +78,14 @@ module _ (amount : Msg → ℕ) where
     taken_more message adds body.Refuse is = let none = only message (ap adds_in is) in omega (arith, none)
     taken_more message adds (body.Done join index value) is = let none = only message (ap adds_in is) in omega (arith, none)
     taken_more message adds (body.Park join closure) is = let none = only message (ap adds_in is) in omega (arith, none)
-    taken_more message adds (body.Add frame index word addend) is = amount_last adds message
+    taken_more message adds (body.Add frame index word addend) is = let both = amount_append amount adds (message ∷ []) in omega (arith, both)
     taken_more message adds (body.Added old) is = let none = only message (ap adds_in is) in omega (arith, none)
 
     module _ (cluster : Cluster) where
       owed_sum : (moved : Moved) (course : Course) → moved.node < cluster.config.nodes
           → sum_below cluster.config.nodes (owed_at cluster (moved ∷ course) amount) + amount_in amount (owed_adds (own moved.node course))
           ≡ sum_below cluster.config.nodes (owed_at cluster course amount) + amount_in amount (owed_adds (moved.event ∷ own moved.node course))
-      owed_sum moved course less = sum_event cluster.config.nodes (λ number past. amount_in amount (owed_adds past)) moved course less
+      owed_sum moved course less = sum_moved cluster.config.nodes (λ number past. amount_in amount (owed_adds past)) moved.node moved.event moved.message course less
 
       event_waits : (course : Course) (node : ℕ) (here : Option PostAt) (event : Event) → Stepped cluster course → node < cluster.config.nodes → Carries course node here event
           → waiting cluster (moved_by node event here ∷ course) + event_serves event (own node course) ≡ waiting cluster course + posts_amount event
