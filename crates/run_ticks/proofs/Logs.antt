@@ -68,7 +68,8 @@ module _ (frame : FrameId) (index : ℕ) where
       asked_posts node (record place { index = place.index + 1 }) messages (record { node = node; event = Sent message; message = Some place } ∷ course)
       ∙ or_swap (asks_for frame index (note_of message.body)) (asked_in frame index course) (list_any asks_post (map post_of messages))
 
-  asked_taking : (node : ℕ) (place : Option PostAt) (message : Option Msg) (course : Course) → asked_in frame index (with_taking node place message course) ≡ asked_in frame index course
+  asked_taking : (node : ℕ) (place : Option PostAt) (message : Option Msg) (course : Course)
+      → asked_in frame index (with_taking node place message course) ≡ asked_in frame index course
   asked_taking node place None course = refl
   asked_taking node place (Some message) course = refl
 
@@ -112,7 +113,8 @@ module _ (log : List Turn) where
       let rest = did_ticks items (Did item ∷ past) in
       let first = sum_by-cons (λ it. cond (item_ticks log it) 1 0) item items in omega (arith, rest, first)
 
-  sent_ticks : (messages : List Msg) (past : Past) → past_ticks (sent messages past) ≡ past_ticks past + count_by (λ post. is_add post.note) (map post_of messages)
+  sent_ticks : (messages : List Msg) (past : Past)
+      → past_ticks (sent messages past) ≡ past_ticks past + count_by (λ post. is_add post.note) (map post_of messages)
   sent_ticks [] past = omega arith
   sent_ticks (message ∷ messages) past =
       let rest = sent_ticks messages (Sent message ∷ past) in
@@ -168,7 +170,8 @@ module _ (log : List Turn) where
   told_add (body.Add frame index word addend) = refl
   told_add (body.Added old) = refl
 
-  module _ (cluster : Cluster) (all : Course) (stepped : Stepped cluster all) (asked : (frame : FrameId) (index : ℕ) → is_asked log frame index ≡ asked_in frame index all) where
+  module _ (cluster : Cluster) (all : Course) (stepped : Stepped cluster all)
+      (asked : (frame : FrameId) (index : ℕ) → is_asked log frame index ≡ asked_in frame index all) where
     event_told : (newer : Course) (moved : Moved) (course : Course) → newer ++ moved ∷ course ≡ all → (event : Event) → moved.event ≡ event
         → told_ticks event ≡ ticks_on event (own moved.node course)
     event_told newer moved course parts (Did (item.Act frame index act)) is = refl
@@ -179,8 +182,9 @@ module _ (log : List Turn) where
     event_told newer moved course parts (Did (item.OwnReconcile part)) is = refl
     event_told newer moved course parts (Did (item.Served frame index word old addend)) is =
         let whole : Stepped cluster (newer ++ moved ∷ course) = subst (Stepped cluster) (sym parts) stepped in
+        let front = stepped_front frame index cluster newer (moved ∷ course) whole in
         ap (λ it. cond (not it) 1 0) (asked frame index ∙ ap (asked_in frame index) (sym parts))
-        ∙ ap (λ b. cond b 1 0) (served_asked frame index cluster moved course word old addend is (stepped_front frame index cluster newer (moved ∷ course) whole) newer whole)
+        ∙ ap (λ b. cond b 1 0) (served_asked frame index cluster moved course word old addend is front newer whole)
     event_told newer moved course parts (Sent message) is = ap (λ b. cond b 1 0) (told_add message.body)
     event_told newer moved course parts (Took message) is = refl
     event_told newer moved course parts (Ended end) is = refl
@@ -195,7 +199,8 @@ module _ (log : List Turn) where
             → past_ticks (cond b (moved.event ∷ own node course) (own node course)) ≡ ticks_of (cond b (moved.event ∷ own node course) (own node course))
         on true is before =
             let here : told_ticks moved.event ≡ ticks_on moved.event (own node course) =
-            subst (λ it. told_ticks moved.event ≡ ticks_on moved.event (own it course)) (equal_number moved.node node is) (event_told newer moved course parts moved.event refl) in
+            subst (λ it. told_ticks moved.event ≡ ticks_on moved.event (own it course)) (equal_number moved.node node is)
+            (event_told newer moved course parts moved.event refl) in
             omega (arith, before, here)
         on false is before = before
 
@@ -206,7 +211,8 @@ module _ (cluster : Cluster) (turns : List WholeTurn) (lawful : IsLawful cluster
   pub node_ticks : (node : ℕ) → ticks_in (log_of turns) node ≡ ticks_of (past_of node turns)
   node_ticks node =
       turns_told (log_of turns) node turns ∙ ap (past_ticks (log_of turns)) (sym (own_course node turns))
-      ∙ past_told (log_of turns) cluster (course_of turns) (lawful_stepped cluster turns lawful) (λ frame index. asked_log frame index turns) node [] (course_of turns) refl
+      ∙ past_told (log_of turns) cluster (course_of turns) (lawful_stepped cluster turns lawful)
+      (λ frame index. asked_log frame index turns) node [] (course_of turns) refl
       ∙ ap ticks_of (own_course node turns)
 
   sum_counted : (amount : ℕ → ℕ) (count : ℕ) → sum (map amount (range_with_len 0 count)) ≡ sum_below count amount
@@ -214,7 +220,8 @@ module _ (cluster : Cluster) (turns : List WholeTurn) (lawful : IsLawful cluster
   sum_counted amount (suc count) =
       let next : suc count ≡ count + 1 = omega arith in
       let more = sum_by-map-range_with_len_more (λ it. it) amount 0 count count (omega arith) in
-      let last : sum (map amount (range_with_len 0 (suc count))) ≡ sum (map amount (range_with_len 0 (count + 1))) = ap (λ it. sum (map amount (range_with_len 0 it))) next in
+      let last : sum (map amount (range_with_len 0 (suc count))) ≡ sum (map amount (range_with_len 0 (count + 1))) =
+      ap (λ it. sum (map amount (range_with_len 0 it))) next in
       let before = sum_counted amount count in omega (arith, more, last, before)
 
   -- The ticks that the log counts for all nodes are the items of the trace and the Adds under way.

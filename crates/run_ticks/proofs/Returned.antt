@@ -110,7 +110,8 @@ some_waits cluster course some =
 
 -- ---- no frame waits
 
-module _ (cluster : Cluster) (turns : List WholeTurn) (lawful : IsLawful cluster turns) (program : Program) (stands : StandsFor cluster.code program) (parted : IsParted program) where
+module _ (cluster : Cluster) (turns : List WholeTurn) (lawful : IsLawful cluster turns) (program : Program)
+    (stands : StandsFor cluster.code program) (parted : IsParted program) where
   abbrev course : Course
   course = course_of turns
 
@@ -131,12 +132,13 @@ module _ (cluster : Cluster) (turns : List WholeTurn) (lawful : IsLawful cluster
 
   module _ (value : ℤ) (returned : want_at (starts cluster.code) trace now main_id ≡ Some (Returns value)) where
     -- the first frame of a stack wants no add, since it has returned
-    none_first : (frame : FrameId) (index : ℕ) (stack : List Life) → Stacked cluster program stands trace now course [] stack → Each (IsBorn cluster turns lawful now) stack
-        → AddsFirst frame index stack → ⊥
+    none_first : (frame : FrameId) (index : ℕ) (stack : List Life) → Stacked cluster program stands trace now course [] stack
+        → Each (IsBorn cluster turns lawful now) stack → AddsFirst frame index stack → ⊥
     none_first frame index [] all born adds = absurd adds
     none_first frame index (life ∷ below) all born adds =
         let wants = account_wants cluster program stands trace now course life [] all.0 ∙ adds.2.2 in
-        let ended = complete (starts cluster.code) cluster.code.main trace (obeys cluster turns lawful program stands parted) now value returned life.id born.0 in
+        let keeps = obeys cluster turns lawful program stands parted in
+        let ended = complete (starts cluster.code) cluster.code.main trace keeps now value returned life.id born.0 in
         let both : Some (Asks (want.Add adds.2.0 adds.2.1)) ≡ Some (Returns ended.0) = sym wants ∙ ended.1 in absurd (cc)
 
     none_asks : (number : ℕ) (frame : FrameId) (index : ℕ) → phase_of number course ≡ Asked frame index → ⊥

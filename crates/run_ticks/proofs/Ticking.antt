@@ -53,10 +53,13 @@ count_more holds number = on (holds number) refl
     on false is = let same = count_no holds number is in omega (arith, same)
 
 module _ (cluster : Cluster) where
-  items_more : (moved : Moved) (course : Course) → items_in cluster (moved ∷ course) ≡ items_in cluster course + one (is_item (happens_to cluster course moved.node moved.message moved.event))
+  items_more : (moved : Moved) (course : Course) → items_in cluster (moved ∷ course)
+      ≡ items_in cluster course + one (is_item (happens_to cluster course moved.node moved.message moved.event))
   items_more moved course =
       let more = count_more (λ position. is_item (events_of cluster (moved ∷ course) position)) (length course) in
-      let same = count_same (length course) (λ position. is_item (events_of cluster (moved ∷ course) position)) (λ position. is_item (events_of cluster course position)) earlier in
+      let same =
+      count_same (length course) (λ position. is_item (events_of cluster (moved ∷ course) position))
+      (λ position. is_item (events_of cluster course position)) earlier in
       let last = ap (λ it. one (is_item it)) here in omega (arith, more, same, last)
     where
       earlier : (position : ℕ) → position < length course → is_item (events_of cluster (moved ∷ course) position) ≡ is_item (events_of cluster course position)
@@ -65,11 +68,14 @@ module _ (cluster : Cluster) where
           ∙ ap (λ it. is_item (event_of cluster (before course position) it)) (at_behind (moved ∷ []) course position less)
 
       here : events_of cluster (moved ∷ course) (length course) ≡ happens_to cluster course moved.node moved.message moved.event
-      here = ap (λ it. event_of cluster it (at (moved ∷ course) (length course))) (before_last moved course) ∙ ap (event_of cluster course) (at_last moved course)
+      here =
+          ap (λ it. event_of cluster it (at (moved ∷ course) (length course))) (before_last moved course) ∙ ap (event_of cluster course) (at_last moved course)
 
-  ticks_more : (moved : Moved) (course : Course) → moved.node < cluster.config.nodes → ticks_sum_of cluster (moved ∷ course) ≡ ticks_sum_of cluster course + ticks_on moved.event (own moved.node course)
+  ticks_more : (moved : Moved) (course : Course) → moved.node < cluster.config.nodes
+      → ticks_sum_of cluster (moved ∷ course) ≡ ticks_sum_of cluster course + ticks_on moved.event (own moved.node course)
   unfolding ticks_of
-  ticks_more moved course less = let sum = sum_moved cluster.config.nodes (λ number past. ticks_of past) moved.node moved.event moved.message course less in omega (arith, sum)
+  ticks_more moved course less =
+      let sum = sum_moved cluster.config.nodes (λ number past. ticks_of past) moved.node moved.event moved.message course less in omega (arith, sum)
 
   -- ---- each event
 
@@ -93,7 +99,9 @@ module _ (cluster : Cluster) where
 
   none_first : ticks_sum_of cluster [] ≡ items_in cluster []
   unfolding ticks_of
-  none_first = let none = sum_none cluster.config.nodes (λ number. 0) (λ number less. refl) in let zeros = count_zero (λ at. is_item (events_of cluster [] at)) in omega (arith, none, zeros)
+  none_first =
+      let none = sum_none cluster.config.nodes (λ number. 0) (λ number less. refl) in
+      let zeros = count_zero (λ at. is_item (events_of cluster [] at)) in omega (arith, none, zeros)
 
   -- Adds that were served are ticks of their posts.
   posted_sum : (course : Course) → Stepped cluster course → ticks_sum_of cluster course + adds_served course ≡ items_in cluster course + adds_posted course
@@ -106,7 +114,8 @@ module _ (cluster : Cluster) where
 
   -- ---- what is under way
 
-  served_first : (done : Item) (past : Past) (number : ℕ) → IsAllowed (node_at cluster number) past (Did done) → serves_amount is_add done (owed_adds past) ≡ serves_item done past
+  served_first : (done : Item) (past : Past) (number : ℕ) → IsAllowed (node_at cluster number) past (Did done)
+      → serves_amount is_add done (owed_adds past) ≡ serves_item done past
   served_first (item.Act frame index act) past number does = refl
   served_first (item.Tick frame) past number does = refl
   served_first (item.Drop page) past number does = refl
@@ -115,12 +124,14 @@ module _ (cluster : Cluster) where
   served_first (item.OwnReconcile part) past number does = refl
   served_first (item.Served frame index word old addend) past number does = on does.may
     where
-      on : Serves (node_at cluster number) past frame index word old addend ⊎ (IsFree past × MayDo (node_at cluster number) past (item.Served frame index word old addend) does.rest does.posts)
+      on : Serves (node_at cluster number) past frame index word old addend
+          ⊎ (IsFree past × MayDo (node_at cluster number) past (item.Served frame index word old addend) does.rest does.posts)
           → first_amount is_add (owed_adds past) ≡ cond (is_empty (owed_adds past)) 0 1
       on (inl serves) = rw serves.oldest (ap (λ it. one (adds_in it)) serves.asked)
       on (inr both) = rw both.0.none_owed refl
 
-  served_event : (event : Event) (past : Past) (number : ℕ) → IsAllowed (node_at cluster number) past event → event_serves is_add event past ≡ serves_add event past
+  served_event : (event : Event) (past : Past) (number : ℕ) → IsAllowed (node_at cluster number) past event
+      → event_serves is_add event past ≡ serves_add event past
   served_event (Did done) past number does = served_first done past number does
   served_event (Sent message) past number does = refl
   served_event (Took message) past number does = refl

@@ -68,7 +68,8 @@ module _ (amount : Msg → ℕ) where
 
   -- where Adds alone are measured
   module _ (only : (message : Msg) → adds_in message.body ≡ false → amount message ≡ 0) where
-    taken_more : (message : Msg) (adds : List Msg) (said : Body) → message.body ≡ said → amount_in amount (with_add said message adds) ≡ amount_in amount adds + amount message
+    taken_more : (message : Msg) (adds : List Msg) (said : Body) → message.body ≡ said
+        → amount_in amount (with_add said message adds) ≡ amount_in amount adds + amount message
     taken_more message adds (body.Fetch page) is = let none = only message (ap adds_in is) in omega (arith, none)
     taken_more message adds (body.Page page words) is = let none = only message (ap adds_in is) in omega (arith, none)
     taken_more message adds (body.Reconcile parts) is = let none = only message (ap adds_in is) in omega (arith, none)
@@ -85,9 +86,11 @@ module _ (amount : Msg → ℕ) where
       owed_sum : (moved : Moved) (course : Course) → moved.node < cluster.config.nodes
           → sum_below cluster.config.nodes (owed_at cluster (moved ∷ course) amount) + amount_in amount (owed_adds (own moved.node course))
           ≡ sum_below cluster.config.nodes (owed_at cluster course amount) + amount_in amount (owed_adds (moved.event ∷ own moved.node course))
-      owed_sum moved course less = sum_moved cluster.config.nodes (λ number past. amount_in amount (owed_adds past)) moved.node moved.event moved.message course less
+      owed_sum moved course less =
+          sum_moved cluster.config.nodes (λ number past. amount_in amount (owed_adds past)) moved.node moved.event moved.message course less
 
-      event_waits : (course : Course) (node : ℕ) (here : Option PostAt) (event : Event) → Stepped cluster course → node < cluster.config.nodes → Carries course node here event
+      event_waits : (course : Course) (node : ℕ) (here : Option PostAt) (event : Event) → Stepped cluster course → node < cluster.config.nodes
+          → Carries course node here event
           → waiting cluster (moved_by node event here ∷ course) + event_serves event (own node course) ≡ waiting cluster course + posts_amount event
       unfolding owed_adds
       event_waits course node here (Did done) stepped less carries =
