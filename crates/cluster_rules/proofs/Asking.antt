@@ -1,5 +1,6 @@
 -- One Add of a node is under way at most, and while one is, the frame that wants it stays the first of the stack.
-use Rattle.std.proofs.Common.{◌≡◌, ◌≢◌, ◌≤◌, ◌<◌, ◌+◌, ◌⊎◌, inl, inr, ℕ, ℤ, List, [], ◌∷◌, Option, Bool, true, false, cond, eqb, ◌&&◌, ◌||◌, refl, sym, ◌∙◌, ap, subst, arith}
+use Rattle.std.proofs.Common.{◌≡◌, ◌≢◌, ◌≤◌, ◌<◌, ◌+◌, ◌⊎◌, inl, inr, ℕ, ℤ, List, [], ◌∷◌}
+use Rattle.std.proofs.Common.{Option, Bool, true, false, cond, eqb, ◌&&◌, ◌||◌, refl, sym, ◌∙◌, ap, subst, arith}
 use Rattle.std.specs.Ordering.{int_eq}
 use Rattle.cilk_meaning.specs.declared.ends.NodeEnd.{NodeEnd}
 use Rattle.page_messages.specs.declared.closure.FrameId.{FrameId}
@@ -31,6 +32,10 @@ use Rattle.cluster_rules.proofs.Phasing.{Phased, equal_number, cond_same, is_one
 use Rattle.cluster_rules.proofs.Testing.{own_number, other_number}
 use Rattle.cluster_rules.proofs.Phasing.{first_parked, awaits_more, stack_more, first_more, kept, quiet_idle}
 
+-- it tells no old value
+abbrev TellsNone : Body → Type 0
+TellsNone said = (such : ℤ → Bool) (number receiver : ℕ) → tells_body such number receiver said ≡ false
+
 -- ---- one event more
 
 module _ (cluster : Cluster) (course : Course) (node : ℕ) (here : Option PostAt) (less : node < cluster.config.nodes) (phased : Phased cluster course) where
@@ -48,7 +53,8 @@ module _ (cluster : Cluster) (course : Course) (node : ℕ) (here : Option PostA
       kept cluster course node here less phased (Did done) (λ number. same number (phase_of number course))
       (λ number frame index. adds_kept cluster course node here less number frame index done served)
       (λ such number. let olds = olds_did cluster course node here less such number done in
-      let none : amount_in (old_to such number) (told_by (node_at cluster node) done (owed_adds past)) ≡ 0 = ap (amount_in (old_to such number)) told in omega (arith, olds, none))
+      let none : amount_in (old_to such number) (told_by (node_at cluster node) done (owed_adds past)) ≡ 0 = ap (amount_in (old_to such number)) told in
+      omega (arith, olds, none))
       refl (first_idle (phase_of node course) (stack_of (node_at cluster node) (Did done ∷ past)) (quiet_idle cluster course node here less phased free.quiet))
 
   module _ (frame : FrameId) (index word : ℕ) (old addend : ℤ) (serves : Serves (node_at cluster node) past frame index word old addend) where
@@ -89,9 +95,11 @@ module _ (cluster : Cluster) (course : Course) (node : ℕ) (here : Option PostA
         on true is = subst P (equal_number asker number is) asks
         on false is = others number is
 
-    told_amount : (such : ℤ → Bool) (number : ℕ)
-        → amount_in (old_to such number) (told_by (node_at cluster node) (item.Served frame index word old addend) (owed_adds past)) ≡ one (eqb asker number && such old) + 0
-    told_amount such number = ap (λ it. amount_in (old_to such number) (told_by (node_at cluster node) (item.Served frame index word old addend) it)) serves.oldest
+    abbrev tells : List Msg → List Msg
+    tells = told_by (node_at cluster node) (item.Served frame index word old addend)
+
+    told_amount : (such : ℤ → Bool) (number : ℕ) → amount_in (old_to such number) (tells (owed_adds past)) ≡ one (eqb asker number && such old) + 0
+    told_amount such number = ap (λ it. amount_in (old_to such number) (tells it)) serves.oldest
 
     adds_asker : (other : FrameId) (acts : ℕ) → under_way cluster (more served) asker other acts ≡ one (is_asked other acts (phase_of asker (more served)))
     adds_asker other acts =
@@ -113,19 +121,20 @@ module _ (cluster : Cluster) (course : Course) (node : ℕ) (here : Option PostA
     olds_asker : (such : ℤ → Bool) → to_tell cluster (more served) such asker ≡ one (is_told such (phase_of asker (more served)))
     olds_asker such =
         let change = olds_did cluster course node here less such asker (item.Served frame index word old addend) in
-        let amount : amount_in (old_to such asker) (told_by (node_at cluster node) (item.Served frame index word old addend) (owed_adds past)) ≡ one (such old) + 0 = told_amount such asker
-        ∙ ap (λ b. one (b && such old) + 0) (own_number asker) in
+        let amount : amount_in (old_to such asker) (tells (owed_adds past)) ≡ one (such old) + 0 =
+        told_amount such asker ∙ ap (λ b. one (b && such old) + 0) (own_number asker) in
         let before : to_tell cluster course such asker ≡ 0 = phased.olds such asker ∙ ap (λ it. one (is_told such it)) was_asked in
         let after : one (is_told such (phase_of asker (more served))) ≡ one (such old) = ap (λ it. one (is_told such it)) phase_asker in
         omega (arith, change, amount, before, after)
 
-    olds_others : (such : ℤ → Bool) (number : ℕ) → eqb asker number ≡ false → to_tell cluster (more served) such number ≡ one (is_told such (phase_of number (more served)))
+    olds_others : (such : ℤ → Bool) (number : ℕ) → eqb asker number ≡ false
+        → to_tell cluster (more served) such number ≡ one (is_told such (phase_of number (more served)))
     olds_others such number apart =
         let change = olds_did cluster course node here less such number (item.Served frame index word old addend) in
-        let amount : amount_in (old_to such number) (told_by (node_at cluster node) (item.Served frame index word old addend) (owed_adds past)) ≡ 0 =
-        told_amount such number ∙ ap (λ b. one (b && such old) + 0) apart in
+        let amount : amount_in (old_to such number) (tells (owed_adds past)) ≡ 0 = told_amount such number ∙ ap (λ b. one (b && such old) + 0) apart in
         let before = phased.olds such number in
-        let after : one (is_told such (phase_of number (more served))) ≡ one (is_told such (phase_of number course)) = ap (λ it. one (is_told such it)) (phase_others number apart) in
+        let after : one (is_told such (phase_of number (more served))) ≡ one (is_told such (phase_of number course)) =
+        ap (λ it. one (is_told such it)) (phase_others number apart) in
         omega (arith, change, amount, before, after)
 
     served_phased : Phased cluster (more served)
@@ -143,7 +152,8 @@ module _ (cluster : Cluster) (course : Course) (node : ℕ) (here : Option PostA
           (subst (λ it. IsFirst it (stack_of (node_at cluster number) (own number course))) (sym (phase_others number apart)) (phased.first number)));
       adds = λ number other acts. by_number (λ number. under_way cluster (more served) number other acts ≡ one (is_asked other acts (phase_of number (more served))))
           (adds_asker other acts) (λ number apart. adds_others other acts number apart) number;
-      olds = λ such. by_number (λ number. to_tell cluster (more served) such number ≡ one (is_told such (phase_of number (more served)))) (olds_asker such) (olds_others such);
+      olds = λ such. by_number (λ number. to_tell cluster (more served) such number ≡ one (is_told such (phase_of number (more served))))
+          (olds_asker such) (olds_others such);
     }
 
   free_of : (done : Item) (rest : List Item) (posts : List Msg) → (IsOwed (node_at cluster node) past done → ⊥)
@@ -162,7 +172,8 @@ module _ (cluster : Cluster) (course : Course) (node : ℕ) (here : Option PostA
   did_phased (item.Served frame index word old addend) rest posts (inl serves) = served_phased frame index word old addend serves
   did_phased (item.Served frame index word old addend) rest posts (inr both) =
       let none = both.0.none_owed in
-      did_kept (item.Served frame index word old addend) (λ number phase. ap (λ adds. after_adding number frame index old adds phase) none) (ap rest_of none ∙ sym none)
+      did_kept (item.Served frame index word old addend) (λ number phase. ap (λ adds. after_adding number frame index old adds phase) none)
+      (ap rest_of none ∙ sym none)
       (ap (told_by (node_at cluster node) (item.Served frame index word old addend)) none) both.0
 
   -- ---- posts
@@ -189,7 +200,7 @@ module _ (cluster : Cluster) (course : Course) (node : ℕ) (here : Option PostA
         olds (ap (λ it. adds_in it || awaits ForAdded past) is ∙ ap (λ b. b || awaits ForAdded past) waits)
         (subst (λ it. IsFirst (phase_of node course) (stack_sent it (stack_of (node_at cluster node) past))) (sym is) first)
 
-    olds_stay : (said : Body) → message.body ≡ said → tells_in said ≡ false → ((such : ℤ → Bool) (number receiver : ℕ) → tells_body such number receiver said ≡ false)
+    olds_stay : (said : Body) → message.body ≡ said → tells_in said ≡ false → TellsNone said
         → (such : ℤ → Bool) (number : ℕ) → to_tell cluster (more post) such number ≡ to_tell cluster course such number
     olds_stay said is other none such number =
         olds_posted cluster course node here less such number message posts (ap tells_in is ∙ other)
@@ -272,32 +283,43 @@ module _ (cluster : Cluster) (course : Course) (node : ℕ) (here : Option PostA
     sent_phased : (said : Body) → message.body ≡ said → (replies_in said ≡ true) ⊎ MayPost (node_at cluster node) past message.receiver said → Phased cluster (more post)
     sent_phased (body.Fetch page) is (inl reply) = absurd (cc)
     sent_phased (body.Fetch page) is (inr may) =
-        other_post (body.Fetch page) is (λ phase. refl) (λ number frame index sender. refl) (olds_stay (body.Fetch page) is refl (λ such number receiver. refl)) refl
+        other_post (body.Fetch page) is (λ phase. refl) (λ number frame index sender. refl)
+        (olds_stay (body.Fetch page) is refl (λ such number receiver. refl)) refl
         (first_idle (phase_of node course) (live (stack_of (node_at cluster node) past)) (quiet_idle cluster course node here less phased may.quiet))
     sent_phased (body.Page page words) is may =
-        other_post (body.Page page words) is (λ phase. refl) (λ number frame index sender. refl) (olds_stay (body.Page page words) is refl (λ such number receiver. refl)) refl first_here
+        other_post (body.Page page words) is (λ phase. refl) (λ number frame index sender. refl)
+        (olds_stay (body.Page page words) is refl (λ such number receiver. refl)) refl first_here
     sent_phased (body.Reconcile parts) is may =
-        other_post (body.Reconcile parts) is (λ phase. refl) (λ number frame index sender. refl) (olds_stay (body.Reconcile parts) is refl (λ such number receiver. refl)) refl first_here
-    sent_phased body.Ack is may = other_post body.Ack is (λ phase. refl) (λ number frame index sender. refl) (olds_stay body.Ack is refl (λ such number receiver. refl)) refl first_here
-    sent_phased body.Ask is may = other_post body.Ask is (λ phase. refl) (λ number frame index sender. refl) (olds_stay body.Ask is refl (λ such number receiver. refl)) refl first_here
+        other_post (body.Reconcile parts) is (λ phase. refl) (λ number frame index sender. refl)
+        (olds_stay (body.Reconcile parts) is refl (λ such number receiver. refl)) refl first_here
+    sent_phased body.Ack is may =
+        other_post body.Ack is (λ phase. refl) (λ number frame index sender. refl) (olds_stay body.Ack is refl (λ such number receiver. refl)) refl first_here
+    sent_phased body.Ask is may =
+        other_post body.Ask is (λ phase. refl) (λ number frame index sender. refl) (olds_stay body.Ask is refl (λ such number receiver. refl)) refl first_here
     sent_phased (body.Grant closure) is (inl reply) = absurd (cc)
     sent_phased (body.Grant closure) is (inr may) =
-        other_post (body.Grant closure) is (λ phase. refl) (λ number frame index sender. refl) (olds_stay (body.Grant closure) is refl (λ such number receiver. refl)) refl
+        other_post (body.Grant closure) is (λ phase. refl) (λ number frame index sender. refl)
+        (olds_stay (body.Grant closure) is refl (λ such number receiver. refl)) refl
         (first_granted (node_at cluster node) past message.receiver closure (phase_of node course) may first_here)
-    sent_phased body.Refuse is may = other_post body.Refuse is (λ phase. refl) (λ number frame index sender. refl) (olds_stay body.Refuse is refl (λ such number receiver. refl)) refl first_here
+    sent_phased body.Refuse is may =
+        other_post body.Refuse is (λ phase. refl) (λ number frame index sender. refl)
+        (olds_stay body.Refuse is refl (λ such number receiver. refl)) refl first_here
     sent_phased (body.Done join index value) is (inl reply) = absurd (cc)
     sent_phased (body.Done join index value) is (inr may) =
-        other_post (body.Done join index value) is (λ phase. refl) (λ number frame index sender. refl) (olds_stay (body.Done join index value) is refl (λ such number receiver. refl)) refl
+        other_post (body.Done join index value) is (λ phase. refl) (λ number frame index sender. refl)
+        (olds_stay (body.Done join index value) is refl (λ such number receiver. refl)) refl
         (first_done (phase_of node course) (stack_of (node_at cluster node) past) may.returned.none_left first_here)
     sent_phased (body.Park join closure) is (inl reply) = absurd (cc)
     sent_phased (body.Park join closure) is (inr may) =
-        other_post (body.Park join closure) is (λ phase. refl) (λ number frame index sender. refl) (olds_stay (body.Park join closure) is refl (λ such number receiver. refl)) refl
+        other_post (body.Park join closure) is (λ phase. refl) (λ number frame index sender. refl)
+        (olds_stay (body.Park join closure) is refl (λ such number receiver. refl)) refl
         (first_parked (phase_of node course) (stack_of (node_at cluster node) past) may.life may.at_join.alone may.at_join.wanted first_here)
     sent_phased (body.Add frame index word addend) is (inl reply) = absurd (cc)
     sent_phased (body.Add frame index word addend) is (inr may) = add_phased frame index word addend is may
     sent_phased (body.Added old) is (inl reply) = absurd (cc)
     sent_phased (body.Added old) is (inr may) =
-        other_post (body.Added old) is (λ phase. refl) (λ number frame index sender. refl) (λ such number. olds_told cluster course node here less such number message old posts is may) refl first_here
+        other_post (body.Added old) is (λ phase. refl) (λ number frame index sender. refl)
+        (λ such number. olds_told cluster course node here less such number message old posts is may) refl first_here
 
   -- ---- takings
 
@@ -309,7 +331,7 @@ module _ (cluster : Cluster) (course : Course) (node : ℕ) (here : Option PostA
     phase_taken number said is = ap (λ it. cond (eqb node number) (after_taking it (phase_of number course)) (phase_of number course)) is
 
     -- it is no Added
-    other_taking : (said : Body) → message.body ≡ said → ((phase : Phase) → after_taking said phase ≡ phase) → ((such : ℤ → Bool) (number receiver : ℕ) → tells_body such number receiver said ≡ false)
+    other_taking : (said : Body) → message.body ≡ said → ((phase : Phase) → after_taking said phase ≡ phase) → TellsNone said
         → tells_in said ≡ false
         → stack_of (node_at cluster node) (taking ∷ past) ≡ stack_of (node_at cluster node) past → Phased cluster (more taking)
     other_taking said is same none other stack =
@@ -317,7 +339,9 @@ module _ (cluster : Cluster) (course : Course) (node : ℕ) (here : Option PostA
         (λ number. phase_taken number said is ∙ cond_same (eqb node number) (after_taking said (phase_of number course)) (phase_of number course) (same (phase_of number course)))
         (λ number frame index. adds_took cluster course node here less number frame index message stepped takes)
         (λ such number. let took = olds_took cluster course node here less such number message stepped takes in
-        let zero : old_to such number message ≡ 0 = ap (λ it. one (tells_body such number message.receiver it)) is ∙ ap one (none such number message.receiver) in omega (arith, took, zero))
+        let zero : old_to such number message ≡ 0 =
+        ap (λ it. one (tells_body such number message.receiver it)) is ∙ ap one (none such number message.receiver) in
+        omega (arith, took, zero))
         (awaits_took message past (ap tells_in is ∙ other))
         (subst (IsFirst (phase_of node course)) (sym stack) (phased.first node))
 
@@ -330,7 +354,8 @@ module _ (cluster : Cluster) (course : Course) (node : ℕ) (here : Option PostA
 
       old_amount : (such : ℤ → Bool) (number : ℕ) (b : Bool) → eqb node number ≡ b → old_to such number message ≡ one (b && such old)
       old_amount such number b same =
-          ap (λ it. one (tells_body such number message.receiver it)) is ∙ ap (λ it. one (eqb it number && such old)) takes.receiver ∙ ap (λ b. one (b && such old)) same
+          ap (λ it. one (tells_body such number message.receiver it)) is ∙ ap (λ it. one (eqb it number && such old)) takes.receiver
+          ∙ ap (λ b. one (b && such old)) same
 
       -- It is the old value that its home told for it.
       pub was_told : (frame : FrameId) × (acts : ℕ) × (phase_of node course ≡ Told frame acts old)
@@ -353,7 +378,8 @@ module _ (cluster : Cluster) (course : Course) (node : ℕ) (here : Option PostA
           let took = olds_took cluster course node here less such number message stepped takes in
           let amount : old_to such number message ≡ 0 = old_amount such number false (other_number node number (λ same. not (sym same))) in
           let before = phased.olds such number in
-          let after : one (is_told such (phase_of number (more taking))) ≡ one (is_told such (phase_of number course)) = ap (λ it. one (is_told such it)) (phase_far number not) in
+          let after : one (is_told such (phase_of number (more taking))) ≡ one (is_told such (phase_of number course)) =
+          ap (λ it. one (is_told such it)) (phase_far number not) in
           omega (arith, took, amount, before, after)
 
       by_place : (P : ℕ → Type 0) → P node → ((number : ℕ) → number ≢ node → P number) → (number : ℕ) → P number
@@ -375,7 +401,8 @@ module _ (cluster : Cluster) (course : Course) (node : ℕ) (here : Option PostA
             ∙ by_place (λ number. under_way cluster course number frame index ≡ one (is_asked frame index (phase_of number (more taking))))
             (phased.adds node frame index ∙ ap (λ it. one (is_asked frame index it)) was_told.2 ∙ ap (λ it. one (is_asked frame index it)) (sym phase_done))
             (λ number not. phased.adds number frame index ∙ ap (λ it. one (is_asked frame index it)) (sym (phase_far number not))) number;
-        olds = λ such. by_place (λ number. to_tell cluster (more taking) such number ≡ one (is_told such (phase_of number (more taking)))) (olds_done such) (olds_far such);
+        olds = λ such. by_place (λ number. to_tell cluster (more taking) such number ≡ one (is_told such (phase_of number (more taking))))
+            (olds_done such) (olds_far such);
       }
 
     stack_taken : (said : Body) → message.body ≡ said
@@ -385,16 +412,22 @@ module _ (cluster : Cluster) (course : Course) (node : ℕ) (here : Option PostA
 
     took_phased : (said : Body) → message.body ≡ said → Phased cluster (more taking)
     took_phased (body.Fetch page) is = other_taking (body.Fetch page) is (λ phase. refl) (λ such number receiver. refl) refl (stack_taken (body.Fetch page) is)
-    took_phased (body.Page page words) is = other_taking (body.Page page words) is (λ phase. refl) (λ such number receiver. refl) refl (stack_taken (body.Page page words) is)
-    took_phased (body.Reconcile parts) is = other_taking (body.Reconcile parts) is (λ phase. refl) (λ such number receiver. refl) refl (stack_taken (body.Reconcile parts) is)
+    took_phased (body.Page page words) is =
+        other_taking (body.Page page words) is (λ phase. refl) (λ such number receiver. refl) refl (stack_taken (body.Page page words) is)
+    took_phased (body.Reconcile parts) is =
+        other_taking (body.Reconcile parts) is (λ phase. refl) (λ such number receiver. refl) refl (stack_taken (body.Reconcile parts) is)
     took_phased body.Ack is = other_taking body.Ack is (λ phase. refl) (λ such number receiver. refl) refl (stack_taken body.Ack is)
     took_phased body.Ask is = other_taking body.Ask is (λ phase. refl) (λ such number receiver. refl) refl (stack_taken body.Ask is)
-    took_phased (body.Grant closure) is = other_taking (body.Grant closure) is (λ phase. refl) (λ such number receiver. refl) refl (stack_taken (body.Grant closure) is)
+    took_phased (body.Grant closure) is =
+        other_taking (body.Grant closure) is (λ phase. refl) (λ such number receiver. refl) refl (stack_taken (body.Grant closure) is)
     took_phased body.Refuse is = other_taking body.Refuse is (λ phase. refl) (λ such number receiver. refl) refl (stack_taken body.Refuse is)
-    took_phased (body.Done join index value) is = other_taking (body.Done join index value) is (λ phase. refl) (λ such number receiver. refl) refl (stack_taken (body.Done join index value) is)
-    took_phased (body.Park join closure) is = other_taking (body.Park join closure) is (λ phase. refl) (λ such number receiver. refl) refl (stack_taken (body.Park join closure) is)
+    took_phased (body.Done join index value) is =
+        other_taking (body.Done join index value) is (λ phase. refl) (λ such number receiver. refl) refl (stack_taken (body.Done join index value) is)
+    took_phased (body.Park join closure) is =
+        other_taking (body.Park join closure) is (λ phase. refl) (λ such number receiver. refl) refl (stack_taken (body.Park join closure) is)
     took_phased (body.Add frame index word addend) is =
-        other_taking (body.Add frame index word addend) is (λ phase. refl) (λ such number receiver. refl) refl (stack_taken (body.Add frame index word addend) is)
+        other_taking (body.Add frame index word addend) is (λ phase. refl) (λ such number receiver. refl) refl
+        (stack_taken (body.Add frame index word addend) is)
     took_phased (body.Added old) is = added_phased old is
 
   -- ---- ends

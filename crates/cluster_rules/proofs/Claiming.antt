@@ -172,7 +172,8 @@ module _ (cluster : Cluster) (course : Course) (node : ℕ) (here : Option PostA
         (λ number. ap (λ it. is_told_of frame (cond (eqb node number) (after_taking it (phase_of number course)) (phase_of number course))) is
         ∙ told_stays message (eqb node number) frame (phase_of number course) (after_taking said (phase_of number course)) (same (phase_of number course)))
 
-    told_first : (frame other : FrameId) (acts : ℕ) (stack : List Life) → AddsFirst other acts stack → many (named frame) (first_marks stack) ≡ one (same_frame other frame)
+    told_first : (frame other : FrameId) (acts : ℕ) (stack : List Life) → AddsFirst other acts stack
+        → many (named frame) (first_marks stack) ≡ one (same_frame other frame)
     told_first frame other acts [] first = absurd first
     told_first frame other acts (life ∷ below) first =
         let same : one (same_frame life.id frame) ≡ one (same_frame other frame) = ap (λ it. one (same_frame it frame)) first.0 in omega (arith, same)
@@ -183,7 +184,8 @@ module _ (cluster : Cluster) (course : Course) (node : ℕ) (here : Option PostA
         let done = phase_done cluster course node here less known message stepped takes old is in
         let advances : many (named frame) (advanced cluster course (moved_by node (Took message) here)) ≡ one (is_told_of frame (phase_of node course)) =
         ap (λ it. many (named frame) (advanced_body it (stack_of (node_at cluster node) past))) is
-        ∙ told_first frame told.0 told.1 (stack_of (node_at cluster node) past) (subst (λ it. IsFirst it (stack_of (node_at cluster node) past)) told.2 (known.first node))
+        ∙ told_first frame told.0 told.1 (stack_of (node_at cluster node) past)
+        (subst (λ it. IsFirst it (stack_of (node_at cluster node) past)) told.2 (known.first node))
         ∙ sym (ap (λ it. one (is_told_of frame it)) told.2) in
         let sum = sum_change cluster.config.nodes (pending_at course frame) (pending_at (more (Took message)) frame) node less
         (λ number not. ap (λ it. one (is_told_of frame it)) (phase_far cluster course node here less known message stepped takes old is number not)) in

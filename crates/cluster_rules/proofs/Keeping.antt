@@ -68,7 +68,8 @@ pending_one cluster course stepped number frame told =
         absurd (not (one_node cluster course stepped frame at number below less there here))
 
 -- The first frame of the stack of such a node counts one act less than it made.
-pub told_acts : (cluster : Cluster) (course : Course) → Stepped cluster course → (number : ℕ) (frame : FrameId) (acts : ℕ) (old : ℤ) → phase_of number course ≡ Told frame acts old
+pub told_acts : (cluster : Cluster) (course : Course) → Stepped cluster course → (number : ℕ) (frame : FrameId) (acts : ℕ) (old : ℤ)
+    → phase_of number course ≡ Told frame acts old
     → AddsFirst frame acts (stack_of (node_at cluster number) (own number course)) × (suc acts ≡ acts_before frame course)
 told_acts cluster course stepped number frame acts old is =
     let known = phased cluster course stepped in

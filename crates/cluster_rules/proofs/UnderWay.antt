@@ -79,7 +79,8 @@ olds_at cluster course amount home = amount_in amount (owed_olds (node_at cluste
 
 -- The Addeds of such old values for a node that it did not take.
 abbrev pub to_tell : Cluster → Course → (ℤ → Bool) → ℕ → ℕ
-to_tell cluster course such number = sum_below cluster.config.nodes (olds_at cluster course (old_to such number)) + amount_of (old_to such number) (letters_of course)
+to_tell cluster course such number =
+    sum_below cluster.config.nodes (olds_at cluster course (old_to such number)) + amount_of (old_to such number) (letters_of course)
 
 -- ---- sums over the pasts of nodes
 
@@ -190,7 +191,8 @@ module _ (cluster : Cluster) (course : Course) (node : ℕ) (here : Option PostA
         let letters = letter_taken cluster told course node here message stepped takes in omega (arith, sum, letters)
 
     pub olds_did : (done : Item)
-        → to_tell cluster (moved_by node (Did done) here ∷ course) such number ≡ to_tell cluster course such number + amount_in told (told_by (node_at cluster node) done (owed_adds past))
+        → to_tell cluster (moved_by node (Did done) here ∷ course) such number
+        ≡ to_tell cluster course such number + amount_in told (told_by (node_at cluster node) done (owed_adds past))
     unfolding owed_olds
     olds_did done =
         let sum = olds_sum told (Did done) in
@@ -214,6 +216,7 @@ module _ (cluster : Cluster) (course : Course) (node : ℕ) (here : Option PostA
         let owed : amount_in told (cond (tells_in message.body) (rest_of (owed_olds (node_at cluster node) past)) (owed_olds (node_at cluster node) past)) ≡ amount_in told tells.later =
         ap (λ b. amount_in told (cond b (rest_of (owed_olds (node_at cluster node) past)) (owed_olds (node_at cluster node) past))) (ap tells_in is)
         ∙ ap (λ it. amount_in told (rest_of it)) tells.oldest in
-        let before : amount_in told (owed_olds (node_at cluster node) past) ≡ one (eqb message.receiver number && such old) + amount_in told tells.later = ap (amount_in told) tells.oldest in
+        let before : amount_in told (owed_olds (node_at cluster node) past) ≡ one (eqb message.receiver number && such old) + amount_in told tells.later =
+        ap (amount_in told) tells.oldest in
         let said : told message ≡ one (eqb message.receiver number && such old) = ap (λ it. one (tells_body such number message.receiver it)) is in
         let letters = letter_sent cluster told course node here message posts in omega (arith, sum, owed, before, said, letters)

@@ -81,7 +81,8 @@ same_cond false one other first second this that = that
 same_adding : (number : ℕ) (old : ℤ) (frame : FrameId) (index : ℕ) (adds : List Msg) (earlier : Option ℤ) (phase : Phase) → Same earlier phase
     → Same (ahead_adding number old adds earlier) (after_adding number frame index old adds phase)
 same_adding number old frame index [] earlier phase same = same
-same_adding number old frame index (add ∷ later) earlier phase same = same_cond (eqb add.sender number) (Some old) earlier (Told frame index old) phase refl same
+same_adding number old frame index (add ∷ later) earlier phase same =
+    same_cond (eqb add.sender number) (Some old) earlier (Told frame index old) phase refl same
 
 same_item : (number : ℕ) (done : Item) (adds : List Msg) (earlier : Option ℤ) (phase : Phase) → Same earlier phase → Same (ahead_item number done adds earlier) (after_item number done adds phase)
 same_item number (item.Act frame index act) adds earlier phase same = same

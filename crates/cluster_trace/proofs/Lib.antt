@@ -20,3 +20,5 @@ pub mod AddsAsking
 pub mod OldComing
 pub mod Always
 pub mod Ending
+pub mod Logs
+pub mod Ends

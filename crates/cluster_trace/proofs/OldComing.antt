@@ -12,7 +12,8 @@ use Rattle.cluster_trace.proofs.Ahead.{old_in, told_so}
 use Rattle.cluster_trace.proofs.Onwards.{OldComes}
 
 -- The old value in an Added that a node takes is the one by which the execution is ahead of that node.
-pub old_comes : (cluster : Cluster) (turns : List WholeTurn) (lawful : IsLawful cluster turns) (program : Program) (stands : StandsFor cluster.code program) → OldComes cluster turns lawful program stands
+pub old_comes : (cluster : Cluster) (turns : List WholeTurn) (lawful : IsLawful cluster turns) (program : Program) (stands : StandsFor cluster.code program)
+    → OldComes cluster turns lawful program stands
 old_comes cluster turns lawful program stands position number here message old found is =
     let past : Course = before (course_of turns) position in
     let step = step_then cluster turns lawful position (moved_by number (Took message) here) found in

@@ -33,9 +33,9 @@ use Rattle.cluster_trace.specs.Instances.{trace_of}
 use Rattle.run_memory.specs.Left.{left_in_order}
 use Rattle.run_memory.proofs.RunMemory.{run_memory, memory_there}
 use Rattle.word_order.specs.Consistency.{places_by}
-use Rattle.run_ticks.specs.Posted.{adds_under_way}
-use Rattle.run_ticks.proofs.Logs.{counts_sum}
-use Rattle.run_answers.specs.Laws.{HasEnd, IsElision, elision_of}
+use Rattle.run_ticks.specs.Laws.{items_in, ticks_counted}
+use Rattle.cluster_trace.specs.Ends.{HasEnd}
+use Rattle.run_answers.specs.Laws.{IsElision, elision_of}
 use Rattle.run_answers.proofs.Executions.{begins, obeys_it, rows_of, runs_as}
 use Rattle.run_answers.proofs.OfTheProgram.{of_turns}
 
@@ -62,11 +62,11 @@ module _ (cluster : Cluster) (program : Program) (log : List Turn) (run : IsRun 
   abbrev memory : SharedMemory
   memory = memory_of cluster
 
-  -- Its frames are the elision's rows, one for one and told the same, each word is left as there, and no Add is under way.
+  -- Its frames are the elision's rows, one for one and told the same, each word is left as there, and its ticks are its items.
   pub record GoesThrough : Type 0 where
     pub one : OneHistory (wants program) trace serial (length course) finish
     pub word : (word : ℕ) (here there : ℤ) → MemoryOf trace.events memory (length course) word here → LastOf serial.events memory word finish there → here ≡ there
-    pub idle : adds_under_way course ≡ 0
+    pub ticks : ticks_counted cluster log ≡ items_in cluster course
 
   module _ (goes : GoesThrough) where
     module _ (frames : List FrameId) (history : History) (its : IsHistoryOf cluster.code.main log frames history) where
@@ -89,13 +89,8 @@ module _ (cluster : Cluster) (program : Program) (log : List Turn) (run : IsRun 
           ∙ goes.word word left.0 (elision.world.memory word) left.1
           ((reads limits program (start_words_of cluster.code) budget memory (begins cluster)).holds word)
 
-    ticks_are : sum (counts_of cluster.config.nodes log).ticks ≡ ticks_of elision
-    ticks_are =
-        let all = counts_sum cluster program log stands parted run in
-        let idle = goes.idle in
-        let same = goes.one.ticks in
-        let items = (elision_ticks limits program (start_words_of cluster.code) budget).1 in
-        omega (arith, all, idle, same, items)
+    ticks_are : ticks_counted cluster log ≡ ticks_of elision
+    ticks_are = goes.ticks ∙ goes.one.ticks ∙ (elision_ticks limits program (start_words_of cluster.code) budget).1
 
     -- So it answers as the elision.
     pub is_elision : HasEnd log elision.end → IsElision cluster program log run elision

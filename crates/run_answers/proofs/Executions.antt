@@ -1,6 +1,8 @@
 -- A run is an execution of its program under the rules for pages, and its history is one of the program.
 use Rattle.std.proofs.Common.{◌≡◌, ℕ, ℤ, List, Some, length, map, reverse, refl, subst}
 use Rattle.page_messages.specs.declared.closure.FrameId.{FrameId}
+use Rattle.page_messages.specs.declared.log.Turn.{Turn}
+use Rattle.cilk_meaning.specs.declared.ends.NodeEnd.{NodeEnd}
 use Rattle.cilk_meaning.specs.Instance.{wants}
 use Rattle.cilk_meaning.specs.Parted.{IsParted}
 use Rattle.cilk_meaning.specs.Resolved.{Program}
@@ -12,7 +14,7 @@ use Rattle.span_tree.specs.Program as of_program
 use Rattle.span_tree.specs.Program.{Starts}
 use Rattle.cluster_rules.specs.Histories.{IsHistoryOf}
 use Rattle.cluster_rules.specs.Positions.{course_of}
-use Rattle.cluster_rules.specs.Runs.{Cluster, IsLawful, logged}
+use Rattle.cluster_rules.specs.Runs.{Cluster, IsLawful, IsRun, logged}
 use Rattle.cluster_rules.specs.Turns.{WholeTurn}
 use Rattle.backer_order.specs.Dag.{Consistent}
 use Rattle.backer_order.specs.Log.{main_id}
@@ -32,7 +34,9 @@ use Rattle.trace_rows.proofs.IsHistory.{is_history, is_complete}
 use Rattle.trace_rows.specs.RunAs.{RunAs}
 use Rattle.elision_trace.specs.Laws.{Begins}
 use Rattle.cluster_trace.specs.Instances.{trace_of}
+use Rattle.cluster_trace.specs.Ends.{HasEnd, ComesTo}
 use Rattle.cluster_trace.proofs.Always.{obeys}
+use Rattle.cluster_trace.proofs.Ends.{runs_come_to_ends}
 use Rattle.run_answers.proofs.Running.{run_as}
 
 -- The memory of a cluster starts with the words of its code, and adds as the language does.
@@ -44,6 +48,13 @@ pub obeys_program : (cluster : Cluster) (program : Program) (trace : Trace) → 
     → Obeys (wants program) program.main trace
 obeys_program cluster program trace stands obeys =
     subst (λ main. Obeys (wants program) main trace) stands.main (subst (λ (begin : Starts). Obeys begin cluster.code.main trace) stands.wants obeys)
+
+-- Where a run ended, its execution has come to that end.
+pub comes_to : (cluster : Cluster) (program : Program) (log : List Turn) (end : NodeEnd) → StandsFor cluster.code program → IsParted program → (run : IsRun cluster log)
+    → HasEnd log end → ComesTo (wants program) (trace_of cluster (course_of (reverse run.turns))) (length (course_of (reverse run.turns))) end
+comes_to cluster program log end stands parted run has =
+    subst (λ (begin : Starts). ComesTo begin (trace_of cluster (course_of (reverse run.turns))) (length (course_of (reverse run.turns))) end) stands.wants
+    (runs_come_to_ends cluster program log end stands parted run has)
 
 module _ (cluster : Cluster) (program : Program) (turns : List WholeTurn) (lawful : IsLawful cluster turns) (stands : StandsFor cluster.code program)
     (parted : IsParted program) where

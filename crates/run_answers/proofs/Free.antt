@@ -7,6 +7,10 @@ use Rattle.cilk_meaning.specs.Parted.{IsParted}
 use Rattle.cilk_meaning.specs.Resolved.{Program}
 use Rattle.cilk_meaning.specs.Wants.{Request, Asks, Returns}
 use Rattle.cilk_meaning.specs.World.{End, ticks_of}
+use Rattle.backer_order.specs.Log.{main_id}
+use Rattle.determinacy.specs.Replies.{want_at}
+use Rattle.machine_code.specs.Machine.{starts}
+use Rattle.span_tree.specs.Program.{Starts}
 use Rattle.machine_code.specs.StandsFor.{StandsFor, start_words_of}
 use Rattle.page_messages.specs.declared.closure.FrameId.{FrameId}
 use Rattle.page_messages.specs.declared.log.Turn.{Turn}
@@ -23,11 +27,11 @@ use Rattle.elision_history.specs.Logged.{history_of}
 use Rattle.elision_trace.proofs.Elisions.{elision_ticks}
 use Rattle.elision_trace.proofs.NoRace.{elision_is_serial}
 use Rattle.trace_rows.proofs.Races.{no_race}
-use Rattle.run_ticks.proofs.Asked.{asked_none}
-use Rattle.run_answers.specs.Laws.{HasEnd, EndsAsElision, RaceFreeRunsEndAsElision, elision_of}
+use Rattle.run_ticks.proofs.Runs.{returned_ticks, spent_ticks}
+use Rattle.cluster_trace.specs.Ends.{HasEnd}
+use Rattle.run_answers.specs.Laws.{EndsAsElision, RaceFreeRunsEndAsElision, elision_of}
 use Rattle.run_answers.proofs.Elided.{trace, serial, finish, GoesThrough, is_elision}
-use Rattle.run_answers.proofs.Ends.{main_returned, trap_wanted, more_wanted, spent_items}
-use Rattle.run_answers.proofs.Executions.{begins, obeys_it, runs_program, rows_of}
+use Rattle.run_answers.proofs.Executions.{begins, comes_to, obeys_it, runs_program, rows_of}
 use Rattle.run_answers.proofs.OfTheProgram.{of_turns}
 
 module _ (cluster : Cluster) (program : Program) (log : List Turn) (run : IsRun cluster log) (stands : StandsFor cluster.code program) (parted : IsParted program)
@@ -50,24 +54,29 @@ module _ (cluster : Cluster) (program : Program) (log : List Turn) (run : IsRun 
       (elision_is_serial limits program (start_words_of cluster.code) budget (memory_of cluster) parted (begins cluster) finished free) now
 
   no_trap : (kind : TrapKind) → ¬ HasEnd log (Trapped kind)
-  no_trap kind has = let it = trap_wanted cluster program log run stands parted kind has in determined.no_trap it.0 kind it.1 it.2
+  no_trap kind has = let it = comes_to cluster program log (Trapped kind) stands parted run has in determined.no_trap it.0 kind it.1 it.2
 
   -- a node has made all its ticks, and a frame is left
   spent : HasEnd log Budget → cluster.config.budget < ticks_of elision
   spent has =
-      let it = more_wanted cluster program log run stands parted has in
+      let it = comes_to cluster program log Budget stands parted run has in
       let fewer = determined.fewer it.0 it.2 (λ value returns. (let both = sym it.3 ∙ returns in absurd (cc))) in
-      let made = spent_items cluster program log run stands parted has in
+      let made = spent_ticks cluster log run has in
       let items = (elision_ticks limits program (start_words_of cluster.code) budget).1 in
       omega (arith, fewer, made, items)
 
+  for_code : (value : ℤ) → want_at (wants program) (trace cluster program log run stands parted budget) now main_id ≡ Some (Returns value)
+      → want_at (starts cluster.code) (trace cluster program log run stands parted budget) now main_id ≡ Some (Returns value)
+  for_code value returns =
+      subst (λ (begin : Starts). want_at begin (trace cluster program log run stands parted budget) now main_id ≡ Some (Returns value)) (sym stands.wants) returns
+
   goes_through : HasEnd log Finished → GoesThrough cluster program log run stands parted budget
   goes_through has =
-      let main = main_returned cluster program log run stands parted has in
+      let main = comes_to cluster program log Finished stands parted run has in
       record {
         one = determined.history main.0 main.1;
         word = determined.word main.0 main.1;
-        idle = asked_none cluster turns run.lawful program stands parted main.0 main.1;
+        ticks = returned_ticks cluster program log stands parted run main.0 (for_code main.0 main.1);
       }
 
   no_race_here : (frames : List FrameId) (history : History) → IsHistoryOf cluster.code.main log frames history → HasNoRace history

@@ -21,12 +21,9 @@ use Rattle.cluster_rules.specs.Histories.{IsHistoryOf}
 use Rattle.cluster_rules.specs.Moments.{Listed, IsHomeOrder}
 use Rattle.cluster_rules.specs.Positions.{course_of}
 use Rattle.cluster_rules.specs.Runs.{Cluster, IsRun}
+use Rattle.cluster_trace.specs.Ends.{HasEnd}
 use Rattle.run_memory.specs.Left.{left_in_order}
 use Rattle.word_order.specs.Consistency.{places_by}
-
--- The run ended so: its last turn has this end. Only the last turn of a run can have one.
-abbrev pub HasEnd : List Turn → NodeEnd → Type 0
-HasEnd log end = (earlier : List Turn) × (turn : Turn) × (log ≡ earlier ++ turn ∷ []) × (turn.end ≡ Some end)
 
 -- the serial elision of the program from the start words of the code, of at most so many ticks
 abbrev pub elision_of : Cluster → Program → ℕ → End

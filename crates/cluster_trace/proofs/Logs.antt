@@ -6,7 +6,7 @@ use Rattle.page_messages.specs.declared.log.Turn.{Turn}
 use Rattle.cluster_rules.specs.Turns.{WholeTurn, Ended, posted_at}
 use Rattle.cluster_rules.specs.Positions.{Moved, Course, course_of, with_taking, with_posts, with_items, with_end}
 use Rattle.cluster_rules.specs.Runs.{Cluster, IsRun, logged}
-use Rattle.run_answers.specs.Laws.{HasEnd}
+use Rattle.cluster_trace.specs.Ends.{HasEnd}
 
 -- the event of an end
 abbrev pub ended_at : ℕ → NodeEnd → Moved
