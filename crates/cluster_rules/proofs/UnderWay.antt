@@ -26,7 +26,7 @@ abbrev pub amount_in : (Msg → ℕ) → List Msg → ℕ
 amount_in amount [] = 0
 amount_in amount (message ∷ messages) = amount message + amount_in amount messages
 
-amount_append : (amount : Msg → ℕ) (front back : List Msg) → amount_in amount (front ++ back) ≡ amount_in amount front + amount_in amount back
+pub amount_append : (amount : Msg → ℕ) (front back : List Msg) → amount_in amount (front ++ back) ≡ amount_in amount front + amount_in amount back
 amount_append amount [] back = omega arith
 amount_append amount (message ∷ front) back = let rest = amount_append amount front back in omega (arith, rest)
 
@@ -87,7 +87,7 @@ to_tell cluster course such number =
 abbrev pub moved_by : ℕ → Event → Option PostAt → Moved
 moved_by node event here = record { node = node; event = event; message = here }
 
-sum_moved : (count : ℕ) (part : ℕ → Past → ℕ) (node : ℕ) (event : Event) (here : Option PostAt) (course : Course) → node < count
+pub sum_moved : (count : ℕ) (part : ℕ → Past → ℕ) (node : ℕ) (event : Event) (here : Option PostAt) (course : Course) → node < count
     → sum_below count (λ home. part home (own home (moved_by node event here ∷ course))) + part node (own node course)
     ≡ sum_below count (λ home. part home (own home course)) + part node (event ∷ own node course)
 sum_moved count part node event here course less =
