@@ -29,5 +29,4 @@ pub mod Claiming
 pub mod Indexing
 pub mod Claimed
 pub mod Places
-pub mod Keeping
 pub mod Posting
