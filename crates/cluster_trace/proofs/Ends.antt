@@ -37,8 +37,7 @@ born_later trace position now frame next (inl main) = inl main
 born_later trace position now frame next (inr it) =
     let less = it.before in inr (record { at = it.at; node = it.node; parent = it.parent; before = omega (arith, next, less); is = it.is })
 
-module _ (cluster : Cluster) (program : Program) (log : List Turn) (run : IsRun cluster log) (stands : StandsFor cluster.code program) (parted : IsParted program)
-    (end : NodeEnd) (has : HasEnd log end) where
+module _ (cluster : Cluster) (log : List Turn) (run : IsRun cluster log) (end : NodeEnd) (has : HasEnd log end) where
   abbrev turns : List WholeTurn
   turns = reverse run.turns
 
@@ -80,14 +79,14 @@ module _ (cluster : Cluster) (program : Program) (log : List Turn) (run : IsRun 
 -- Where a run ended, its execution has come to that end.
 pub runs_come_to_ends : RunsComeToEnds
 runs_come_to_ends cluster program log Finished stands parted run has =
-    let it = ends_finished cluster (reverse run.turns) run.lawful program stands parted (position cluster program log run stands parted Finished has)
-    (last cluster program log run stands parted Finished has).node (happens cluster program log run stands parted Finished has) in
-    (it.0, want_now cluster program log run stands parted Finished has main_id ∙ it.1)
+    let it = ends_finished cluster (reverse run.turns) run.lawful program stands parted (position cluster log run Finished has)
+    (last cluster log run Finished has).node (happens cluster log run Finished has) in
+    (it.0, want_now cluster log run Finished has main_id ∙ it.1)
 runs_come_to_ends cluster program log (Trapped kind) stands parted run has =
-    let it = ends_trapped cluster (reverse run.turns) run.lawful program stands parted (position cluster program log run stands parted (Trapped kind) has)
-    (last cluster program log run stands parted (Trapped kind) has).node kind (happens cluster program log run stands parted (Trapped kind) has) in
-    (it.0, born_now cluster program log run stands parted (Trapped kind) has it.0 it.1, want_now cluster program log run stands parted (Trapped kind) has it.0 ∙ it.2)
+    let it = ends_trapped cluster (reverse run.turns) run.lawful program stands parted (position cluster log run (Trapped kind) has)
+    (last cluster log run (Trapped kind) has).node kind (happens cluster log run (Trapped kind) has) in
+    (it.0, born_now cluster log run (Trapped kind) has it.0 it.1, want_now cluster log run (Trapped kind) has it.0 ∙ it.2)
 runs_come_to_ends cluster program log Budget stands parted run has =
-    let it = ends_spent cluster (reverse run.turns) run.lawful program stands parted (position cluster program log run stands parted Budget has)
-    (last cluster program log run stands parted Budget has).node (happens cluster program log run stands parted Budget has) in
-    (it.0, it.1, born_now cluster program log run stands parted Budget has it.0 it.2, want_now cluster program log run stands parted Budget has it.0 ∙ it.3)
+    let it = ends_spent cluster (reverse run.turns) run.lawful program stands parted (position cluster log run Budget has)
+    (last cluster log run Budget has).node (happens cluster log run Budget has) in
+    (it.0, it.1, born_now cluster log run Budget has it.0 it.2, want_now cluster log run Budget has it.0 ∙ it.3)

@@ -53,7 +53,7 @@ count_more holds number = on (holds number) refl
     on false is = let same = count_no holds number is in omega (arith, same)
 
 module _ (cluster : Cluster) where
-  items_more : (moved : Moved) (course : Course) → items_in cluster (moved ∷ course)
+  pub items_more : (moved : Moved) (course : Course) → items_in cluster (moved ∷ course)
       ≡ items_in cluster course + one (is_item (happens_to cluster course moved.node moved.message moved.event))
   items_more moved course =
       let more = count_more (λ position. is_item (events_of cluster (moved ∷ course) position)) (length course) in

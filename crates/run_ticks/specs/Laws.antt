@@ -1,7 +1,8 @@
 -- Laws of the ticks of a run.
-use Rattle.std.specs.Prelude.{◌≡◌, ◌+◌, ℕ, ℤ, Some, List, length, reverse}
+use Rattle.std.specs.Prelude.{◌≡◌, ◌+◌, ◌≤◌, ℕ, ℤ, Some, List, length, reverse}
 use Rattle.std.specs.List.{sum}
 use Rattle.backer_order.specs.Log.{main_id}
+use Rattle.cilk_meaning.specs.declared.ends.NodeEnd.TheVariants.{Budget}
 use Rattle.cilk_meaning.specs.Parted.{IsParted}
 use Rattle.cilk_meaning.specs.Resolved.{Program}
 use Rattle.cilk_meaning.specs.Wants.{Returns}
@@ -14,6 +15,7 @@ use Rattle.cluster_rules.specs.Runs.{Cluster, IsRun}
 use Rattle.cluster_order.specs.Reading.{events_of}
 use Rattle.determinacy.specs.Ending.{all_ticks}
 use Rattle.determinacy.specs.Replies.{want_at}
+use Rattle.cluster_trace.specs.Ends.{HasEnd}
 use Rattle.cluster_trace.specs.Instances.{trace_of}
 use Rattle.run_ticks.specs.Posted.{adds_under_way}
 
@@ -36,3 +38,7 @@ ReturnedTicks =
     (cluster : Cluster) (program : Program) (log : List Turn) → StandsFor cluster.code program → IsParted program → (run : IsRun cluster log) → (value : ℤ) →
     want_at (starts cluster.code) (trace_of cluster (course_of (reverse run.turns))) (length (course_of (reverse run.turns))) main_id ≡ Some (Returns value) →
     ticks_counted cluster log ≡ items_in cluster (course_of (reverse run.turns))
+
+-- Where a run ended with a spent budget, a node has made all of it, and each of its ticks is an item.
+abbrev pub SpentTicks : Type 0
+SpentTicks = (cluster : Cluster) (log : List Turn) (run : IsRun cluster log) → HasEnd log Budget → cluster.config.budget ≤ items_in cluster (course_of (reverse run.turns))

@@ -3,4 +3,4 @@
 
 mod laws;
 
-pub use laws::{returned_ticks, run_ticks};
+pub use laws::{returned_ticks, run_ticks, spent_ticks};
