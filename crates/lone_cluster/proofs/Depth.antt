@@ -13,7 +13,7 @@ use Rattle.page_messages.specs.declared.log.LoggedAct.TheVariants as act
 use Rattle.page_messages.specs.declared.log.Item.{Item}
 use Rattle.page_messages.specs.declared.log.Item.TheVariants as item
 use Rattle.page_messages.specs.declared.log.PostAt.{PostAt}
-use Rattle.cluster_rules.specs.Walking.{is_empty, with_first, first_of, last_of}
+use Rattle.cluster_rules.specs.Walking.{is_empty, with_first, first_of}
 use Rattle.cluster_rules.specs.Turns.{WholeTurn, Event, Did, Sent, Took, Ended, Past}
 use Rattle.cluster_rules.specs.Node.{Node}
 use Rattle.cluster_rules.specs.Home.{owed_adds}
@@ -24,7 +24,6 @@ use Rattle.cluster_rules.specs.Runs.{Cluster, IsLawful, node_at}
 use Rattle.cluster_rules.specs.Positions.{Moved, Course, course_of, own, at, before}
 use Rattle.cluster_rules.proofs.Stepping.{Stepped}
 use Rattle.cluster_rules.proofs.Marks.{first_is}
-use Rattle.cluster_rules.proofs.UnderWay.{moved_by}
 use Rattle.cluster_order.specs.Reading.{act_of, served_for, happens_to}
 use Rattle.cluster_order.specs.Standing.{first}
 use Rattle.cluster_order.proofs.Fronts.{first_none, first_next, first_at, nothing_past}
@@ -41,7 +40,6 @@ use Rattle.cluster_trace.specs.Instances.{trace_of}
 use Rattle.cluster_trace.proofs.Spawning.{all_stepped}
 use Rattle.cluster_trace.proofs.Standing.{Stacked, account_wants, live_stacked}
 use Rattle.cluster_trace.proofs.Ahead.{ahead, ahead_item, lead}
-use Rattle.cluster_trace.proofs.Onwards.{OldComes, AddsAsked}
 use Rattle.cluster_trace.proofs.Always.{all_so}
 use Rattle.lone_cluster.proofs.Silent.{OwnEvent, Silent, silent_own, no_adds, own_here, Lone, lone}
 use Rattle.lone_cluster.proofs.Positions.{stands_at, may_act, acting}
@@ -85,29 +83,6 @@ live_again_from deposits (life ∷ below) = on (returned life) refl (λ given. l
         ≡ names (elim value [ None ↦ with_kept deposits life ∷ below | Some it ↦ live_from ((life.spawned.target, it) ∷ []) below ])
     on None is rest = first_stays is
     on (Some value) is rest = rest ((life.spawned.target, value) ∷ [])
-
--- Where none is left, the bottom one has returned.
-pub all_returned : (deposits : List Deposit) (lives : List Life) (life : Life) → live_from deposits lives ≡ [] → last_of lives ≡ Some life
-    → (value : ℤ) × (returned life ≡ Some value)
-all_returned deposits [] life none is = absurd (cc)
-all_returned deposits (top ∷ []) life none is =
-    let same : top ≡ life = cc in subst (λ it. (value : ℤ) × (returned it ≡ Some value)) same (on (returned top) refl none)
-  where
-    on : (value : Option ℤ) → returned top ≡ value
-        → ◌≡◌ {A = List Life} (elim value [ None ↦ with_kept deposits top ∷ [] | Some it ↦ live_from ((top.spawned.target, it) ∷ []) [] ]) []
-        → (value : ℤ) × (returned top ≡ Some value)
-    on None is none = absurd (cc)
-    on (Some value) is none = (value, is)
-all_returned deposits (top ∷ (second ∷ below)) life none is =
-    on (returned top) none (λ given left. all_returned given (second ∷ below) life left is)
-  where
-    on : (value : Option ℤ)
-        → ◌≡◌ {A = List Life}
-        (elim value [ None ↦ with_kept deposits top ∷ (second ∷ below) | Some it ↦ live_from ((top.spawned.target, it) ∷ []) (second ∷ below) ]) []
-        → ((given : List Deposit) → live_from given (second ∷ below) ≡ [] → (value : ℤ) × (returned life ≡ Some value))
-        → (value : ℤ) × (returned life ≡ Some value)
-    on None none rest = absurd (cc)
-    on (Some value) none rest = rest ((top.spawned.target, value) ∷ []) none
 
 first_names : (change : Life → Life) → ((life : Life) → (change life).id ≡ life.id) → (lives : List Life) → names (with_first change lives) ≡ names lives
 first_names change same [] = refl
@@ -172,15 +147,6 @@ module _ (cluster : Cluster) (turns : List WholeTurn) (lawful : IsLawful cluster
   abbrev stepped : Stepped cluster course
   stepped = all_stepped cluster turns lawful
 
-  -- no old value comes from a home, and no add is served for another node
-  pub comes : OldComes cluster turns lawful program stands
-  comes position number here message old found is = absurd (stands_at cluster alone course stepped position (moved_by number (Took message) here) found).itself
-
-  pub asked : AddsAsked cluster turns lawful program stands
-  asked position number here frame index word old addend found serves =
-      let it = stands_at cluster alone course stepped position (moved_by number (Did (item.Served frame index word old addend)) here) found in
-      let both = sym serves.oldest ∙ no_adds (own number (before course position)) (silent_own number (before course position) it.lone_before.0) in absurd (cc)
-
   abbrev node : Node
   node = node_at cluster 0
 
@@ -213,16 +179,9 @@ module _ (cluster : Cluster) (turns : List WholeTurn) (lawful : IsLawful cluster
   wanting_told position [] wanting = tt
   wanting_told position (life ∷ below) wanting = (ap is_return wanting.0 ∙ return_is (want_of life), wanting_told position below wanting.1)
 
-  pub wanting_last : (position : ℕ) (lives : List Life) (life : Life) → last_of lives ≡ Some life → Wanting position lives
-      → want_at (starts cluster.code) trace position life.id ≡ want_of life
-  wanting_last position [] life is wanting = absurd (cc)
-  wanting_last position (top ∷ []) life is wanting =
-      let same : top ≡ life = cc in subst (λ (it : Life). want_at (starts cluster.code) trace position it.id ≡ want_of it) same wanting.0
-  wanting_last position (top ∷ (second ∷ below)) life is wanting = wanting_last position (second ∷ below) life is wanting.1
-
   stack_stacked : (position : ℕ) → position ≤ length course → Stacked cluster program stands trace position (first position course) [] (stack_at position)
   stack_stacked position less =
-      let it = (all_so cluster turns lawful program stands comes asked parted position less).1 in
+      let it = (all_so cluster turns lawful program stands parted position less).1 in
       subst (λ led. Stacked cluster program stands trace position (first position course) [] (lead led (stack_at position)))
       (never_ahead 0 (first position course) (lone_at position).0) (it.nodes 0 (omega (arith, alone))).stack
 

@@ -1,49 +1,33 @@
 -- A run on one node is an execution depth first, and ends as the execution does.
-use Rattle.std.proofs.Common.{◌≡◌, ℕ, suc, ◌≤◌, ℤ, List, [], Option, Some, None, true, false, length, refl, sym, ◌∙◌, ap, subst, arith}
+use Rattle.std.proofs.Common.{◌≡◌, ℕ, suc, List, Some, false, refl, ◌∙◌, ap, subst, arith}
 use Rattle.backer_order.specs.Log as log
 use Rattle.cilk_meaning.specs.declared.ends.NodeEnd.{NodeEnd}
 use Rattle.cilk_meaning.specs.declared.ends.NodeEnd.TheVariants.{Finished, Trapped, Budget}
 use Rattle.cilk_meaning.specs.Parted.{IsParted}
 use Rattle.cilk_meaning.specs.Resolved.{Program}
-use Rattle.cilk_meaning.specs.Wants.{Want, Request, Asks, Returns, Traps}
 use Rattle.machine_code.specs.Machine.{starts}
 use Rattle.machine_code.specs.StandsFor.{StandsFor}
-use Rattle.cluster_rules.specs.Walking.{last_of}
 use Rattle.cluster_rules.specs.Turns.{WholeTurn, Ended, Past}
-use Rattle.cluster_rules.specs.Lives.{main_id, want_of, value_in, live}
-use Rattle.cluster_rules.specs.Frames.{stack_of, ticks_of}
-use Rattle.cluster_rules.specs.Edges.{costs_tick, IsFinished, MayEnd}
+use Rattle.cluster_rules.specs.Lives.{main_id, want_of}
+use Rattle.cluster_rules.specs.Frames.{ticks_of}
+use Rattle.cluster_rules.specs.Edges.{MayEnd}
 use Rattle.cluster_rules.specs.Runs.{Cluster, IsLawful, node_at}
 use Rattle.cluster_rules.specs.Positions.{Moved, Course, course_of, own, at, before}
 use Rattle.cluster_rules.specs.Allowed.{IsAllowed}
 use Rattle.cluster_rules.proofs.Stepping.{Stepped}
 use Rattle.cluster_order.specs.Reading.{happens_to, memory_of}
-use Rattle.cluster_order.specs.Standing.{first}
 use Rattle.cluster_order.proofs.Caching.{keeps_the_page_rules}
 use Rattle.cluster_order.proofs.Fronts.{first_at}
-use Rattle.cluster_order.proofs.Growing.{within}
 use Rattle.determinacy.proofs.Rows.{when_false}
 use Rattle.determinacy.specs.Ending.{is_item, count, all_ticks}
-use Rattle.determinacy.specs.Replies.{Trace, want_at}
+use Rattle.determinacy.specs.Replies.{Trace}
 use Rattle.one_node.specs.Alone.{Within, EndsAs, OneNode}
 use Rattle.cluster_trace.specs.Instances.{trace_of}
 use Rattle.cluster_trace.proofs.Spawning.{all_stepped}
-use Rattle.cluster_trace.proofs.Always.{obeys_if}
-use Rattle.lone_cluster.proofs.Silent.{last_homely}
+use Rattle.cluster_trace.proofs.Always.{obeys}
+use Rattle.cluster_trace.proofs.Ending.{ends_finished, tick_asks}
 use Rattle.lone_cluster.proofs.Positions.{stands_at, one_accesses, acting, ticks_here}
-use Rattle.lone_cluster.proofs.Depth.{all_returned, comes, asked, lone_at, wanting_last, stack_wants, still_wants, still_live, top_at, goes_deep}
-
-returns_value : (want : Option Want) (value : ℤ) → value_in want ≡ Some value → want ≡ Some (Returns value)
-returns_value None value is = absurd (cc)
-returns_value (Some (Asks request)) value is = absurd (cc)
-returns_value (Some (Returns other)) value is = let same : other ≡ value = cc in ap (λ it. Some (Returns it)) same
-returns_value (Some (Traps kind)) value is = absurd (cc)
-
-asks_something : (want : Option Want) → costs_tick want ≡ true → (request : Request) × (want ≡ Some (Asks request))
-asks_something None costs = absurd (cc)
-asks_something (Some (Asks request)) costs = (request, refl)
-asks_something (Some (Returns value)) costs = absurd (cc)
-asks_something (Some (Traps kind)) costs = absurd (cc)
+use Rattle.lone_cluster.proofs.Depth.{still_wants, still_live, top_at, goes_deep}
 
 no_item_ends : (node : ℕ) → is_item (log.End node) ≡ false
 unfolding is_item
@@ -77,9 +61,7 @@ module _ (cluster : Cluster) (turns : List WholeTurn) (lawful : IsLawful cluster
   -- A run on one node goes depth first, and each word is accessed by one node alone.
   pub lone_runs : OneNode (starts cluster.code) cluster.code.main trace (memory_of cluster) cluster.config.budget
   lone_runs = record {
-    obeys =
-        obeys_if cluster turns lawful program stands (comes cluster turns lawful program stands parted alone)
-        (asked cluster turns lawful program stands parted alone) parted;
+    obeys = obeys cluster turns lawful program stands parted;
     deep = goes_deep cluster turns lawful program stands parted alone;
     caching = keeps_the_page_rules cluster turns lawful;
     one = one_accesses cluster alone course stepped;
@@ -92,28 +74,14 @@ module _ (cluster : Cluster) (turns : List WholeTurn) (lawful : IsLawful cluster
     abbrev Ends : NodeEnd → ℕ → Type 0
     Ends end now = EndsAs (starts cluster.code) trace cluster.config.budget now end
 
-    less : position ≤ length course
-    less = let inside = within course position moved found in omega (arith, inside)
-
-    main_returned : IsFinished (node_at cluster 0) (past_at position) → Ends Finished position
-    main_returned finished =
-        let earlier = first_at position course moved found in
-        let bottom = ap (λ so_far. last_of (stack_of (node_at cluster 0) (own 0 so_far))) earlier ∙ finished.returned.at_bottom in
-        let none = ap (λ so_far. live (stack_of (node_at cluster 0) (own 0 so_far))) earlier ∙ finished.returned.none_left in
-        let stack = stack_of (node_at cluster 0) (own 0 (first position course)) in
-        let main = (last_homely stack finished.life bottom (lone_at cluster turns lawful program stands parted alone position).1.stack).rooted finished.main in
-        let value = all_returned [] stack finished.life none bottom in
-        let wants = wanting_last cluster turns lawful program stands parted alone position stack finished.life bottom
-        (stack_wants cluster turns lawful program stands parted alone position less) in
-        (value.0, ap (want_at (starts cluster.code) trace position) (sym main) ∙ wants ∙ returns_value (want_of finished.life) value.0 value.1)
-
-    ends_so : (end : NodeEnd) → MayEnd (node_at cluster 0) (past_at position) end → Ends end position
-    ends_so Finished may = main_returned may
-    ends_so (Trapped kind) may =
+    ends_so : (end : NodeEnd) → moved.event ≡ Ended end → MayEnd (node_at cluster 0) (past_at position) end → Ends end position
+    ends_so Finished is may =
+        ends_finished cluster turns lawful program stands parted position moved.node (record { moved = moved; is = found; by = refl; event_is = is })
+    ends_so (Trapped kind) is may =
         let it = top_at cluster turns lawful program stands parted alone position moved found may.life may.is in (may.life.id, it.top, it.wants ∙ may.wanted)
-    ends_so Budget may =
+    ends_so Budget is may =
         let it = top_at cluster turns lawful program stands parted alone position moved found may.life may.is in
-        let asks = asks_something (want_of may.life) may.wanted in
+        let asks = tick_asks (want_of may.life) may.wanted in
         (may.life.id, asks.0, it.top, it.wants ∙ asks.1, ticks_at position moved found ∙ may.ticks)
 
     same_ticks : is_item (trace.events position) ≡ false → all_ticks trace.events (suc position) ≡ all_ticks trace.events position
@@ -139,7 +107,7 @@ module _ (cluster : Cluster) (turns : List WholeTurn) (lawful : IsLawful cluster
     pub lone_ends : (end : NodeEnd) → moved.event ≡ Ended end → Ends end position × Ends end (suc position)
     lone_ends end is =
         let it = stands_at cluster alone course stepped position moved found in
-        let ends = ends_so end (subst (IsAllowed (node_at cluster 0) (past_at position)) is it.allowed).1 in
+        let ends = ends_so end is (subst (IsAllowed (node_at cluster 0) (past_at position)) is it.allowed).1 in
         let none : is_item (trace.events position) ≡ false =
         ap is_item (it.event_is ∙ ap (happens_to cluster (before course position) 0 moved.message) is) ∙ no_item_ends 0 in
         (ends, still_ends none end ends)

@@ -1,5 +1,5 @@
 -- Laws of runs on one node.
-use Rattle.std.specs.Prelude.{◌≡◌, Bool, true, false, Some, None, List, [], ◌∷◌, ◌++◌, Contains, length, reverse}
+use Rattle.std.specs.Prelude.{◌≡◌, Bool, true, false, None, List, [], Contains, length, reverse}
 use Rattle.std.specs.List.{list_any}
 use Rattle.cilk_meaning.specs.declared.ends.NodeEnd.{NodeEnd}
 use Rattle.cilk_meaning.specs.Parted.{IsParted}
@@ -13,6 +13,7 @@ use Rattle.cluster_rules.specs.Positions.{Course, course_of}
 use Rattle.cluster_rules.specs.Runs.{Cluster, IsRun}
 use Rattle.cluster_order.specs.Reading.{memory_of}
 use Rattle.one_node.specs.Alone.{EndsAs, OneNode}
+use Rattle.cluster_trace.specs.Ends.{HasEnd}
 use Rattle.cluster_trace.specs.Instances.{trace_of}
 
 abbrev pub takes_up : Item → Bool
@@ -41,9 +42,9 @@ OneNodeRunsDepthFirst =
     (run : IsRun cluster log) →
     OneNode (starts cluster.code) cluster.code.main (trace_of cluster (course_in cluster log run)) (memory_of cluster) cluster.config.budget
 
--- Where the last turn has an end, the execution ends so behind all events.
+-- Where it ended, the execution ends so behind all events.
 abbrev pub OneNodeEnds : Type 0
 OneNodeEnds =
-    (cluster : Cluster) (program : Program) (log : List Turn) → StandsFor cluster.code program → IsParted program → cluster.config.nodes ≡ 1 →
-    (run : IsRun cluster log) (earlier : List Turn) (turn : Turn) (end : NodeEnd) → log ≡ earlier ++ turn ∷ [] → turn.end ≡ Some end →
+    (cluster : Cluster) (program : Program) (log : List Turn) (end : NodeEnd) → StandsFor cluster.code program → IsParted program → cluster.config.nodes ≡ 1 →
+    (run : IsRun cluster log) → HasEnd log end →
     EndsAs (starts cluster.code) (trace_of cluster (course_in cluster log run)) cluster.config.budget (length (course_in cluster log run)) end
