@@ -1,10 +1,10 @@
 -- The children of a block have targets of which none stands twice, by how the machine runs.
 use Rattle.std.proofs.Common.{◌≡◌, ℕ, zero, suc, List, [], ◌∷◌, ◌++◌, take, Option, Some, None, refl, sym, ap, ◌∙◌, subst}
 use Rattle.std.proofs.lemmas.Bool.{eqb-true, eqb-false}
-use Rattle.std.specs.Prelude.{ℤ, pos, ◌==◌, Bool, true, false, ◌||◌, if◌then◌else◌, slice_get}
+use Rattle.std.specs.Prelude.{ℤ, pos, ◌==◌, Bool, true, false, ◌||◌, slice_get}
 use Rattle.cilk_meaning.specs.Alone.{Block, block_after, block_of}
 use Rattle.cilk_meaning.specs.Wants.{Request, Read, Write, Add, Print, Spawn, Sync, Call, LoopTurn, Want, Asks, Returns, Traps, Answer}
-use Rattle.machine_code.specs.Early.{Event, Steps, Answered, Receives, Run, HasRun, TakesEarly, after_events, answered, awaits, goes_on_with, happens, resumed_with, start_run, stepped, with_values}
+use Rattle.machine_code.specs.Early.{Event, Steps, Answered, Run, HasRun, TakesEarly, after_events, answered, awaits, goes_on_with, happens, resumed_with, start_run, stepped}
 use Rattle.machine_code.specs.Machine.{Code, Frame, Move, GoesOn, Requests, Ends, Stuck}
 use Rattle.machine_code.specs.Machine.{go_on, last_want, look, remaining, resumed, settle, settled, start_frame, starts, starts_at, want_and, wants_for}
 use Rattle.machine_code.specs.declared.code.Proc.{Proc}
@@ -62,7 +62,8 @@ through : (code : Code) (event : Event) (events : List Event) (run next : Run) (
 through code event events run next None later comes = absurd cc
 through code event events run next (Some mid) later comes = later mid comes
 
-one_event : (code : Code) (event : Event) (events : List Event) (start run next : Run) → after_events code events start ≡ Some run → happens code event run ≡ Some next →
+one_event : (code : Code) (event : Event) (events : List Event) (start run next : Run) → after_events code events start ≡ Some run
+    → happens code event run ≡ Some next →
     after_events code (events ++ event ∷ []) start ≡ Some next
 one_event code event [] start run next comes is =
     let same : start ≡ run = cc in
@@ -95,7 +96,9 @@ module _ (code : Code) (early : TakesEarly code) (depth procedure : ℕ) (argume
     has_run = record {
       proc = came.has_run.proc;
       is = came.has_run.is;
-      comes = one_event code event came.events (start_run came.has_run.proc arguments depth) (record { frame = f; block = block }) (record { frame = g; block = next }) came.has_run.comes is;
+      comes =
+          one_event code event came.events (start_run came.has_run.proc arguments depth) (record { frame = f; block = block })
+              (record { frame = g; block = next }) came.has_run.comes is;
     };
     apart = apart;
   }
@@ -104,7 +107,8 @@ module _ (code : Code) (early : TakesEarly code) (depth procedure : ℕ) (argume
       look code f ≡ Requests (Spawn target child given) follows → AreApart (block ++ target ∷ [])
   spawn_apart block f came None child given follows is = apart_nameless block came.apart
   spawn_apart block f came (Some target) child given follows is =
-      apart_more block target came.apart (early.apart depth procedure arguments came.events (record { frame = f; block = block }) came.has_run target child given follows is)
+      apart_more block target came.apart
+          (early.apart depth procedure arguments came.events (record { frame = f; block = block }) came.has_run target child given follows is)
 
   request_apart : (block : Block) (f : Frame) (came : Came block f) (request : Request) (follows : Answer → Option Frame) →
       look code f ≡ Requests request follows → AreApart (block_after request block)
@@ -147,57 +151,6 @@ module _ (code : Code) (early : TakesEarly code) (depth procedure : ℕ) (argume
   pub came_first : (proc : Proc) → slice_get code.procs procedure ≡ Some proc → Came [] (start_frame proc arguments depth)
   came_first proc is = record { events = []; has_run = record { proc = proc; is = is; comes = refl }; apart = tt }
 
-  -- ---- whatever happens to it, also where values come early
-
-  some_apart : (o : Option Run) (events : List Event) (last : Run) → ((next : Run) → o ≡ Some next → Came next.block next.frame) →
-      ((next : Run) → Came next.block next.frame → after_events code events next ≡ Some last → AreApart last.block) → goes_on_with o (after_events code events) ≡ Some last → AreApart last.block
-  some_apart None events last first later comes = absurd cc
-  some_apart (Some next) events last first later comes = later next (first next refl) comes
-
-  stepped_comes : (run next : Run) (came : Came run.block run.frame) (move : Move) → look code run.frame ≡ move → stepped move run.block ≡ Some next → Came next.block next.frame
-  stepped_comes run next came (GoesOn g) is e =
-      let same : record { frame = g; block = run.block } ≡ next = cc in
-      subst (λ (it : Run). Came it.block it.frame) same (one_more run.block run.block run.frame g Steps came came.apart (ap (λ move. stepped move run.block) is))
-  stepped_comes run next came (Requests request follows) is e = absurd cc
-  stepped_comes run next came (Ends want) is e = absurd cc
-  stepped_comes run next came Stuck is e = absurd cc
-
-  resumed_comes : (run next : Run) (request : Request) (frame : Option Frame) → ((g : Frame) → frame ≡ Some g → Came (block_after request run.block) g) →
-      resumed_with frame (block_after request run.block) ≡ Some next → Came next.block next.frame
-  resumed_comes run next request None comes e = absurd cc
-  resumed_comes run next request (Some g) comes e =
-      let same : record { frame = g; block = block_after request run.block } ≡ next = cc in subst (λ (it : Run). Came it.block it.frame) same (comes g refl)
-
-  answered_comes : (run next : Run) (came : Came run.block run.frame) (answer : Answer) (move : Move) → look code run.frame ≡ move →
-      answered move answer run.block ≡ Some next → Came next.block next.frame
-  answered_comes run next came answer (GoesOn g) is e = absurd cc
-  answered_comes run next came answer (Requests request follows) is e =
-      resumed_comes run next request (follows answer) ((look_leads run.block run.frame came (Requests request follows) is).comes answer) e
-  answered_comes run next came answer (Ends want) is e = absurd cc
-  answered_comes run next came answer Stuck is e = absurd cc
-
-  received_comes : (run next : Run) (came : Came run.block run.frame) (target : ℕ) (value : ℤ) (waited : Bool) → awaits target run.block ≡ waited →
-      (if waited then Some (record { frame = with_values ((Some target, value) ∷ []) run.frame; block = run.block }) else None) ≡ Some next → Came next.block next.frame
-  received_comes run next came target value true is e =
-      let frame = with_values ((Some target, value) ∷ []) run.frame in
-      let same : record { frame = frame; block = run.block } ≡ next = cc in
-      subst (λ (it : Run). Came it.block it.frame) same (one_more run.block run.block run.frame frame (Receives target value) came came.apart
-      (ap (λ waited. if waited then Some (record { frame = frame; block = run.block }) else None) is))
-  received_comes run next came target value false is e = absurd cc
-
-  event_comes : (event : Event) (run next : Run) → Came run.block run.frame → happens code event run ≡ Some next → Came next.block next.frame
-  event_comes Steps run next came is = stepped_comes run next came (look code run.frame) refl is
-  event_comes (Answered answer) run next came is = answered_comes run next came answer (look code run.frame) refl is
-  event_comes (Receives target value) run next came is = received_comes run next came target value (awaits target run.block) refl is
-
-  events_apart : (events : List Event) (run last : Run) → Came run.block run.frame → after_events code events run ≡ Some last → AreApart last.block
-  events_apart [] run last came comes = let same : run ≡ last = cc in subst (λ (it : Run). AreApart it.block) same came.apart
-  events_apart (event ∷ events) run last came comes =
-      some_apart (happens code event run) events last (λ next is. event_comes event run next came is) (λ next came' comes'. events_apart events next last came' comes') comes
-
-  pub run_apart : (events : List Event) (run : Run) → HasRun code depth procedure arguments events run → AreApart run.block
-  run_apart events run has_run = events_apart events (start_run has_run.proc arguments depth) run (came_first has_run.proc has_run.is) has_run.comes
-
   -- ---- the blocks by its wants
 
   none_more : (block : Block) (count : ℕ) → AreApart block → AreApart (block_of block (take count []))
@@ -215,24 +168,29 @@ module _ (code : Code) (early : TakesEarly code) (depth procedure : ℕ) (argume
   last_apart block count (Ends want) apart leads = end_more block count want leads apart
   last_apart block count Stuck apart leads = apart
 
-  resumed_apart : (block : Block) (count : ℕ) (frame : Option Frame) (next : Frame → List Want) → AreApart block → ((g : Frame) → frame ≡ Some g → AreApart (block_of block (take count (next g)))) →
+  resumed_apart : (block : Block) (count : ℕ) (frame : Option Frame) (next : Frame → List Want) → AreApart block
+      → ((g : Frame) → frame ≡ Some g → AreApart (block_of block (take count (next g)))) →
       AreApart (block_of block (take count (resumed frame next)))
   resumed_apart block count None next apart later = none_more block count apart
   resumed_apart block count (Some g) next apart later = later g refl
 
   want_apart : (block : Block) (count : ℕ) (move : Move) (answer : Answer) (next : Frame → List Want) → AreApart block → Leads block move →
-      ((after : Block) (g : Frame) → Came after g → AreApart (block_of after (take count (next g)))) → AreApart (block_of block (take (suc count) (want_and move answer next)))
+      ((after : Block) (g : Frame) → Came after g → AreApart (block_of after (take count (next g))))
+          → AreApart (block_of block (take (suc count) (want_and move answer next)))
   want_apart block count (GoesOn f) answer next apart leads later = apart
   want_apart block count (Requests request follows) answer next apart leads later =
-      resumed_apart (block_after request block) count (follows answer) next leads.apart (λ g led. later (block_after request block) g (leads.comes answer g led))
+      resumed_apart (block_after request block) count (follows answer) next leads.apart
+          (λ g led. later (block_after request block) g (leads.comes answer g led))
   want_apart block count (Ends want) answer next apart leads later = end_more block count want leads apart
   want_apart block count Stuck answer next apart leads later = apart
 
-  frame_apart : (answers : List Answer) (count : ℕ) (block : Block) (f : Frame) → Came block f → AreApart (block_of block (take count (wants_for code answers f)))
+  frame_apart : (answers : List Answer) (count : ℕ) (block : Block) (f : Frame) → Came block f
+      → AreApart (block_of block (take count (wants_for code answers f)))
   frame_apart answers zero block f came = came.apart
   frame_apart [] (suc count) block f came = last_apart block count (settled code f) came.apart (settled_leads block f came)
   frame_apart (answer ∷ answers) (suc count) block f came =
-      want_apart block count (settled code f) answer (wants_for code answers) came.apart (settled_leads block f came) (λ after g comes. frame_apart answers count after g comes)
+      want_apart block count (settled code f) answer (wants_for code answers) came.apart (settled_leads block f came)
+          (λ after g comes. frame_apart answers count after g comes)
 
   pub block_apart : (answers : List Answer) (count : ℕ) → AreApart (block_of [] (take count (starts code depth procedure arguments answers)))
   block_apart answers count = at_proc (slice_get code.procs procedure) refl

@@ -53,7 +53,8 @@ has_awaits ((Some first, other) ∷ rest) target value (inl is) =
 has_awaits ((Some first, other) ∷ rest) target value (inr has) = or_right (target == first) (awaits target (targets_of rest)) (has_awaits rest target value has)
 
 -- so a target gets one value at most
-one_value : (deposits : List Deposit) (target : ℕ) (value other : ℤ) → AreApart (targets_of deposits) → Has (Some target, value) deposits → Has (Some target, other) deposits → value ≡ other
+one_value : (deposits : List Deposit) (target : ℕ) (value other : ℤ) → AreApart (targets_of deposits) → Has (Some target, value) deposits
+    → Has (Some target, other) deposits → value ≡ other
 one_value [] target value other apart has has' = absurd has
 one_value ((None, v) ∷ rest) target value other apart (inl is) has' = absurd (let none : None ≡ Some target = ap (λ (it : Deposit). it.0) is in cc)
 one_value ((None, v) ∷ rest) target value other apart (inr has) (inl is) = absurd (let none : None ≡ Some target = ap (λ (it : Deposit). it.0) is in cc)
@@ -86,7 +87,8 @@ none_behind : (first : Deposit) (rest : List Deposit) (local : ℕ) → (first.0
 none_behind first rest local differs none value (inl is) = differs (ap (λ (it : Deposit). it.0) is)
 none_behind first rest local differs none value (inr has) = none value has
 
-set_local : (first : ℕ) (v : ℤ) (rest : List Deposit) (locals : Locals) (local : ℕ) (start : ℤ) → local < length locals → StayedSame rest (slice_set locals first v) local start →
+set_local : (first : ℕ) (v : ℤ) (rest : List Deposit) (locals : Locals) (local : ℕ) (start : ℤ) → local < length locals
+    → StayedSame rest (slice_set locals first v) local start →
     (same : Bool) → (first == local) ≡ same → GotValue ((Some first, v) ∷ rest) locals local start ⊎ StayedSame ((Some first, v) ∷ rest) locals local start
 set_local first v rest locals local start less stayed true e =
     let equal : first ≡ local = eqb-true first local e in
@@ -105,11 +107,13 @@ got_behind : (first : Deposit) (rest : List Deposit) (locals : Locals) (local : 
     GotValue rest (assigned first.0 first.1 locals) local start → GotValue (first ∷ rest) locals local start
 got_behind first rest locals local start got = record { value = got.value; has = inr got.has; is = got.is }
 
-on_local : (deposits : List Deposit) (locals : Locals) (local : ℕ) (start : ℤ) → local < length locals → GotValue deposits locals local start ⊎ StayedSame deposits locals local start
+on_local : (deposits : List Deposit) (locals : Locals) (local : ℕ) (start : ℤ) → local < length locals
+    → GotValue deposits locals local start ⊎ StayedSame deposits locals local start
 on_local [] locals local start less = inr (record { none = λ value has. has; is = refl })
 on_local ((None, v) ∷ rest) locals local start less = either (on_local rest locals local start less)
   where
-    either : GotValue rest locals local start ⊎ StayedSame rest locals local start → GotValue ((None, v) ∷ rest) locals local start ⊎ StayedSame ((None, v) ∷ rest) locals local start
+    either : GotValue rest locals local start ⊎ StayedSame rest locals local start
+        → GotValue ((None, v) ∷ rest) locals local start ⊎ StayedSame ((None, v) ∷ rest) locals local start
     either (inl got) = inl (got_behind (None, v) rest locals local start got)
     either (inr stayed) = inr (record { none = none_behind (None, v) rest local (λ is. cc) stayed.none; is = stayed.is })
 on_local ((Some first, v) ∷ rest) locals local start less =
@@ -128,9 +132,11 @@ keeps_length ((Some target, v) ∷ rest) locals = keeps_length rest (slice_set l
 module _ (given other : List Deposit) (apart : AreApart (targets_of given)) (there : (deposit : Deposit) → Has deposit given → Has deposit other)
     (back : (deposit : Deposit) → Has deposit other → Has deposit given)
     (locals : Locals) where
-  same_local : (local : ℕ) (start : ℤ) → GotValue given locals local start ⊎ StayedSame given locals local start → GotValue other locals local start ⊎ StayedSame other locals local start →
+  same_local : (local : ℕ) (start : ℤ) → GotValue given locals local start ⊎ StayedSame given locals local start
+      → GotValue other locals local start ⊎ StayedSame other locals local start →
       get_or (deposited given locals) local start ≡ get_or (deposited other locals) local start
-  same_local local start (inl got) (inl got') = got.is ∙ one_value given local got.value got'.value apart got.has (back (Some local, got'.value) got'.has) ∙ sym got'.is
+  same_local local start (inl got) (inl got') =
+      got.is ∙ one_value given local got.value got'.value apart got.has (back (Some local, got'.value) got'.has) ∙ sym got'.is
   same_local local start (inl got) (inr stayed') = absurd (stayed'.none got.value (there (Some local, got.value) got.has))
   same_local local start (inr stayed) (inl got') = absurd (stayed.none got'.value (back (Some local, got'.value) got'.has))
   same_local local start (inr stayed) (inr stayed') = stayed.is ∙ sym stayed'.is
@@ -143,7 +149,8 @@ module _ (given other : List Deposit) (apart : AreApart (targets_of given)) (the
       (λ local less. let inside : local < length locals = omega (arith, long, less) in
       same_local local (pos 0) (on_local given locals local (pos 0) inside) (on_local other locals local (pos 0) inside))
 
-pub any_order : (given other : List Deposit) → AreApart (targets_of given) → IsPermutation given other → (locals : Locals) → deposited given locals ≡ deposited other locals
+pub any_order : (given other : List Deposit) → AreApart (targets_of given) → IsPermutation given other → (locals : Locals)
+    → deposited given locals ≡ deposited other locals
 any_order given other apart same locals =
     same_locals given other apart
     (λ deposit has. contains_has other deposit (Contains-permutation given other deposit same (has_contains given deposit has)))

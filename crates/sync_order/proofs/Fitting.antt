@@ -1,8 +1,8 @@
 -- Answers whose children's values came in any order lead a frame as the same ones in the order of the spawns.
-use Rattle.std.proofs.Common.{◌≡◌, ℕ, List, [], ◌∷◌, ◌++◌, take, length, Option, Some, None, refl, sym, ap, ◌∙◌, subst}
+use Rattle.std.proofs.Common.{◌≡◌, ℕ, List, [], ◌∷◌, ◌++◌, Option, Some, None, refl, sym, ap, ◌∙◌, subst}
 use Rattle.std.proofs.lemmas.List.Sorted.{All-permutation, IsPermutation-refl, IsPermutation-sym}
 use Rattle.std.specs.Prelude.{ℤ, true, slice_get}
-use Rattle.cilk_meaning.specs.Alone.{Block, block_after, block_of, AllFit, Fits, IsValue}
+use Rattle.cilk_meaning.specs.Alone.{Block, block_after, AllFit, Fits, IsValue}
 use Rattle.cilk_meaning.specs.Instance as instance
 use Rattle.cilk_meaning.specs.Resolved.{Program}
 use Rattle.cilk_meaning.specs.Wants.{Request, Read, Write, Add, Print, Spawn, Sync, Call, LoopTurn, suits, Want, Asks, Returns, Traps, Deposit, Answer, Value, Children, Done}
@@ -10,9 +10,9 @@ use Rattle.machine_code.specs.Early.{TakesEarly}
 use Rattle.machine_code.specs.Machine.{Code, Frame, Move, GoesOn, Requests, Ends, Stuck, last_want, resumed, settled, start_frame, starts, starts_at, want_and, wants_for}
 use Rattle.machine_code.specs.StandsFor.{StandsFor}
 use Rattle.machine_code.specs.declared.code.Proc.{Proc}
-use Rattle.sync_order.specs.Orders.{AllFitInAnyOrder, AreApart, AreFittingInAnyOrder, AreSame, FitsInAnyOrder, GoesAsOrdered, IsInAnyOrder, IsSame}
-use Rattle.sync_order.proofs.Blocks.{Came, Leads, block_apart, came_first, settled_leads}
-use Rattle.sync_order.proofs.Moving.{IsFree, order_is_free}
+use Rattle.sync_order.specs.Orders.{AllFitInAnyOrder, AreApart, AreFittingInAnyOrder, AreSame, FitsInAnyOrder, GoesAsOrdered, IsSame}
+use Rattle.sync_order.proofs.Blocks.{Came, Leads, came_first, settled_leads}
+use Rattle.sync_order.proofs.Moving.{IsFree}
 
 same_answer : (answer : Answer) → IsSame answer answer
 same_answer (Value value) = refl
@@ -42,11 +42,13 @@ record OneOrdered (block : Block) (request : Request) (follows : Answer → Opti
   fits : Fits block request first
   led : follows first ≡ follows answer
 
-one_ordered : (block : Block) (request : Request) (follows : Answer → Option Frame) (answer : Answer) → AreApart block → IsFree follows → FitsInAnyOrder block request answer →
+one_ordered : (block : Block) (request : Request) (follows : Answer → Option Frame) (answer : Answer) → AreApart block → IsFree follows
+    → FitsInAnyOrder block request answer →
     OneOrdered block request follows answer
 one_ordered block request follows (Value value) apart is_free fit =
     record { first = Value value; same = refl; fits = record { suits = fit.suits; values = fit.values; children = tt }; led = refl }
-one_ordered block request follows Done apart is_free fit = record { first = Done; same = refl; fits = record { suits = fit.suits; values = fit.values; children = tt }; led = refl }
+one_ordered block request follows Done apart is_free fit =
+    record { first = Done; same = refl; fits = record { suits = fit.suits; values = fit.values; children = tt }; led = refl }
 one_ordered block request follows (Children deposits) apart is_free fit =
     let ordered = fit.children.ordered in
     record {
@@ -86,16 +88,22 @@ module _ (code : Code) (early : TakesEarly code) (depth procedure : ℕ) (argume
   rest_ordered : (block : Block) (frame : Option Frame) (answers : List Answer) → AllFitInAnyOrder block (resumed frame (wants_for code answers)) answers →
       ((g : Frame) → frame ≡ Some g → AllFitInAnyOrder block (wants_for code answers g) answers → AllOrdered block g answers) → RestOrdered block frame answers
   rest_ordered block None answers fit later = record { ordered = answers; same = same_answers answers; fits = tt; goes = λ rest. refl }
-  rest_ordered block (Some g) answers fit later = let all = later g refl fit in record { ordered = all.ordered; same = all.same; fits = all.fits; goes = all.goes }
+  rest_ordered block (Some g) answers fit later =
+      let all = later g refl fit in record { ordered = all.ordered; same = all.same; fits = all.fits; goes = all.goes }
 
-  request_ordered : (block : Block) (request : Request) (follows : Answer → Option Frame) (answer : Answer) (answers : List Answer) → OneOrdered block request follows answer →
+  request_ordered : (block : Block) (request : Request) (follows : Answer → Option Frame) (answer : Answer) (answers : List Answer)
+      → OneOrdered block request follows answer →
       RestOrdered (block_after request block) (follows answer) answers → MoveOrdered block (Requests request follows) answer answers
   request_ordered block request follows answer answers one behind = record {
     first = one.first;
     ordered = behind.ordered;
     same = (one.same, behind.same);
-    fits = (one.fits, subst (λ frame. AllFit (block_after request block) (resumed frame (wants_for code behind.ordered)) behind.ordered) (sym one.led) behind.fits);
-    goes = λ rest. ap (λ frame. Asks request ∷ resumed frame (wants_for code (behind.ordered ++ rest))) one.led ∙ ap (λ wants. Asks request ∷ wants) (behind.goes rest);
+    fits =
+        (one.fits, subst (λ frame. AllFit (block_after request block) (resumed frame (wants_for code behind.ordered)) behind.ordered)
+            (sym one.led) behind.fits);
+    goes =
+        λ rest. ap (λ frame. Asks request ∷ resumed frame (wants_for code (behind.ordered ++ rest))) one.led
+            ∙ ap (λ wants. Asks request ∷ wants) (behind.goes rest);
   }
 
   nothing_behind : (block : Block) (want : Want) (answer : Answer) (answers : List Answer) → AllFitInAnyOrder block (want ∷ []) (answer ∷ answers) →
@@ -104,15 +112,18 @@ module _ (code : Code) (early : TakesEarly code) (depth procedure : ℕ) (argume
   nothing_behind block (Returns value) answer answers fit end = cc
   nothing_behind block (Traps kind) answer answers fit end = cc
 
-  move_ordered : (block : Block) (move : Move) (answer : Answer) (answers : List Answer) → AreApart block → Leads code early depth procedure arguments block move →
+  move_ordered : (block : Block) (move : Move) (answer : Answer) (answers : List Answer) → AreApart block
+      → Leads code early depth procedure arguments block move →
       AllFitInAnyOrder block (want_and move answer (wants_for code answers)) (answer ∷ answers) →
-      ((after : Block) (g : Frame) → Came code early depth procedure arguments after g → AllFitInAnyOrder after (wants_for code answers g) answers → AllOrdered after g answers) →
+      ((after : Block) (g : Frame) → Came code early depth procedure arguments after g → AllFitInAnyOrder after (wants_for code answers g) answers
+          → AllOrdered after g answers) →
       MoveOrdered block move answer answers
   move_ordered block (GoesOn f) answer answers apart leads fit later =
       record { first = answer; ordered = answers; same = same_answers (answer ∷ answers); fits = tt; goes = λ rest. refl }
   move_ordered block (Requests request follows) answer answers apart leads fit later =
       request_ordered block request follows answer answers (one_ordered block request follows answer apart leads.is_free fit.0)
-      (rest_ordered (block_after request block) (follows answer) answers fit.1 (λ g led fits. later (block_after request block) g (leads.comes answer g led) fits))
+      (rest_ordered (block_after request block) (follows answer) answers fit.1
+          (λ g led fits. later (block_after request block) g (leads.comes answer g led) fits))
   move_ordered block (Ends want) answer answers apart leads fit later = absurd (nothing_behind block want answer answers fit leads)
   move_ordered block Stuck answer answers apart leads fit later =
       record { first = answer; ordered = answers; same = same_answers (answer ∷ answers); fits = tt; goes = λ rest. refl }
@@ -128,7 +139,8 @@ module _ (code : Code) (early : TakesEarly code) (depth procedure : ℕ) (argume
   all_ordered : (answers : List Answer) (block : Block) (f : Frame) → Came code early depth procedure arguments block f →
       AllFitInAnyOrder block (wants_for code answers f) answers → AllOrdered block f answers
   all_ordered [] block f came fit =
-      record { ordered = []; same = tt; fits = last_fits block (settled code f) (settled_leads code early depth procedure arguments block f came); goes = λ rest. refl }
+      record { ordered = []; same = tt; fits = last_fits block (settled code f) (settled_leads code early depth procedure arguments block f came);
+          goes = λ rest. refl }
   all_ordered (answer ∷ answers) block f came fit =
       let leads = settled_leads code early depth procedure arguments block f came in
       let all = move_ordered block (settled code f) answer answers came.apart leads fit (λ after g comes fits. all_ordered answers after g comes fits) in
@@ -162,7 +174,9 @@ module _ (code : Code) (early : TakesEarly code) (depth procedure : ℕ) (argume
             ordered = all.ordered;
             same = all.same;
             fits = subst (λ it. AllFit [] (starts_at code depth it arguments all.ordered) all.ordered) (sym is) all.fits;
-            goes = λ rest. subst (λ it. starts_at code depth it arguments (all.ordered ++ rest) ≡ starts_at code depth it arguments (answers ++ rest)) (sym is) (all.goes rest);
+            goes =
+                λ rest. subst (λ it. starts_at code depth it arguments (all.ordered ++ rest) ≡ starts_at code depth it arguments (answers ++ rest)) (sym is)
+                    (all.goes rest);
           }
 
 -- ---- of a program
@@ -171,22 +185,12 @@ module _ (code : Code) (program : Program) (stands : StandsFor code program) (de
   as_program : (answers : List Answer) → starts code depth procedure arguments answers ≡ instance.wants program depth procedure arguments answers
   as_program answers = ap (λ begins. begins depth procedure arguments answers) stands.wants
 
-  pub targets_apart : (answers : List Answer) (count : ℕ) → AreApart (block_of [] (take count (instance.wants program depth procedure arguments answers)))
-  targets_apart answers count = subst (λ wants. AreApart (block_of [] (take count wants))) (as_program answers) (block_apart code stands.early depth procedure arguments answers count)
-
-  -- one sync's values in another order
-  pub goes_in_any_order : (answers : List Answer) (deposits : List Deposit) (rest : List Answer) →
-      (is : IsInAnyOrder (block_of [] (take (length answers) (instance.wants program depth procedure arguments answers))) deposits) →
-      instance.wants program depth procedure arguments (answers ++ Children is.ordered ∷ rest) ≡ instance.wants program depth procedure arguments (answers ++ Children deposits ∷ rest)
-  goes_in_any_order answers deposits rest is =
-      sym (as_program (answers ++ Children is.ordered ∷ rest))
-      ∙ order_is_free code is.ordered deposits (subst AreApart (sym is.targets) (targets_apart answers (length answers))) is.same rest depth procedure arguments answers
-      ∙ as_program (answers ++ Children deposits ∷ rest)
-
   -- all of them
-  pub goes_as_ordered : (answers : List Answer) → AreFittingInAnyOrder program depth procedure arguments answers → GoesAsOrdered program depth procedure arguments answers
+  pub goes_as_ordered : (answers : List Answer) → AreFittingInAnyOrder program depth procedure arguments answers
+      → GoesAsOrdered program depth procedure arguments answers
   goes_as_ordered answers fit =
-      let all = start_ordered code stands.early depth procedure arguments answers (subst (λ wants. AllFitInAnyOrder [] wants answers) (sym (as_program answers)) fit) in
+      let all = start_ordered code stands.early depth procedure arguments answers
+          (subst (λ wants. AllFitInAnyOrder [] wants answers) (sym (as_program answers)) fit) in
       record {
         ordered = all.ordered;
         same = all.same;

@@ -91,9 +91,11 @@ module _ (code : Code) where
   act_behaves f (Some (instr.ReadShared array)) =
       pop_behaves f.running.operands _ (λ i rest. given_behaves (word_of (extent_of code.shared array) i) _ (λ word. free None))
   act_behaves f (Some (instr.WriteShared array)) =
-      pop_behaves f.running.operands _ (λ v below. pop_behaves below _ (λ i rest. given_behaves (word_of (extent_of code.shared array) i) _ (λ word. free None)))
+      pop_behaves f.running.operands _
+          (λ v below. pop_behaves below _ (λ i rest. given_behaves (word_of (extent_of code.shared array) i) _ (λ word. free None)))
   act_behaves f (Some (instr.AddShared array)) =
-      pop_behaves f.running.operands _ (λ addend below. pop_behaves below _ (λ i rest. given_behaves (word_of (extent_of code.shared array) i) _ (λ word. free None)))
+      pop_behaves f.running.operands _
+          (λ addend below. pop_behaves below _ (λ i rest. given_behaves (word_of (extent_of code.shared array) i) _ (λ word. free None)))
   act_behaves f (Some instr.PrintTop) = pop_behaves f.running.operands _ (λ v rest. free None)
   act_behaves f (Some instr.Turn) = free None
   act_behaves f (Some (instr.Call procedure)) =
@@ -139,7 +141,8 @@ module _ (code : Code) where
     later (Ends want) answer one two equal = refl
     later Stuck answer one two equal = refl
 
-    pub frames_want : (answers : List Answer) (f : Frame) → wants_for code (answers ++ Children first ∷ rest) f ≡ wants_for code (answers ++ Children other ∷ rest) f
+    pub frames_want : (answers : List Answer) (f : Frame)
+        → wants_for code (answers ++ Children first ∷ rest) f ≡ wants_for code (answers ++ Children other ∷ rest) f
     frames_want [] f = at_once (settled code f) (settled_behaves f)
     frames_want (answer ∷ answers) f = later (settled code f) answer _ _ (frames_want answers)
 
@@ -147,6 +150,7 @@ module _ (code : Code) where
         starts code depth procedure arguments (answers ++ Children first ∷ rest) ≡ starts code depth procedure arguments (answers ++ Children other ∷ rest)
     order_is_free depth procedure arguments answers = at_proc (slice_get code.procs procedure)
       where
-        at_proc : (proc : Option Proc) → starts_at code depth proc arguments (answers ++ Children first ∷ rest) ≡ starts_at code depth proc arguments (answers ++ Children other ∷ rest)
+        at_proc : (proc : Option Proc) → starts_at code depth proc arguments (answers ++ Children first ∷ rest)
+            ≡ starts_at code depth proc arguments (answers ++ Children other ∷ rest)
         at_proc None = refl
         at_proc (Some proc) = frames_want answers (start_frame proc arguments depth)
