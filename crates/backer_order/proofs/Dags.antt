@@ -13,7 +13,8 @@ use Rattle.backer_order.proofs.Settled as settled
 use Rattle.backer_order.proofs.Joins as joins
 use Rattle.backer_order.proofs.Places as places
 
-module _ (events : Events) (memory : SharedMemory) (caching : Caching events memory) (has_returned : Returns) (stack : Stacks) (edges : Edges events memory has_returned stack) (taken : Taken events stack) where
+module _ (events : Events) (memory : SharedMemory) (caching : Caching events memory) (has_returned : Returns) (stack : Stacks)
+    (edges : Edges events memory has_returned stack) (taken : Taken events stack) where
   keep_at : (now : ℕ) (y : Event) → (frame : FrameId) (x : ℕ) → Early events now frame x →
       early_after now y (BlockChild events now) (Early events now) frame x
   keep_at now (Acts node g (Spawn d)) frame x h = inl h
@@ -89,7 +90,8 @@ module _ (events : Events) (memory : SharedMemory) (caching : Caching events mem
   kid_later frame d i node (suc now) is h none = elim (compare i now) [
     | Same3 same ↦ subst (λ j. BlockChild events (suc j) frame d) same (kid_first i node frame d is)
     | More3 l ↦ absurd (omega arith)
-    | Less3 l ↦ kid_keep_at now (events now) refl frame d (λ h'. none now l (omega arith) h') (kid_later frame d i node now is l (λ j k k' h'. none j k (omega arith) h'))
+    | Less3 l ↦ kid_keep_at now (events now) refl frame d (λ h'. none now l (omega arith) h')
+        (kid_later frame d i node now is l (λ j k k' h'. none j k (omega arith) h'))
   ]
 
   not_both : (now node other : ℕ) (frame g d : FrameId) → events now ≡ Acts node frame Sync → events now ≡ Acts other g (Spawn d) → ⊥
@@ -141,8 +143,12 @@ module _ (events : Events) (memory : SharedMemory) (caching : Caching events mem
   spawn_before : (now node : ℕ) (frame d : FrameId) (j : ℕ) → events now ≡ Acts node frame (Spawn d) → ActOf events d j → now < j
   spawn_before now node frame d j is (other, a, act) = elim (compare now j) [
     | Less3 l ↦ l
-    | Same3 same ↦ absurd (places.not_again events memory has_returned stack edges.frames j other d j ((places.all_invs events memory has_returned stack edges.frames taken j) j (omega arith)) (settled.actor_on events memory caching has_returned stack edges taken j other d a act) (omega arith) (node, frame, subst (λ i. events i ≡ Acts node frame (Spawn d)) same is))
-    | More3 l ↦ absurd (places.not_again events memory has_returned stack edges.frames j other d now ((places.all_invs events memory has_returned stack edges.frames taken j) j (omega arith)) (settled.actor_on events memory caching has_returned stack edges taken j other d a act) (omega arith) (node, frame, is))
+    | Same3 same ↦ absurd (places.not_again events memory has_returned stack edges.frames j other d j
+        ((places.all_invs events memory has_returned stack edges.frames taken j) j (omega arith)) (settled.actor_on events memory caching has_returned stack
+        edges taken j other d a act) (omega arith) (node, frame, subst (λ i. events i ≡ Acts node frame (Spawn d)) same is))
+    | More3 l ↦ absurd (places.not_again events memory has_returned stack edges.frames j other d now
+        ((places.all_invs events memory has_returned stack edges.frames taken j) j (omega arith))
+        (settled.actor_on events memory caching has_returned stack edges taken j other d a act) (omega arith) (node, frame, is))
   ]
 
   down : (x y : ℕ) (frame : FrameId) (j node : ℕ) (g : FrameId) (a : Act) → Under events y frame j → events y ≡ Acts node g a →
@@ -189,8 +195,11 @@ module _ (events : Events) (memory : SharedMemory) (caching : Caching events mem
   pub dag_kept : (end : ℕ) → (other node word x y : ℕ) → y < end → IsAccess events other word x → IsAccess events node word y →
       Precedes events x y → Before events memory end word other x node y
   dag_kept end other node word x y yn ax (inl (inl (value, ay))) h =
-      settled.early_first events memory caching has_returned stack edges taken end other node ay.frame word x y (Write word value) yn ay.is (precedes_early x y node ay.frame (Write word value) ay.is (λ k. cc) h) ax (inl (inl (value, ay)))
+      settled.early_first events memory caching has_returned stack edges taken end other node ay.frame word x y (Write word value) yn ay.is
+          (precedes_early x y node ay.frame (Write word value) ay.is (λ k. cc) h) ax (inl (inl (value, ay)))
   dag_kept end other node word x y yn ax (inl (inr (value, ay))) h =
-      settled.early_first events memory caching has_returned stack edges taken end other node ay.frame word x y (Read word value) yn ay.is (precedes_early x y node ay.frame (Read word value) ay.is (λ k. cc) h) ax (inl (inr (value, ay)))
+      settled.early_first events memory caching has_returned stack edges taken end other node ay.frame word x y (Read word value) yn ay.is
+          (precedes_early x y node ay.frame (Read word value) ay.is (λ k. cc) h) ax (inl (inr (value, ay)))
   dag_kept end other node word x y yn ax (inr (old, ay)) h =
-      settled.early_first events memory caching has_returned stack edges taken end other node ay.frame word x y (Add word old ay.addend) yn ay.is (precedes_early x y node ay.frame (Add word old ay.addend) ay.is (λ k. cc) h) ax (inr (old, ay))
+      settled.early_first events memory caching has_returned stack edges taken end other node ay.frame word x y (Add word old ay.addend) yn ay.is
+          (precedes_early x y node ay.frame (Add word old ay.addend) ay.is (λ k. cc) h) ax (inr (old, ay))

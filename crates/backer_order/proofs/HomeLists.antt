@@ -23,7 +23,8 @@ module _ (events : Events) (memory : SharedMemory) (caching : Caching events mem
   pub trans : (node x other y r z : ℕ) → Bef node x other y → Bef other y r z → Bef node x r z
   trans node x other y r z (inl (inl a)) (inl (inl b)) =
       let e = last.moment_unique events memory caching other word y a.second b.first a.second_is b.first_is in
-      inl (inl (record { first = a.first; second = b.second; first_is = a.first_is; second_is = b.second_is; first_in = a.first_in; second_in = b.second_in; order = lex a.first a.second b.second x y z a.order (subst (λ i. (i < b.second) ⊎ ((i ≡ b.second) × (y < z))) (sym e) b.order) }))
+      inl (inl (record { first = a.first; second = b.second; first_is = a.first_is; second_is = b.second_is; first_in = a.first_in; second_in = b.second_in;
+          order = lex a.first a.second b.second x y z a.order (subst (λ i. (i < b.second) ⊎ ((i ≡ b.second) × (y < z))) (sym e) b.order) }))
   trans node x other y r z (inl (inl a)) (inl (inr b)) =
       inl (inr (record { first = a.first; first_is = a.first_is; first_in = a.first_in; second_is = b.second_is }))
   trans node x other y r z (inl (inl a)) (inr b) = absurd (b.first_is a.second a.second_in a.second_is)
@@ -46,7 +47,8 @@ module _ (events : Events) (memory : SharedMemory) (caching : Caching events mem
         | Same3 h ↦ elim (compare x y) [
           | Less3 k ↦ inl (inl (inl (record { first = m; second = m'; first_is = mo; second_is = mo'; first_in = mn; second_in = mn'; order = inr (h, k) })))
           | Same3 k ↦ absurd (ne k)
-          | More3 k ↦ inr (inl (inl (record { first = m'; second = m; first_is = mo'; second_is = mo; first_in = mn'; second_in = mn; order = inr (sym h, k) })))
+          | More3 k ↦
+              inr (inl (inl (record { first = m'; second = m; first_is = mo'; second_is = mo; first_in = mn'; second_in = mn; order = inr (sym h, k) })))
         ]
       ]
       | inr hn ↦ inl (inl (inr (record { first = m; first_is = mo; first_in = mn; second_is = hn })))
@@ -77,9 +79,6 @@ module _ (events : Events) (memory : SharedMemory) (caching : Caching events mem
       acts_one : (node other i : ℕ) → ((frame : FrameId) × (x : Act) × (events i ≡ Acts node frame x)) →
           ((frame : FrameId) × (x : Act) × (events i ≡ Acts other frame x)) → node ≡ other
       acts_one node other i a b = let h = a.2 in let k = b.2 in cc
-
-  A : Type 0
-  A = Entry events now word
 
   -- an insertion, with what it keeps
   record Inserted (a : Entry events now word) (l : List (Entry events now word)) : Type 0 where
@@ -114,7 +113,8 @@ module _ (events : Events) (memory : SharedMemory) (caching : Caching events mem
   ]
 
   as_act : (node i : ℕ) → IsAccess events node word i →
-      ((v : ℤ) × (frame : FrameId) × (events i ≡ Acts node frame (Write word v))) ⊎ (((v : ℤ) × (frame : FrameId) × (events i ≡ Acts node frame (Read word v))) ⊎ ((old : ℤ) × (frame : FrameId) × (d : ℤ) × (events i ≡ Acts node frame (Add word old d))))
+      ((v : ℤ) × (frame : FrameId) × (events i ≡ Acts node frame (Write word v))) ⊎ (((v : ℤ) × (frame : FrameId) × (events i ≡ Acts node frame (Read word v)))
+          ⊎ ((old : ℤ) × (frame : FrameId) × (d : ℤ) × (events i ≡ Acts node frame (Add word old d))))
   as_act node i (inl (inl a)) = inl (a.0, a.1.frame, a.1.is)
   as_act node i (inl (inr a)) = inr (inl (a.0, a.1.frame, a.1.is))
   as_act node i (inr a) = inr (inr (a.0, a.1.frame, a.1.addend, a.1.is))
@@ -123,15 +123,18 @@ module _ (events : Events) (memory : SharedMemory) (caching : Caching events mem
       ((node : ℕ) × IsAccess events node word i) ⊎ ((node : ℕ) → IsAccess events node word i → ⊥)
   access_at i (Acts node frame (Write u v)) is = elim (same_or_not u word) [
     | inl e ↦ inl (node, inl (inl (v, record { frame = frame; is = cc })))
-    | inr ne ↦ inr (λ other a. elim (as_act other i a) [ inl x ↦ let h = x.2 in ne cc | inr k ↦ elim k [ inl x ↦ let h = x.2 in absurd cc | inr x ↦ let h = x.3 in absurd cc ] ])
+    | inr ne ↦ inr (λ other a. elim (as_act other i a)
+        [ inl x ↦ let h = x.2 in ne cc | inr k ↦ elim k [ inl x ↦ let h = x.2 in absurd cc | inr x ↦ let h = x.3 in absurd cc ] ])
   ]
   access_at i (Acts node frame (Read u v)) is = elim (same_or_not u word) [
     | inl e ↦ inl (node, inl (inr (v, record { frame = frame; is = cc })))
-    | inr ne ↦ inr (λ other a. elim (as_act other i a) [ inl x ↦ let h = x.2 in absurd cc | inr k ↦ elim k [ inl x ↦ let h = x.2 in ne cc | inr x ↦ let h = x.3 in absurd cc ] ])
+    | inr ne ↦ inr (λ other a. elim (as_act other i a)
+        [ inl x ↦ let h = x.2 in absurd cc | inr k ↦ elim k [ inl x ↦ let h = x.2 in ne cc | inr x ↦ let h = x.3 in absurd cc ] ])
   ]
   access_at i (Acts node frame (Add u old d)) is = elim (same_or_not u word) [
     | inl e ↦ inl (node, inr (old, record { frame = frame; addend = d; is = cc }))
-    | inr ne ↦ inr (λ other a. elim (as_act other i a) [ inl x ↦ let h = x.2 in absurd cc | inr k ↦ elim k [ inl x ↦ let h = x.2 in absurd cc | inr x ↦ let h = x.3 in ne cc ] ])
+    | inr ne ↦ inr (λ other a. elim (as_act other i a)
+        [ inl x ↦ let h = x.2 in absurd cc | inr k ↦ elim k [ inl x ↦ let h = x.2 in absurd cc | inr x ↦ let h = x.3 in ne cc ] ])
   ]
   access_at i y is =
       inr (λ other a. elim (as_act other i a) [ inl x ↦ let h = x.2 in cc | inr k ↦ elim k [ inl x ↦ let h = x.2 in cc | inr x ↦ let h = x.3 in cc ] ])
@@ -149,7 +152,9 @@ module _ (events : Events) (memory : SharedMemory) (caching : Caching events mem
       elim (access_at k (events k) refl) [
         | inr not ↦ record {
           list = u.list;
-          all = λ node i l a. elim (compare i k) [ Less3 l' ↦ u.all node i l' a | Same3 e ↦ absurd (not node (subst (λ j. IsAccess events node word j) e a)) | More3 l' ↦ absurd (omega arith) ];
+          all =
+              λ node i l a. elim (compare i k) [ Less3 l' ↦ u.all node i l' a | Same3 e ↦ absurd (not node (subst (λ j. IsAccess events node word j) e a))
+                  | More3 l' ↦ absurd (omega arith) ];
           only = λ i m. let l = u.only i m in omega arith;
           sorted = u.sorted;
         }
@@ -157,7 +162,9 @@ module _ (events : Events) (memory : SharedMemory) (caching : Caching events mem
             let r = insert (record { node = other; at = k; inside = h; is = ak }) u.list (λ m. let l = u.only k m in absurd (omega arith)) u.sorted in
             record {
               list = r.list;
-              all = λ node i l a. elim (compare i k) [ Less3 l' ↦ r.keeps i (inr (u.all node i l' a)) | Same3 e ↦ r.keeps i (inl (sym e)) | More3 l' ↦ absurd (omega arith) ];
+              all =
+                  λ node i l a. elim (compare i k) [ Less3 l' ↦ r.keeps i (inr (u.all node i l' a)) | Same3 e ↦ r.keeps i (inl (sym e)) | More3 l' ↦
+                      absurd (omega arith) ];
               only = λ i m. elim (r.only i m) [ inl e ↦ omega arith | inr m' ↦ let l = u.only i m' in omega arith ];
               sorted = r.sorted;
             }

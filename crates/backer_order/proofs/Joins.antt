@@ -22,7 +22,8 @@ twice frame child below (x ∷ rest) back same =
     tail : rest ++ child ∷ (frame ∷ back) ≡ below
     tail = cc
 
-module _ (events : Events) (memory : SharedMemory) (has_returned : Returns) (stack : Stacks) (edges : Edges events memory has_returned stack) (taken : Taken events stack) where
+module _ (events : Events) (memory : SharedMemory) (has_returned : Returns) (stack : Stacks) (edges : Edges events memory has_returned stack)
+    (taken : Taken events stack) where
   inv : (now : ℕ) → places.Inv events memory has_returned stack edges.frames now
   inv now = places.all_invs events memory has_returned stack edges.frames taken now now (omega arith)
 
@@ -71,7 +72,8 @@ module _ (events : Events) (memory : SharedMemory) (has_returned : Returns) (sta
         | More3 l' ↦ absurd (omega arith)
         | Less3 l' ↦ elim (places.comes events memory has_returned stack edges.frames now node frame m) [
           | inl old ↦ only_there frame t taker is now (λ j k k' up. none j k (omega arith) up) l' node old
-          | inr (inl (g, sp)) ↦ absurd (places.not_again events memory has_returned stack edges.frames (suc t) taker frame now (inv (suc t)) on (omega arith) (node, g, sp))
+          | inr (inl (g, sp)) ↦
+              absurd (places.not_again events memory has_returned stack edges.frames (suc t) taker frame now (inv (suc t)) on (omega arith) (node, g, sp))
           | inr (inr up) ↦ absurd (none now l' (omega arith) (node, up))
         ]
       ]
@@ -87,7 +89,8 @@ module _ (events : Events) (memory : SharedMemory) (has_returned : Returns) (sta
       places.same_token events memory has_returned stack edges.frames j.at park.post grant.post j.node j.node frame
       (places.all_invs events memory has_returned stack edges.frames taken j.at) park.before grant.before (park.sender, inr park.is)
       (grant.sender, inl grant.is) park.none grant.none in
-      absurd (not_both park.post park.sender grant.sender j.node frame park.is (subst (λ i. events i ≡ Post grant.sender j.node (Grant frame)) (sym same) grant.is))
+      absurd (not_both park.post park.sender grant.sender j.node frame park.is
+          (subst (λ i. events i ≡ Post grant.sender j.node (Grant frame)) (sym same) grant.is))
     where
       not_both : (k sender other node : ℕ) (frame : FrameId) → events k ≡ Post sender node (Park frame) →
           events k ≡ Post other node (Grant frame) → ⊥

@@ -243,7 +243,9 @@ module _ (events : Events) (memory : SharedMemory) (caching : Caching events mem
   stays node page x a now words act r l none = record {
     before = omega (arith, r.before);
     arrives = r.arrives;
-    kept = λ i h k e. elim (compare i x) [ Less3 l' ↦ r.kept i h l' e | Same3 e' ↦ act_no_drop x node page act (subst (λ y. events y ≡ Drop node page) e' e) | More3 l' ↦ none i l' k (inl e) ];
+    kept =
+        λ i h k e. elim (compare i x) [ Less3 l' ↦ r.kept i h l' e | Same3 e' ↦ act_no_drop x node page act (subst (λ y. events y ≡ Drop node page) e' e)
+            | More3 l' ↦ none i l' k (inl e) ];
     last = λ i h k e. elim (compare i x) [
       | Less3 l' ↦ r.last i h l' e
       | Same3 e' ↦ act_no_arrival x node page e.0 act (subst (λ y. Arrives events node page y e.0) e' e.1)
@@ -258,7 +260,8 @@ module _ (events : Events) (memory : SharedMemory) (caching : Caching events mem
   dropped node page x a now words item act r l absent = elim (find_first (Leave node page) (decide_leave node page) x now) [
     | inr none ↦ absurd (absent a words (stays node page x a now words act r l none))
     | inl hit ↦ elim (hit.here) [
-      | inl d ↦ record { at = hit.at; after = hit.after; before = hit.before; is = d; resident = stays node page x a hit.at words act r (omega (arith, hit.after)) hit.none }
+      | inl d ↦ record { at =
+          hit.at; after = hit.after; before = hit.before; is = d; resident = stays node page x a hit.at words act r (omega (arith, hit.after)) hit.none }
       | inr (ws, a2) ↦
           let b = behind node page hit.at ws a2 in
           let h = b.after x item hit.after in
@@ -306,7 +309,8 @@ module _ (events : Events) (memory : SharedMemory) (caching : Caching events mem
                   let later = received_later K m' t' in
                   elim (compare hit.at z') [
                     | More3 h ↦ absurd (none hit.at h l' (subst (λ i. Sends events node i hit.at) (sym pg) hit.here))
-                    | Same3 e ↦ absurd (act_no_sending z' node (memory.page word) (node, last.writes.frame, Write word (part.words word), last.writes.is) (subst (λ y. Sends events node (memory.page word) y) e hit.here))
+                    | Same3 e ↦ absurd (act_no_sending z' node (memory.page word) (node, last.writes.frame, Write word (part.words word), last.writes.is)
+                        (subst (λ y. Sends events node (memory.page word) y) e hit.here))
                     | Less3 h ↦
                         let (m, t, b) =
                         received_next node (memory.page word) hit.at z' hit.here (write_item node word z' (part.words word, last.writes)) h
@@ -327,7 +331,8 @@ module _ (events : Events) (memory : SharedMemory) (caching : Caching events mem
         let (v, wr) = z.here in
         record {
           at = m;
-          moment = inl (tx, inl (record { arrival = a; words = words; resident = r; write = z.at; value = v; last = record { after = z.after; before = z.before; writes = wr; none = z.none }; post = k; first = first; received = t }));
+          moment = inl (tx, inl (record { arrival = a; words = words; resident = r; write =
+              z.at; value = v; last = record { after = z.after; before = z.before; writes = wr; none = z.none }; post = k; first = first; received = t }));
           before = b;
         }
   ]
@@ -352,7 +357,9 @@ module _ (events : Events) (memory : SharedMemory) (caching : Caching events mem
       x < y → (mo : Stay events memory node word y m) → a ≡ (start_of node word y m mo).0 → Has node word x (suc m)
   same_stay node word x y a m words r ax l (inr d) e =
       let r' : Resident events node (memory.page word) x (d.arrival) d.words =
-      record { before = omega (arith, r.before); arrives = d.resident.arrives; kept = subst (λ i. NoneBetween (λ j. events j ≡ Drop node (memory.page word)) i x) e r.kept; last = subst (λ i. NoneBetween (IsArrival events node (memory.page word)) i x) e r.last } in
+      record { before =
+          omega (arith, r.before); arrives = d.resident.arrives; kept = subst (λ i. NoneBetween (λ j. events j ≡ Drop node (memory.page word)) i x) e r.kept;
+          last = subst (λ i. NoneBetween (IsArrival events node (memory.page word)) i x) e r.last } in
       record {
         at = m;
         moment = inl (ax, inr (record { arrival = d.arrival; words = d.words; resident = r'; none = λ i h k. d.none i h (omega arith); source = d.source }));
@@ -372,7 +379,8 @@ module _ (events : Events) (memory : SharedMemory) (caching : Caching events mem
             let make : (k t : ℕ) → FirstSending events node (memory.page word) (z.at) k → Received events k t → t < suc m → Has node word x (suc m)
             = λ k t first tk h. record {
               at = t;
-              moment = inl (ax, inl (record { arrival = a; words = words; resident = r; write = z.at; value = v; last = record { after = z.after; before = z.before; writes = wr; none = z.none }; post = k; first = first; received = tk }));
+              moment = inl (ax, inl (record { arrival = a; words = words; resident = r; write =
+                  z.at; value = v; last = record { after = z.after; before = z.before; writes = wr; none = z.none }; post = k; first = first; received = tk }));
               before = h;
             } in
             elim (find_first (Sends events node (memory.page word)) (decide_sending events node (memory.page word)) z.at (suc d.post)) [
@@ -385,7 +393,8 @@ module _ (events : Events) (memory : SharedMemory) (caching : Caching events mem
                     | Same3 h ↦ make hit.at m first (subst (λ y. Received events y m) (sym h) d.received) (omega arith)
                     | Less3 h ↦ elim (compare hit.at d.write) [
                       | More3 h' ↦ absurd (d.first.none hit.at h' h hit.here)
-                      | Same3 h' ↦ absurd (act_no_sending d.write node (memory.page word) (node, d.last.writes.frame, Write word d.value, d.last.writes.is) (subst (λ y. Sends events node (memory.page word) y) h' hit.here))
+                      | Same3 h' ↦ absurd (act_no_sending d.write node (memory.page word) (node, d.last.writes.frame, Write word d.value, d.last.writes.is)
+                          (subst (λ y. Sends events node (memory.page word) y) h' hit.here))
                       | Less3 h' ↦
                           let (t, tk, b) =
                           received_next node (memory.page word) hit.at d.write hit.here
@@ -476,7 +485,8 @@ module _ (events : Events) (memory : SharedMemory) (caching : Caching events mem
       from = sv.post;
       from_first = let l = post_first in omega arith;
       absent = λ b ws r. caching.access.add_absent node frame word d sv.post (memory.home (memory.page word)) b ws sv.posted r;
-      items = λ i item l. elim (compare sv.post i) [ Less3 k ↦ let l2 = beyond i item k in absurd (omega arith) | Same3 k ↦ omega arith | More3 k ↦ omega arith ];
+      items =
+          λ i item l. elim (compare sv.post i) [ Less3 k ↦ let l2 = beyond i item k in absurd (omega arith) | Same3 k ↦ omega arith | More3 k ↦ omega arith ];
       apart = λ page a words b. elim (compare a sv.post) [
         | Less3 l ↦ inl l
         | Same3 e ↦ elim (arrival_of node page a words b) [
@@ -496,14 +506,16 @@ module _ (events : Events) (memory : SharedMemory) (caching : Caching events mem
           | inr o ↦ let k = beyond a (subst (λ e. IsItem memory node e) (sym o.is) refl) l in let e = o.at_is in omega arith
           | inl o ↦ elim (compare b.from sv.post) [
             | Less3 k ↦
-                let an = caching.access.alone node sv.post b.from o.home (memory.home (memory.page word)) (Fetch page) (AddTo frame word d) sv.posted tt k o.fetch in
+                let an =
+                    caching.access.alone node sv.post b.from o.home (memory.home (memory.page word)) (Fetch page) (AddTo frame word d) sv.posted tt k o.fetch in
                 let l2 = o.back sv.post an in absurd (omega arith)
             | Same3 e ↦
                 let fe = o.fetch in
                 let fe' : events (sv.post) ≡ Post node o.home (Fetch page) =
                 subst (λ i. events i ≡ Post node o.home (Fetch page)) e fe in let po = sv.posted in absurd cc
             | More3 k ↦
-                let l2 = done_later b.from (caching.access.alone node b.from sv.post (memory.home (memory.page word)) o.home (AddTo frame word d) (Fetch page) o.fetch tt k sv.posted) in
+                let l2 = done_later b.from (caching.access.alone node b.from sv.post (memory.home (memory.page word)) o.home (AddTo frame word d)
+                    (Fetch page) o.fetch tt k sv.posted) in
                 let l3 = b.from_first in omega arith
           ]
         ]
@@ -536,7 +548,8 @@ module _ (events : Events) (memory : SharedMemory) (caching : Caching events mem
         | More3 h ↦ absurd (r'.last a h (omega (arith, r.before)) (words, r.arrives))
         | Less3 h ↦ elim (compare a' x) [
           | Less3 h' ↦ absurd (r.last a' h h' (words', r'.arrives))
-          | Same3 h' ↦ absurd (act_no_arrival x node (memory.page word) words' (touch_act node word x ax) (subst (λ i. Arrives events node (memory.page word) i words') h' r'.arrives))
+          | Same3 h' ↦ absurd (act_no_arrival x node (memory.page word) words' (touch_act node word x ax)
+              (subst (λ i. Arrives events node (memory.page word) i words') h' r'.arrives))
           | More3 h' ↦
               let b = behind node (memory.page word) a' words' r'.arrives in
               let af = after_source node word y m mo b in

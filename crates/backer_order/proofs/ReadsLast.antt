@@ -36,7 +36,8 @@ module _ (events : Events) (memory : SharedMemory) (caching : Caching events mem
   of_write_stay node word y m x (inl d) = elim (compare d.write y) [
     | Less3 h ↦ absurd (d.last.none y h (omega arith) x)
     | More3 h ↦ absurd (omega (arith, d.last.before))
-    | Same3 e ↦ record { arrival = d.arrival; words = d.words; resident = d.resident; post = d.post; first = subst (λ i. FirstSending events node (memory.page word) i d.post) e d.first; received = d.received }
+    | Same3 e ↦ record { arrival = d.arrival; words = d.words; resident =
+        d.resident; post = d.post; first = subst (λ i. FirstSending events node (memory.page word) i d.post) e d.first; received = d.received }
   ]
 
   pub of_write : (node word y m : ℕ) → IsWrite events node word y → Moment events memory node word y m → Sent node word y m
@@ -70,11 +71,13 @@ module _ (events : Events) (memory : SharedMemory) (caching : Caching events mem
       subst (λ i. Resident events node i (o.post) (cl.arrival) cl.found) pg cl.resident in
       let since : cl.arrival < y = elim (compare cl.arrival y) [
         | Less3 h ↦ h
-        | Same3 h ↦ absurd (pages.act_no_arrival events memory caching y node (memory.page word) cl.found act (subst (λ i. Arrives events node (memory.page word) i cl.found) h found.arrives))
+        | Same3 h ↦ absurd (pages.act_no_arrival events memory caching y node (memory.page word) cl.found act
+            (subst (λ i. Arrives events node (memory.page word) i cl.found) h found.arrives))
         | More3 h ↦
             let b = pages.behind events memory caching node (memory.page word) cl.arrival cl.found found.arrives in
             let l = (b.after y (pages.write_item events memory caching node word y x) h).0 in
-            let d = pages.dropped events memory caching node (memory.page word) y o.arrival b.from o.words (pages.write_item events memory caching node word y x) act o.resident l b.absent in
+            let d = pages.dropped events memory caching node (memory.page word) y o.arrival b.from o.words
+                (pages.write_item events memory caching node word y x) act o.resident l b.absent in
             let dr = caching.drops node (memory.page word) d.at d.is in
             let same : dr.arrival ≡ o.arrival =
             pages.resident_unique events memory caching node (memory.page word) d.at dr.arrival o.arrival dr.found o.words dr.resident
@@ -84,7 +87,8 @@ module _ (events : Events) (memory : SharedMemory) (caching : Caching events mem
             let lk = pages.received_later events memory caching cd.post mk rk in
             absurd (o.first.none cd.post cd.after (omega (arith, d.before, b.from_first, b.at_first, found.before)) (cd.part, cd.sends, cd.page))
       ] in
-      (part.words word, MergedAt node o.post part sd o.received pg (cl.all word y (sym pg) x since o.first.after (λ i k k' h. o.first.none i k k' (subst (λ j. Sends events node j i) pg h))) refl)
+      (part.words word, MergedAt node o.post part sd o.received pg
+          (cl.all word y (sym pg) x since o.first.after (λ i k k' h. o.first.none i k k' (subst (λ j. Sends events node j i) pg h))) refl)
 
   -- an access that leaves a value is a change at its moment
   leaving_case : (node word y : ℕ) → IsLeaving events memory node word y →
@@ -148,7 +152,8 @@ module _ (events : Events) (memory : SharedMemory) (caching : Caching events mem
       Resident events node (memory.page word) x a words → LastWrite events node word a (suc x) z value → Sent node word z m →
       Moment events memory node word x m
   with_z node word x a z value m words tx r l o =
-      inl (tx, inl (record { arrival = a; words = words; resident = r; write = z; value = value; last = l; post = o.post; first = o.first; received = o.received }))
+      inl (tx,
+          inl (record { arrival = a; words = words; resident = r; write = z; value = value; last = l; post = o.post; first = o.first; received = o.received }))
 
   earlier_last : (now node word x a z : ℕ) (value : ℤ) (other y m m' : ℕ) (words : ℕ → ℤ) →
       Resident events node (memory.page word) x a words → LastWrite events node word a (suc x) z value → Stay events memory node word x m →
@@ -156,20 +161,23 @@ module _ (events : Events) (memory : SharedMemory) (caching : Caching events mem
       → IsLeaving events memory other word y → Moment events memory other word y m' → (m' < m) ⊎ ((m' ≡ m) × (y < x)) →
       (y ≡ z) ⊎ Before events memory now word other y node z
   earlier_last now node word x a z value other y m m' words r l mx lm lm' lv my (inl h) =
-      inr (inl (inl (record { first = m'; second = m; first_is = my; second_is = own_moment node word z value m l.writes (of_z node word x a z value m words r l mx); first_in = lm'; second_in = lm; order = inl h })))
+      inr (inl (inl (record { first = m'; second = m; first_is = my; second_is =
+          own_moment node word z value m l.writes (of_z node word x a z value m words r l mx); first_in = lm'; second_in = lm; order = inl h })))
   earlier_last now node word x a z value other y m m' words r l mx lm lm' lv my (inr (e, h)) =
       let oz = of_z node word x a z value m words r l mx in
       elim (leaving_case other word y lv) [
         | inr (ay, ch) ↦
             let same : m' ≡ y = add_moment other word y m' ay my in
-            absurd (pages.received_no_act events memory caching oz.post m other ay.1.frame (Add word ay.0 ay.1.addend) oz.received (subst (λ i. events i ≡ Acts other ay.1.frame (Add word ay.0 ay.1.addend)) (sym same ∙ e) ay.1.is))
+            absurd (pages.received_no_act events memory caching oz.post m other ay.1.frame (Add word ay.0 ay.1.addend) oz.received
+                (subst (λ i. events i ≡ Acts other ay.1.frame (Add word ay.0 ay.1.addend)) (sym same ∙ e) ay.1.is))
         | inl iy ↦
             let oy = of_write other word y m' iy my in
             let k : oy.post ≡ oz.post = one_source oy.post oz.post m (subst (λ i. Received events oy.post i) e oy.received) oz.received in
             let same_node : other ≡ node = one_sender other node (memory.page word) oy.post oz.post oy.first.sends oz.first.sends k in
             elim (compare y z) [
               | Same3 e' ↦ inl e'
-              | Less3 h' ↦ inr (inl (inl (record { first = m'; second = m; first_is = my; second_is = own_moment node word z value m l.writes oz; first_in = lm'; second_in = lm; order = inr (e, h') })))
+              | Less3 h' ↦ inr (inl (inl (record { first = m'; second = m; first_is = my; second_is = own_moment node word z value m l.writes oz;
+                  first_in = lm'; second_in = lm; order = inr (e, h') })))
               | More3 h' ↦ absurd (l.none y h' (omega arith) (subst (λ i. IsWrite events i word y) same_node iy))
             ]
       ]
@@ -198,7 +206,8 @@ module _ (events : Events) (memory : SharedMemory) (caching : Caching events mem
       absurd (d'.none d.write (omega (arith, d.last.after)) d.last.before (d.value, d.last.writes))
   stay_unique node word x m m' (inr d) (inr d') =
       let a = pages.resident_unique events memory caching node (memory.page word) x d.arrival d'.arrival d.words d'.words d.resident d'.resident in
-      pages.source_same events memory caching node (memory.page word) d'.arrival m m' (subst (λ i. Source events node (memory.page word) i m) a d.source) d'.source
+      pages.source_same events memory caching node (memory.page word) d'.arrival m m'
+          (subst (λ i. Source events node (memory.page word) i m) a d.source) d'.source
 
   pub moment_unique : (node word x m m' : ℕ) → Moment events memory node word x m → Moment events memory node word x m' → m ≡ m'
   moment_unique node word x m m' (inl d) (inl d') = stay_unique node word x m m' d.1 d'.1
@@ -227,7 +236,8 @@ module _ (events : Events) (memory : SharedMemory) (caching : Caching events mem
                   let first : FirstSending events node (memory.page word) (z.at) (hit.at) =
                   record { after = hit.after; sends = hit.here; none = hit.none } in
                   elim (find_first (Received events hit.at) (decide_received events hit.at) z.at now) [
-                    | inl t ↦ inl (t.at, t.before, inl (ax, inl (record { arrival = a; words = words; resident = r; write = z.at; value = value; last = l; post = hit.at; first = first; received = t.here })))
+                    | inl t ↦ inl (t.at, t.before, inl (ax, inl (record { arrival = a; words = words; resident = r; write = z.at; value = value; last = l;
+                        post = hit.at; first = first; received = t.here })))
                     | inr none ↦ inr (λ m lm mo.
                         let o = of_z node word x a z.at value m words r l (stay_of node word x m ax mo) in
                         let k : o.post ≡ hit.at = elim (compare o.post hit.at) [
@@ -261,9 +271,11 @@ module _ (events : Events) (memory : SharedMemory) (caching : Caching events mem
               at = z;
               leaves = OfWrite l.writes;
               earlier = zx;
-              before = inl (inl (record { first = m; second = m; first_is = own_moment node word z value' m l.writes oz; second_is = mo; first_in = lm; second_in = lm; order = inr (refl, zx) }));
+              before = inl (inl (record { first = m; second =
+                  m; first_is = own_moment node word z value' m l.writes oz; second_is = mo; first_in = lm; second_in = lm; order = inr (refl, zx) }));
               last = λ other y ly lv b. elim b [
-                | inl (inl both) ↦ earlier_last now node word x a z value' other y m both.first words r l stay lm both.first_in lv both.first_is (subst (λ i. (both.first < i) ⊎ ((both.first ≡ i) × (y < x))) (moment_unique node word x both.second m both.second_is mo) both.order)
+                | inl (inl both) ↦ earlier_last now node word x a z value' other y m both.first words r l stay lm both.first_in lv both.first_is
+                    (subst (λ i. (both.first < i) ⊎ ((both.first ≡ i) × (y < x))) (moment_unique node word x both.second m both.second_is mo) both.order)
                 | inl (inr one) ↦ absurd (one.second_is m lm mo)
                 | inr none ↦ absurd (none.second_is m lm mo)
               ];
@@ -298,7 +310,8 @@ module _ (events : Events) (memory : SharedMemory) (caching : Caching events mem
   -- ---- what the home gave
 
   module _ (now node word x t : ℕ) (xn : x < now) (tx : t ≤ x) (mo : Moment events memory node word x t)
-      (not_received : (k other page : ℕ) → Sends events other page k → Received events k t → ⊥) (no_add : (other y : ℕ) → IsAdd events other word y → y ≡ t → y < x → ⊥) where
+      (not_received : (k other page : ℕ) → Sends events other page k → Received events k t → ⊥)
+      (no_add : (other y : ℕ) → IsAdd events other word y → y ≡ t → y < x → ⊥) where
     tn : t < now
     tn = omega (arith, xn, tx)
 
@@ -328,16 +341,19 @@ module _ (events : Events) (memory : SharedMemory) (caching : Caching events mem
           at = u;
           leaves = lv;
           earlier = omega (arith, tx);
-          before = inl (inl (record { first = u; second = t; first_is = inr (au, refl); second_is = mo; first_in = omega (arith, xn, tx); second_in = tn; order = inl before }));
+          before = inl (inl (record { first =
+              u; second = t; first_is = inr (au, refl); second_is = mo; first_in = omega (arith, xn, tx); second_in = tn; order = inl before }));
           last = λ other y ly lv bf.
               let (m, my, lt) = changed_before other y lv bf in
               elim (compare m u) [
-                | Less3 h ↦ inr (inl (inl (record { first = m; second = u; first_is = my; second_is = inr (au, refl); first_in = omega (arith, xn, tx); second_in = omega (arith, xn, tx); order = inl h })))
+                | Less3 h ↦ inr (inl (inl (record { first = m; second = u; first_is = my; second_is = inr (au, refl); first_in = omega (arith, xn, tx);
+                    second_in = omega (arith, xn, tx); order = inl h })))
                 | More3 h ↦ absurd (none m h lt (change_at other word y m lv my))
                 | Same3 h ↦ elim (leaving_case other word y lv) [
                   | inl iy ↦
                       let o = of_write other word y m iy my in
-                      absurd (pages.received_no_act events memory caching o.post u node' frame (Add word old d) (subst (λ i. Received events o.post i) h o.received) is)
+                      absurd (pages.received_no_act events memory caching o.post u node' frame (Add word old d)
+                          (subst (λ i. Received events o.post i) h o.received) is)
                   | inr (ay, ch) ↦ inl (sym (add_moment other word y m ay my) ∙ h)
                 ]
               ];
@@ -367,14 +383,17 @@ module _ (events : Events) (memory : SharedMemory) (caching : Caching events mem
           at = z;
           leaves = OfWrite (subst (λ i. Wrote events node' word z i) valued l.writes);
           earlier = omega (arith, l.before, tx);
-          before = inl (inl (record { first = u; second = t; first_is = mz; second_is = mo; first_in = omega (arith, xn, tx); second_in = tn; order = inl before }));
+          before =
+              inl (inl (record { first = u; second = t; first_is = mz; second_is = mo; first_in = omega (arith, xn, tx); second_in = tn; order = inl before }));
           last = λ other y ly lv bf.
               let (m, my, lt) = changed_before other y lv bf in
               elim (compare m u) [
-                | Less3 h ↦ inr (inl (inl (record { first = m; second = u; first_is = my; second_is = mz; first_in = omega (arith, xn, tx); second_in = omega (arith, xn, tx); order = inl h })))
+                | Less3 h ↦ inr (inl (inl (record { first = m; second = u; first_is = my; second_is = mz; first_in = omega (arith, xn, tx);
+                    second_in = omega (arith, xn, tx); order = inl h })))
                 | More3 h ↦ absurd (none m h lt (change_at other word y m lv my))
                 | Same3 h ↦ elim (leaving_case other word y lv) [
-                  | inr (ay, ch) ↦ absurd (pages.received_no_act events memory caching k u other ay.1.frame (Add word ay.0 ay.1.addend) rc (subst (λ i. events i ≡ Acts other ay.1.frame (Add word ay.0 ay.1.addend)) (sym (add_moment other word y m ay my) ∙ h) ay.1.is))
+                  | inr (ay, ch) ↦ absurd (pages.received_no_act events memory caching k u other ay.1.frame (Add word ay.0 ay.1.addend) rc
+                      (subst (λ i. events i ≡ Acts other ay.1.frame (Add word ay.0 ay.1.addend)) (sym (add_moment other word y m ay my) ∙ h) ay.1.is))
                   | inl iy ↦
                       let oy = of_write other word y m iy my in
                       let kk : oy.post ≡ k = one_source oy.post k u (subst (λ i. Received events oy.post i) h oy.received) rc in
@@ -382,7 +401,8 @@ module _ (events : Events) (memory : SharedMemory) (caching : Caching events mem
                       one_sender other node' (memory.page word) oy.post k oy.first.sends (part, sd, pg) kk in
                       elim (compare y z) [
                         | Same3 e' ↦ inl e'
-                        | Less3 h' ↦ inr (inl (inl (record { first = m; second = u; first_is = my; second_is = mz; first_in = omega (arith, xn, tx); second_in = omega (arith, xn, tx); order = inr (h, h') })))
+                        | Less3 h' ↦ inr (inl (inl (record { first = m; second = u; first_is = my; second_is = mz; first_in = omega (arith, xn, tx);
+                            second_in = omega (arith, xn, tx); order = inr (h, h') })))
                         | More3 h' ↦ absurd (l.none y h' (subst (λ i. y < i) kk oy.first.after) (subst (λ i. IsWrite events i word y) same_node iy))
                       ]
                 ]
@@ -408,7 +428,8 @@ module _ (events : Events) (memory : SharedMemory) (caching : Caching events mem
   read_no_write node word x value r x' = let h = r.is in let h' = x'.1.is in cc
 
   -- where the home gave a page, it received nothing, and no act stands
-  given_no_act : (node page a other : ℕ) (frame : FrameId) (words : ℕ → ℤ) (act : Act) (b : pages.Behind events memory caching node page a words) → events (b.at) ≡ Acts other frame act → ⊥
+  given_no_act : (node page a other : ℕ) (frame : FrameId) (words : ℕ → ℤ) (act : Act) (b : pages.Behind events memory caching node page a words)
+      → events (b.at) ≡ Acts other frame act → ⊥
   given_no_act node page a other frame words act b is = elim (b.which) [
     | inl k ↦ let h = k.took in cc
     | inr k ↦
@@ -458,7 +479,8 @@ module _ (events : Events) (memory : SharedMemory) (caching : Caching events mem
             inl (inr (value, rd), inr (record { arrival = a; words = words; resident = r; none = none; source = b.source })) in
             home_case now node word x b.at xn (omega (arith, b.at_first, r.before)) mo
             (λ k other page sn rc. page_not_received node (memory.page word) a words b k other page sn rc)
-            (λ other y ay e l. given_no_act node (memory.page word) a other ay.1.frame words (Add word ay.0 ay.1.addend) b (subst (λ i. events i ≡ Acts other ay.1.frame (Add word ay.0 ay.1.addend)) e ay.1.is))
+            (λ other y ay e l. given_no_act node (memory.page word) a other ay.1.frame words (Add word ay.0 ay.1.addend) b
+                (subst (λ i. events i ≡ Acts other ay.1.frame (Add word ay.0 ay.1.addend)) e ay.1.is))
             value (subst (λ i. HomeWord events memory word (b.at) i) (sym same) (b.given word refl))
       ]
     where
@@ -480,5 +502,6 @@ module _ (events : Events) (memory : SharedMemory) (caching : Caching events mem
       ]
       page_not_received node page a words b k other page' sn (AtItem other' part is e) = elim (b.which) [
         | inl o ↦ took_not b.at other' b.from o.home part o.took (subst (λ i. events i ≡ OwnReconcile other' part) (sym e) is)
-        | inr o ↦ own_not b.at other' part o.words node page (subst (λ i. events i ≡ OwnFetch node page o.words) (sym o.at_is) o.is) (subst (λ i. events i ≡ OwnReconcile other' part) (sym e) is)
+        | inr o ↦ own_not b.at other' part o.words node page (subst (λ i. events i ≡ OwnFetch node page o.words) (sym o.at_is) o.is)
+            (subst (λ i. events i ≡ OwnReconcile other' part) (sym e) is)
       ]

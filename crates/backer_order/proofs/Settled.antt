@@ -14,7 +14,8 @@ use Rattle.backer_order.proofs.Places as places
 use Rattle.backer_order.proofs.Blocks as blocks
 use Rattle.backer_order.proofs.Joins as joins
 
-module _ (events : Events) (memory : SharedMemory) (caching : Caching events memory) (has_returned : Returns) (stack : Stacks) (edges : Edges events memory has_returned stack) (taken : Taken events stack) where
+module _ (events : Events) (memory : SharedMemory) (caching : Caching events memory) (has_returned : Returns) (stack : Stacks)
+    (edges : Edges events memory has_returned stack) (taken : Taken events stack) where
   abbrev Good : ℕ → ℕ → ℕ → Type 0
   Good now node x = ups.Good events memory caching now node x
 
@@ -47,7 +48,8 @@ module _ (events : Events) (memory : SharedMemory) (caching : Caching events mem
   unfolding Early
   early_born zero frame x h = absurd h
   early_born (suc now) frame x h =
-      elim (blocks.early_step events memory has_returned stack edges now frame x h) [ inl k ↦ born_more frame now (early_born now frame x k) | inr k ↦ newly_born now frame x k ]
+      elim (blocks.early_step events memory has_returned stack edges now frame x h)
+          [ inl k ↦ born_more frame now (early_born now frame x k) | inr k ↦ newly_born now frame x k ]
 
   pub early_before : (now : ℕ) (frame : FrameId) (x : ℕ) → Early events now frame x → x < now
   unfolding Early
@@ -72,7 +74,8 @@ module _ (events : Events) (memory : SharedMemory) (caching : Caching events mem
     | inl k ↦
         let b = here_born now frame d k in
         record { parent = born_more frame now b.parent; birth = b.birth; before = omega (arith, b.before); spawned = b.spawned }
-    | inr (node, is) ↦ record { parent = born_more frame now (actor_born now frame (node, Spawn d, is)); birth = now; before = omega arith; spawned = (node, frame, is) }
+    | inr (node, is) ↦
+        record { parent = born_more frame now (actor_born now frame (node, Spawn d, is)); birth = now; before = omega arith; spawned = (node, frame, is) }
   ]
 
   -- while a frame makes no act, what is early for it stays
@@ -117,7 +120,8 @@ module _ (events : Events) (memory : SharedMemory) (caching : Caching events mem
   good_more : (now node x : ℕ) → Good now node x → Good (suc now) node x
   good_more now node x g other word ax = elim (g other word ax) [
     | inl same ↦ inl same
-    | inr k ↦ inr (record { moment = k.moment; is = k.is; at = k.at; frame = k.frame; takes_up = k.takes_up; first = k.first; before = omega (arith, k.before) })
+    | inr k ↦
+        inr (record { moment = k.moment; is = k.is; at = k.at; frame = k.frame; takes_up = k.takes_up; first = k.first; before = omega (arith, k.before) })
   ]
 
   -- where a clean node sends, what was good there has passed at a later TakeUp
@@ -126,7 +130,8 @@ module _ (events : Events) (memory : SharedMemory) (caching : Caching events mem
   passed_on k node now taker frame m x clean g l l' is l2 other word ax = elim (g other word ax) [
     | inl same ↦
         let h = ups.clean_has events memory caching node k word x clean (subst (λ i. IsAccess events i word x) same ax) l in
-        inr (record { moment = h.at; is = subst (λ i. Moment events memory i word x h.at) (sym same) h.moment; at = now; frame = frame; takes_up = is; first = omega (arith, h.before); before = l2 })
+        inr (record { moment = h.at; is = subst (λ i. Moment events memory i word x h.at) (sym same) h.moment; at = now; frame = frame; takes_up = is;
+            first = omega (arith, h.before); before = l2 })
     | inr h ↦ inr (record { moment = h.moment; is = h.is; at = now; frame = frame; takes_up = is; first = omega (arith, h.first, h.before); before = l2 })
   ]
 
@@ -173,12 +178,14 @@ module _ (events : Events) (memory : SharedMemory) (caching : Caching events mem
       elim (blocks.early_step events memory has_returned stack edges now g x m) [
         | inl old ↦ good_more now node x (fine.early node g x on old)
         | inr (blocks.Own o same) ↦ done_here now node g x a is same
-        | inr (blocks.ByBirth b) ↦ absurd (places.not_again events memory has_returned stack edges.frames now node g now (inv now) on (omega arith) (b.node, b.parent, b.is))
+        | inr (blocks.ByBirth b) ↦
+            absurd (places.not_again events memory has_returned stack edges.frames now node g now (inv now) on (omega arith) (b.node, b.parent, b.is))
         | inr (blocks.ByMerge k) ↦
             let same_node : k.node ≡ node = (inv now).apart k.node node g (actor_on now k.node g Sync k.is) on in
             let is' : events now ≡ Acts node g Sync = subst (λ i. events now ≡ Acts i g Sync) same_node k.is in
             elim (blocks.here_or_away events memory has_returned stack edges now g k.child k.kid) [
-              | inl h ↦ good_more now node x (fine.kept node g k.child x on h (joins.here_returned events memory has_returned stack edges taken now node g k.child is' h) k.early)
+              | inl h ↦ good_more now node x
+                  (fine.kept node g k.child x on h (joins.here_returned events memory has_returned stack edges taken now node g k.child is' h) k.early)
               | inr h ↦ from_join now node g k.child x fines on is' h k.early
             ]
       ]
@@ -193,7 +200,8 @@ module _ (events : Events) (memory : SharedMemory) (caching : Caching events mem
     | inr (blocks.ByMerge k) ↦
         let same_node : k.node ≡ node = (inv now).apart k.node node frame (actor_on now k.node frame Sync k.is) on in
         acting now node frame x Sync fines (subst (λ i. events now ≡ Acts i frame Sync) same_node k.is) m
-    | inr (blocks.ByBirth b) ↦ absurd (places.not_again events memory has_returned stack edges.frames now node frame now (inv now) on (omega arith) (b.node, b.parent, b.is))
+    | inr (blocks.ByBirth b) ↦
+        absurd (places.not_again events memory has_returned stack edges.frames now node frame now (inv now) on (omega arith) (b.node, b.parent, b.is))
   ]
 
   -- a frame that was spawned now
@@ -207,7 +215,8 @@ module _ (events : Events) (memory : SharedMemory) (caching : Caching events mem
         let h = b.is in
         let parent : b.parent ≡ g = cc in
         elim (b.early) [
-          | inl k ↦ good_more now node x ((fines now (omega arith)).early node g x (actor_on now node g (Spawn frame) is) (subst (λ i. Early events now i x) parent k))
+          | inl k ↦ good_more now node x
+              ((fines now (omega arith)).early node g x (actor_on now node g (Spawn frame) is) (subst (λ i. Early events now i x) parent k))
           | inr same ↦ done_here now node g x (Spawn frame) is same
         ]
   ]
@@ -227,20 +236,24 @@ module _ (events : Events) (memory : SharedMemory) (caching : Caching events mem
           let same_node : t.node ≡ node =
           (inv now).apart t.node node frame
           (subst (λ l. IsOn frame l) (sym t.is) (mem_right frame t.front (d ∷ (frame ∷ t.back)) (inr (inl refl)))) on in
-          old_early now node d x fines (subst (λ i. IsOn d (stack now i)) same_node (subst (λ l. IsOn d l) (sym t.is) (mem_middle d t.front (frame ∷ t.back)))) m
+          old_early now node d x fines
+              (subst (λ i. IsOn d (stack now i)) same_node (subst (λ l. IsOn d l) (sym t.is) (mem_middle d t.front (frame ∷ t.back)))) m
     ]
   ]
 
   -- a frame that is taken up now
   module _ (now node : ℕ) (frame : FrameId) (fines : Fines now) (is : events now ≡ TakeUp node frame) where
     from : places.Sent events memory has_returned stack edges.frames now node frame
-    from = places.sent events memory has_returned stack edges.frames now node frame (places.all_invs events memory has_returned stack edges.frames taken now) (taken now) is
+    from =
+        places.sent events memory has_returned stack edges.frames now node frame (places.all_invs events memory has_returned stack edges.frames taken now)
+            (taken now) is
 
     quiet : Quiet frame (from.post) (suc now)
     quiet i h l (other, a, is') = elim (compare from.post i) [
       | Same3 same ↦ from.quiet frame (subst (λ j. ActOf events frame j) (sym same) (other, a, is'))
       | More3 l' ↦ absurd (omega arith)
-      | Less3 l' ↦ places.sent_out events memory has_returned stack edges.frames now node frame (places.all_invs events memory has_returned stack edges.frames taken now) from i l' (omega arith) other (actor_on i other frame a is')
+      | Less3 l' ↦ places.sent_out events memory has_returned stack edges.frames now node frame
+          (places.all_invs events memory has_returned stack edges.frames taken now) from i l' (omega arith) other (actor_on i other frame a is')
     ]
 
     up_early : (x : ℕ) → Early events (suc now) frame x → Good (suc now) node x
@@ -259,7 +272,8 @@ module _ (events : Events) (memory : SharedMemory) (caching : Caching events mem
           | inr t ↦ absurd (from.out t.node (subst (λ l. IsOn frame l) (sym t.is) (mem_right frame t.front (d ∷ (frame ∷ t.back)) (inr (inl refl)))))
         ] in
         let b = here_born from.post frame d h0 in
-        let old = frozen d x from.post (suc now) (inr (b.birth, b.before, b.spawned)) (returned_quiet d from.post (suc now) r0) (omega (arith, from.before)) m in
+        let old =
+            frozen d x from.post (suc now) (inr (b.birth, b.before, b.spawned)) (returned_quiet d from.post (suc now) r0) (omega (arith, from.before)) m in
         let g = (fines from.post (omega (arith, from.before))).kept from.node frame d x from.on h0 r0 old in
         passed_on from.post from.node now node frame (suc now) x from.clean g (early_before from.post d x old) from.before is (omega arith)
 

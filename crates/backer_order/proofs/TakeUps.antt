@@ -42,7 +42,8 @@ module _ (events : Events) (memory : SharedMemory) (caching : Caching events mem
       let af = pages.after_source events memory caching node word y m mo b in
       let item : IsItem memory node (events now) = subst (λ i. IsItem memory node i) (sym is) refl in
       elim (compare a now) [
-        | Same3 h ↦ absurd (take_up_no_arrival now node frame (memory.page word) words is (subst (λ i. Arrives events node (memory.page word) i words) h r.arrives))
+        | Same3 h ↦
+            absurd (take_up_no_arrival now node frame (memory.page word) words is (subst (λ i. Arrives events node (memory.page word) i words) h r.arrives))
         | More3 h ↦ let fa = (b.after now item h).1 in omega arith
         | Less3 h ↦
             let rn : Resident events node (memory.page word) now a words =
@@ -84,14 +85,17 @@ module _ (events : Events) (memory : SharedMemory) (caching : Caching events mem
         | inl (m, lm, mo) ↦ elim (good other word ax) [
           | inr k ↦
               let h = after_take_up has_returned stack edges node k.frame word y m k.at k.takes_up ay k.before mo in
-              inl (inl (record { first = k.moment; second = m; first_is = k.is; second_is = mo; first_in = omega (arith, k.first, k.before); second_in = lm; order = inl (omega (arith, k.first)) }))
+              inl (inl (record { first = k.moment; second = m; first_is = k.is; second_is = mo; first_in = omega (arith, k.first, k.before); second_in = lm;
+                  order = inl (omega (arith, k.first)) }))
           | inl same ↦
               let ax' : IsAccess events node word x = subst (λ i. IsAccess events i word x) same ax in
               let h = pages.never_fall events memory caching node word x y m ax' ay l mo in
               let hm : Moment events memory other word x h.at = subst (λ i. Moment events memory i word x h.at) (sym same) h.moment in
               elim (compare h.at m) [
-                | Less3 k ↦ inl (inl (record { first = h.at; second = m; first_is = hm; second_is = mo; first_in = omega arith; second_in = lm; order = inl k }))
-                | Same3 k ↦ inl (inl (record { first = h.at; second = m; first_is = hm; second_is = mo; first_in = omega arith; second_in = lm; order = inr (k, l) }))
+                | Less3 k ↦
+                    inl (inl (record { first = h.at; second = m; first_is = hm; second_is = mo; first_in = omega arith; second_in = lm; order = inl k }))
+                | Same3 k ↦
+                    inl (inl (record { first = h.at; second = m; first_is = hm; second_is = mo; first_in = omega arith; second_in = lm; order = inr (k, l) }))
                 | More3 k ↦ absurd (omega (arith, h.before))
               ]
         ]

@@ -9,7 +9,8 @@ use Rattle.backer_order.specs.Ready.{Stage, Flying, Parked, Ready, Up, Stages, S
 use Rattle.backer_order.proofs.Search.{Less3, Same3, More3, compare}
 use Rattle.backer_order.proofs.Places as places
 
-module _ (events : Events) (memory : SharedMemory) (has_returned : Returns) (stack : Stacks) (frames : Frames events memory has_returned stack) (stage : Stages) (ready : ReadyRules events stack stage) where
+module _ (events : Events) (memory : SharedMemory) (has_returned : Returns) (stack : Stacks) (frames : Frames events memory has_returned stack) (stage : Stages)
+    (ready : ReadyRules events stack stage) where
   abbrev Invs : ℕ → Type 0
   Invs now = places.Invs events memory has_returned stack frames now
 
@@ -43,7 +44,9 @@ module _ (events : Events) (memory : SharedMemory) (has_returned : Returns) (sta
 
   -- each ready frame that parked has its block's children done
   abbrev Dones : ℕ → Type 0
-  Dones now = (k node other : ℕ) (frame d : FrameId) → k < now → events k ≡ Post other node (Park frame) → stage now k ≡ Ready → Away events stack now frame d → HasDone events now frame d
+  Dones now =
+      (k node other : ℕ) (frame d : FrameId) → k < now → events k ≡ Post other node (Park frame) → stage now k ≡ Ready → Away events stack now frame d
+          → HasDone events now frame d
 
   more_done : (now : ℕ) (frame d : FrameId) → HasDone events now frame d → HasDone events (suc now) frame d
   more_done now frame d h = record { post = h.post; sender = h.sender; receiver = h.receiver; is = h.is; before = omega (arith, h.before) }
@@ -65,7 +68,8 @@ module _ (events : Events) (memory : SharedMemory) (has_returned : Returns) (sta
         | inr (u, v, gr) ↦
             let sd : SendsFrame events k node frame = (other, inr is) in
             let none = tok k node frame l' sd (ready_not_up (stage now k) old) in
-            absurd (places.out_since events memory has_returned stack frames now k node frame invs l' sd none now l' (omega arith) u (places.grant_mem events memory has_returned stack frames now u v frame gr))
+            absurd (places.out_since events memory has_returned stack frames now k node frame invs l' sd none now l' (omega arith) u
+                (places.grant_mem events memory has_returned stack frames now u v frame gr))
       ]
     ]
   ]
@@ -77,8 +81,10 @@ module _ (events : Events) (memory : SharedMemory) (has_returned : Returns) (sta
     where
       go : Rises events stage now node frame → FromGrant events now node frame ⊎ FromJoin events stack now node frame
       go r = let (other, which) = r.sends in elim which [
-        | inl g ↦ inl (record { post = r.post; sender = other; is = g; before = r.before; none = tok r.post node frame r.before r.sends (ready_not_up (stage now r.post) r.ready) })
-        | inr g ↦ inr (record { post = r.post; sender = other; is = g; before = r.before; none = tok r.post node frame r.before r.sends (ready_not_up (stage now r.post) r.ready); complete = λ d a. dn r.post node other frame d r.before g r.ready a })
+        | inl g ↦ inl (record { post =
+            r.post; sender = other; is = g; before = r.before; none = tok r.post node frame r.before r.sends (ready_not_up (stage now r.post) r.ready) })
+        | inr g ↦ inr (record { post = r.post; sender = other; is = g; before = r.before; none = tok r.post node frame r.before r.sends
+            (ready_not_up (stage now r.post) r.ready); complete = λ d a. dn r.post node other frame d r.before g r.ready a })
       ]
 
   -- all together, along the log
@@ -92,7 +98,8 @@ module _ (events : Events) (memory : SharedMemory) (has_returned : Returns) (sta
 
   along : (now : ℕ) → Along now
   along zero =
-      record { invs = λ i h. subst (λ j. places.Inv events memory has_returned stack frames j) (omega arith) (places.first_inv events memory has_returned stack frames); tok = tok_first; dones = dones_first }
+      record { invs = λ i h. subst (λ j. places.Inv events memory has_returned stack frames j) (omega arith)
+          (places.first_inv events memory has_returned stack frames); tok = tok_first; dones = dones_first }
   along (suc now) =
       let a = along now in
       let next = places.next_inv events memory has_returned stack frames now a.invs (rule_at now a.tok a.dones) in

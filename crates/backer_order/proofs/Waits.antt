@@ -1,15 +1,13 @@
--- While an Add waits its frame stays on top of its node's stack, and makes no act but the one that is served.
-use Rattle.std.proofs.Common.{◌≡◌, ◌≢◌, ℕ, ℤ, zero, suc, ◌<◌, ◌≤◌, inl, inr, true, List, [], ◌∷◌, ◌++◌, refl, sym, ◌∙◌, ap, subst, arith}
+-- While an Add waits its frame stays on top of its node's stack.
+use Rattle.std.proofs.Common.{◌≡◌, ◌≢◌, ℕ, ℤ, zero, suc, ◌<◌, inl, inr, List, [], ◌∷◌, ◌++◌, refl, sym, ◌∙◌, ap, subst, arith}
 use Rattle.page_messages.specs.declared.closure.FrameId.{FrameId}
-use Rattle.backer_order.specs.Log.{Act, Read, Write, Add, Print, Spawn, Sync, Note, Fetch, Grant, Done, Park, AddTo, Event, Acts, TakeUp, OwnFetch, Post, Took, Tick, Events, SharedMemory}
-use Rattle.backer_order.specs.Moments.{takes_add, serves, Serves, AddDone}
+use Rattle.backer_order.specs.Log.{Act, Read, Write, Add, Print, Spawn, Sync, Note, Fetch, Grant, Done, Park, AddTo, Event, Acts, TakeUp, OwnFetch, Post, Tick, Events, SharedMemory}
+use Rattle.backer_order.specs.Moments.{AddDone}
 use Rattle.backer_order.specs.Rules.{IsItem, Caching}
-use Rattle.backer_order.specs.Edges.{Stacks, Returns, IsOn, Others, Moves, StackRule, Taken, Frames}
+use Rattle.backer_order.specs.Edges.{Stacks, Returns, IsOn, Others, Moves, StackRule, Frames}
 use Rattle.backer_order.proofs.Search.{Less3, Same3, More3, compare}
 use Rattle.backer_order.proofs.Decide.{same_or_not}
 use Rattle.backer_order.proofs.Pages as pages
-use Rattle.backer_order.proofs.Owed as owed
-use Rattle.backer_order.proofs.Places as places
 use Rattle.backer_order.proofs.Lists.{mem_middle}
 
 tops : (front below : List FrameId) (d frame g : FrameId) → front ++ d ∷ (g ∷ []) ≡ frame ∷ below →
@@ -23,7 +21,8 @@ tops (x ∷ front) below d frame g same = (front ++ d ∷ [], ap (λ i. i ∷ (f
     head : x ≡ frame
     head = cc
 
-module _ (events : Events) (memory : SharedMemory) (caching : Caching events memory) (has_returned : Returns) (stack : Stacks) (frames : Frames events memory has_returned stack) where
+module _ (events : Events) (memory : SharedMemory) (caching : Caching events memory) (has_returned : Returns) (stack : Stacks)
+    (frames : Frames events memory has_returned stack) where
   module _ (node other : ℕ) (frame : FrameId) (word : ℕ) (d : ℤ) (k : ℕ) (po : events k ≡ Post node other (AddTo frame word d)) where
     abbrev Top : ℕ → Type 0
     Top now = (below : List FrameId) × (stack now node ≡ frame ∷ below)
@@ -125,97 +124,3 @@ module _ (events : Events) (memory : SharedMemory) (caching : Caching events mem
 
   pub actor_on : (now node : ℕ) (g : FrameId) (a : Act) → events now ≡ Acts node g a → IsOn g (stack now node)
   actor_on now node g a is = actor_at now node g a is (subst (λ y. StackRule memory has_returned stack now y) is (frames.stacks now))
-
-  pub ticker_on : (now node : ℕ) (g : FrameId) → events now ≡ Tick node g → IsOn g (stack now node)
-  ticker_on now node g is =
-      let r : Moves has_returned stack now node g [] = subst (λ y. StackRule memory has_returned stack now y) is (frames.stacks now) in
-      on_moves now node g [] r
-
-  -- two items of adds that serve one post are one
-  pub served_one : (x y node : ℕ) (frame : FrameId) (word : ℕ) (old d : ℤ) (node' : ℕ) (frame' : FrameId) (word' : ℕ) (old' d' : ℤ) →
-      (is : events x ≡ Acts node frame (Add word old d)) → (ne : memory.home (memory.page word) ≢ node) →
-      (is' : events y ≡ Acts node' frame' (Add word' old' d')) → (ne' : memory.home (memory.page word') ≢ node')
-      → (pages.sv events memory caching node word x old d frame is ne).post ≡ (pages.sv events memory caching node' word' y old' d' frame' is' ne').post → x ≡ y
-  served_one x y node frame word old d node' frame' word' old' d' is ne is' ne' posts =
-      let sx = pages.sv events memory caching node word x old d frame is ne in
-      let sy = pages.sv events memory caching node' word' y old' d' frame' is' ne' in
-      let po : events (sx.post) ≡ Post node' (memory.home (memory.page word')) (AddTo frame' word' d') =
-      subst (λ i. events i ≡ Post node' (memory.home (memory.page word')) (AddTo frame' word' d')) (sym posts) sy.posted in
-      let hh : memory.home (memory.page word) ≡ memory.home (memory.page word') =
-      receiver sx.post node (memory.home (memory.page word)) frame word d node' (memory.home (memory.page word')) frame' word' d'
-      sx.posted po in
-      let same_taking : sx.taking ≡ sy.taking =
-      caching.delivery.once sx.taking sy.taking (memory.home (memory.page word)) (memory.home (memory.page word')) sy.post
-      (subst (λ i. events sx.taking ≡ Took (memory.home (memory.page word)) i) posts sx.took) sy.took in
-      let h = memory.home (memory.page word') in
-      let ax : serves memory h (events x) ≡ true =
-      pages.served_by events memory caching h node word x old d frame is hh (λ same. ne (hh ∙ same)) in
-      let ay : serves memory h (events y) ≡ true = pages.served_by events memory caching h node' word' y old' d' frame' is' refl ne' in
-      let vx : Serves events memory h x (sy.taking) =
-      subst (λ i. Serves events memory i x (sy.taking)) hh
-      (subst (λ i. Serves events memory (memory.home (memory.page word)) x i) same_taking sx.serves) in
-      owed.once (λ i. takes_add events h (events i)) (λ i. serves memory h (events i)) x y sy.taking ax ay vx sy.serves
-    where
-      receiver : (k node other : ℕ) (frame : FrameId) (word : ℕ) (d : ℤ) (node' other' : ℕ) (frame' : FrameId) (word' : ℕ) (d' : ℤ) →
-          events k ≡ Post node other (AddTo frame word d) → events k ≡ Post node' other' (AddTo frame' word' d') → other ≡ other'
-      receiver k node other frame word d node' other' frame' word' d' a b = cc
-
-  -- between the post and its item the frame makes no item
-  module _ (taken : Taken events stack) (x node : ℕ) (frame : FrameId) (word : ℕ) (old d : ℤ) (is : events x ≡ Acts node frame (Add word old d)) (ne : memory.home (memory.page word) ≢ node) where
-    not_done : (i : ℕ) → i ≤ x → AddDone events memory node (pages.sv events memory caching node word x old d frame is ne).post i → ⊥
-    not_done i l an = let h = pages.done_later events memory caching node word x old d frame is ne i an in omega arith
-
-    on_top : (i : ℕ) → (pages.sv events memory caching node word x old d frame is ne).post < i → i ≤ x → IsOn frame (stack i node)
-    on_top i l h =
-        let sv = pages.sv events memory caching node word x old d frame is ne in
-        let t = since node (memory.home (memory.page word)) frame word d sv.post sv.posted i l (λ j a b an. not_done j (omega arith) an) in
-        subst (λ z. IsOn frame z) (sym t.1) (inl refl)
-
-    -- an item of p does not stand there
-    pub no_item : (i : ℕ) → (pages.sv events memory caching node word x old d frame is ne).post < i → i ≤ x →
-        IsItem memory node (events i) → ⊥
-    no_item i l h item =
-        let sv = pages.sv events memory caching node word x old d frame is ne in
-        not_done i h (caching.access.item node i sv.post (memory.home (memory.page word)) (AddTo frame word d) item l sv.posted)
-
-    one_node : (i other : ℕ) → (pages.sv events memory caching node word x old d frame is ne).post < i → i ≤ x →
-        IsOn frame (stack i other) → other ≡ node
-    one_node i other l h on =
-        ((places.all_invs events memory has_returned stack frames taken i) i (omega arith)).apart other node frame on (on_top i l h)
-
-    pub no_tick : (i other : ℕ) → (pages.sv events memory caching node word x old d frame is ne).post < i → i < x →
-        events i ≡ Tick other frame → ⊥
-    no_tick i other l h t =
-        let same = one_node i other l (omega arith) (ticker_on i other frame t) in
-        no_item i l (omega arith) (subst (λ y. IsItem memory node y) (sym t) same)
-
-    no_act_at : (i other : ℕ) (a : Act) → events i ≡ Acts other frame a → other ≡ node →
-        (pages.sv events memory caching node word x old d frame is ne).post < i → i < x → ⊥
-    no_act_at i other (Spawn b) t same l h = no_item i l (omega arith) (subst (λ y. IsItem memory node y) (sym t) same)
-    no_act_at i other (Read u v) t same l h = no_item i l (omega arith) (subst (λ y. IsItem memory node y) (sym t) same)
-    no_act_at i other (Write u v) t same l h = no_item i l (omega arith) (subst (λ y. IsItem memory node y) (sym t) same)
-    no_act_at i other (Print v) t same l h = no_item i l (omega arith) (subst (λ y. IsItem memory node y) (sym t) same)
-    no_act_at i other Sync t same l h = no_item i l (omega arith) (subst (λ y. IsItem memory node y) (sym t) same)
-    no_act_at i other (Add u v b) t same l h = elim (same_or_not (memory.home (memory.page u)) other) [
-      | inl home ↦ no_item i l (omega arith) (subst (λ y. IsItem memory node y) (sym t) (same, home ∙ same))
-      | inr away ↦
-          let sv = pages.sv events memory caching node word x old d frame is ne in
-          let sv2 = pages.sv events memory caching other u i v b frame t away in
-          let po2 : events (sv2.post) ≡ Post node (memory.home (memory.page u)) (AddTo frame u b) =
-          subst (λ z. events sv2.post ≡ Post z (memory.home (memory.page u)) (AddTo frame u b)) same sv2.posted in
-          elim (compare sv2.post sv.post) [
-            | Same3 e' ↦ let z = served_one i x other frame u v b node frame word old d t away is ne e' in absurd (omega arith)
-            | Less3 k ↦
-                let an = caching.access.alone node sv.post sv2.post (memory.home (memory.page u)) (memory.home (memory.page word)) (AddTo frame u b) (AddTo frame word d) sv.posted tt k po2 in
-                let z = pages.done_later events memory caching other u i v b frame t away sv.post (subst (λ y. AddDone events memory y sv2.post sv.post) (sym same) an) in
-                absurd (omega arith)
-            | More3 k ↦
-                let an = caching.access.alone node sv2.post sv.post (memory.home (memory.page word)) (memory.home (memory.page u)) (AddTo frame word d) (AddTo frame u b) po2 tt k sv.posted in
-                let z = pages.post_first events memory caching other u i v b frame t away in
-                not_done sv2.post (omega arith) an
-          ]
-    ]
-
-    pub no_act_between : (i other : ℕ) (a : Act) → (pages.sv events memory caching node word x old d frame is ne).post < i → i < x →
-        events i ≡ Acts other frame a → ⊥
-    no_act_between i other a l h t = no_act_at i other a t (one_node i other l (omega arith) (actor_on i other frame a t)) l h
