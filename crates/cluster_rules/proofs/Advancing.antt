@@ -83,11 +83,14 @@ sum_less : (count : ℕ) (amount other : ℕ → ℕ) → ((number : ℕ) → am
 sum_less zero amount other less = omega arith
 sum_less (suc count) amount other less = let here = less count in let rest = sum_less count amount other less in omega (arith, here, rest)
 
-letters_less : (amount other : Msg → ℕ) (letters : List Letter) → ((message : Msg) → amount message ≤ other message) → amount_of amount letters ≤ amount_of other letters
+letters_less : (amount other : Msg → ℕ) (letters : List Letter) → ((message : Msg) → amount message ≤ other message)
+    → amount_of amount letters ≤ amount_of other letters
 letters_less amount other [] less = omega arith
-letters_less amount other (letter ∷ letters) less = let here = less letter.message in let rest = letters_less amount other letters less in omega (arith, here, rest)
+letters_less amount other (letter ∷ letters) less =
+    let here = less letter.message in let rest = letters_less amount other letters less in omega (arith, here, rest)
 
-held_by_less : (cluster : Cluster) (course : Course) (such other : Mark → Bool) → ((mark : Mark) → one (such mark) ≤ one (other mark)) → held_by cluster course such ≤ held_by cluster course other
+held_by_less : (cluster : Cluster) (course : Course) (such other : Mark → Bool) → ((mark : Mark) → one (such mark) ≤ one (other mark))
+    → held_by cluster course such ≤ held_by cluster course other
 held_by_less cluster course such other less =
     let nodes = sum_less cluster.config.nodes (at_node cluster course such) (at_node cluster course other)
     (λ number. many_less such other less (marks_of (frames_of (node_at cluster number) (own number course)))) in
@@ -108,7 +111,8 @@ otherwise_none frame acts number none = on (eqb number acts) refl
   where
     on : (b : Bool) → eqb number acts ≡ b → number ≡ acts
     on true is = grind (arith, nat_tests)
-    on false is = let some : one (otherwise frame acts (record { id = frame; acts = number })) ≡ 1 = rw (same_self frame, is) refl in absurd (omega (arith, none, some))
+    on false is =
+        let some : one (otherwise frame acts (record { id = frame; acts = number })) ≡ 1 = rw (same_self frame, is) refl in absurd (omega (arith, none, some))
 
 otherwise_same : (frame : FrameId) (acts : ℕ) → one (otherwise frame acts (record { id = frame; acts = acts })) ≡ 0
 otherwise_same frame acts = let same : eqb acts acts ≡ true = grind (arith, nat_tests) in rw (same_self frame, same) refl
@@ -118,7 +122,8 @@ otherwise_other frame acts number other = rw (same_self frame, other) refl
 
 -- ---- what is advanced is held
 
-advanced_held : (cluster : Cluster) (course : Course) (moved : Moved) → Step cluster course moved → (such : Mark → Bool) → many such (advanced cluster course moved) ≤ held_by cluster course such
+advanced_held : (cluster : Cluster) (course : Course) (moved : Moved) → Step cluster course moved → (such : Mark → Bool)
+    → many such (advanced cluster course moved) ≤ held_by cluster course such
 advanced_held cluster course moved step such =
     let here = advanced_within (node_at cluster moved.node) (own moved.node course) moved.event step.allowed such in
     let whole = sum_one cluster.config.nodes (at_node cluster course such) moved.node step.within in omega (arith, here, whole)
@@ -129,7 +134,8 @@ pub record Counts (cluster : Cluster) (course : Course) : Type 0 where
   pub unknown : (frame : FrameId) → Unknown cluster course frame → counted cluster frame course ≡ 0
   pub acts : (frame : FrameId) → held_by cluster course (otherwise frame (counted cluster frame course)) ≡ 0
 
-module _ (cluster : Cluster) (course : Course) (moved : Moved) (stepped : Stepped cluster course) (step : Step cluster course moved) (counts : Counts cluster course) where
+module _ (cluster : Cluster) (course : Course) (moved : Moved) (stepped : Stepped cluster course) (step : Step cluster course moved)
+    (counts : Counts cluster course) where
   unknown_next : (frame : FrameId) → Unknown cluster (moved ∷ course) frame → counted cluster frame (moved ∷ course) ≡ 0
   unknown_next frame unknown =
       let before = unknown_before cluster course moved frame unknown in
@@ -149,7 +155,8 @@ module _ (cluster : Cluster) (course : Course) (moved : Moved) (stepped : Steppe
   born_right : (frame : FrameId) → (many (named frame) (born_by moved.event) ≡ 0) ⊎ IsBorn cluster course moved frame
       → many (otherwise frame (counted cluster frame (moved ∷ course))) (born_by moved.event) ≡ 0
   born_right frame (inl none) =
-      let less = many_less (otherwise frame (counted cluster frame (moved ∷ course))) (named frame) (otherwise_named frame (counted cluster frame (moved ∷ course))) (born_by moved.event) in
+      let less = many_less (otherwise frame (counted cluster frame (moved ∷ course))) (named frame)
+          (otherwise_named frame (counted cluster frame (moved ∷ course))) (born_by moved.event) in
       omega (arith, none, less)
   born_right frame (inr born) =
       let no_acts = born_none frame born in
@@ -158,7 +165,8 @@ module _ (cluster : Cluster) (course : Course) (moved : Moved) (stepped : Steppe
       ap (many (otherwise frame (counted cluster frame (moved ∷ course)))) born.marks_are ∙ omega (arith, zero_acts)
 
   -- another frame is one act further, or none
-  others_next : (frame : FrameId) → many (named frame) (advanced cluster course moved) ≡ 0 → held_by cluster (moved ∷ course) (otherwise frame (counted cluster frame (moved ∷ course))) ≡ 0
+  others_next : (frame : FrameId) → many (named frame) (advanced cluster course moved) ≡ 0
+      → held_by cluster (moved ∷ course) (otherwise frame (counted cluster frame (moved ∷ course))) ≡ 0
   others_next frame none =
       let same : counted cluster frame (moved ∷ course) ≡ counted cluster frame course = omega (arith, none) in
       let such = otherwise frame (counted cluster frame (moved ∷ course)) in
@@ -178,13 +186,15 @@ module _ (cluster : Cluster) (course : Course) (moved : Moved) (stepped : Steppe
       let next : counted cluster frame (moved ∷ course) ≡ suc old = omega (arith, count) in
       let such = otherwise frame (counted cluster frame (moved ∷ course)) in
       let changes = held_changes cluster course moved stepped step such in
-      let here : many (otherwise frame old) (advanced cluster course moved) ≡ one (otherwise frame old (record { id = frame; acts = acts })) + 0 = ap (many (otherwise frame old)) is in
+      let here : many (otherwise frame old) (advanced cluster course moved) ≡ one (otherwise frame old (record { id = frame; acts = acts })) + 0 =
+          ap (many (otherwise frame old)) is in
       let within = advanced_held cluster course moved step (otherwise frame old) in
       let none = counts.acts frame in
       let acts_is : acts ≡ old = otherwise_none frame old acts (omega (arith, here, within, none)) in
       let differs : eqb acts (suc old) ≡ false = grind (arith, nat_tests) in
       let was : many such (advanced cluster course moved) ≡ 1 =
-      ap (many such) is ∙ ap (λ it. one (otherwise frame it (record { id = frame; acts = acts })) + 0) next ∙ ap (λ it. it + 0) (otherwise_other frame (suc old) acts differs) ∙ refl in
+      ap (many such) is ∙ ap (λ it. one (otherwise frame it (record { id = frame; acts = acts })) + 0) next
+          ∙ ap (λ it. it + 0) (otherwise_other frame (suc old) acts differs) ∙ refl in
       let rises : many such (risen (advanced cluster course moved)) ≡ 0 =
       ap (λ it. many such (risen it)) is ∙ ap (λ it. one (otherwise frame it (record { id = frame; acts = suc acts })) + 0) next
       ∙ ap (λ it. one (otherwise frame (suc old) (record { id = frame; acts = suc it })) + 0) acts_is ∙ ap (λ it. it + 0) (otherwise_same frame (suc old)) in
@@ -196,7 +206,8 @@ module _ (cluster : Cluster) (course : Course) (moved : Moved) (stepped : Steppe
       born_like : one (named frame (record { id = frame; acts = acts })) + 0 ≡ 1
       born_like = rw (same_self frame) refl
 
-  acts_next : (frame : FrameId) → AtMostOne (advanced cluster course moved) → held_by cluster (moved ∷ course) (otherwise frame (counted cluster frame (moved ∷ course))) ≡ 0
+  acts_next : (frame : FrameId) → AtMostOne (advanced cluster course moved)
+      → held_by cluster (moved ∷ course) (otherwise frame (counted cluster frame (moved ∷ course))) ≡ 0
   acts_next frame (inl none) = others_next frame (ap (many (named frame)) none)
   acts_next frame (inr some) = on (named frame some.0) refl
     where
@@ -207,7 +218,8 @@ module _ (cluster : Cluster) (course : Course) (moved : Moved) (stepped : Steppe
       on false is = others_next frame (ap (many (named frame)) some.1 ∙ rw is refl)
 
   counts_next : Counts cluster (moved ∷ course)
-  counts_next = record { unknown = unknown_next; acts = λ frame. acts_next frame (one_advanced (node_at cluster moved.node) (own moved.node course) moved.event) }
+  counts_next =
+      record { unknown = unknown_next; acts = λ frame. acts_next frame (one_advanced (node_at cluster moved.node) (own moved.node course) moved.event) }
 
 main_right : (frame : FrameId) → one (otherwise frame 0 main_mark) ≡ 0
 main_right frame = on (same_frame main_id frame)

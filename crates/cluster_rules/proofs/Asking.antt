@@ -47,7 +47,8 @@ module _ (cluster : Cluster) (course : Course) (node : ℕ) (here : Option PostA
 
   -- ---- items
 
-  did_kept : (done : Item) → ((number : ℕ) (phase : Phase) → after_item number done (owed_adds past) phase ≡ phase) → after_served done (owed_adds past) ≡ owed_adds past
+  did_kept : (done : Item) → ((number : ℕ) (phase : Phase) → after_item number done (owed_adds past) phase ≡ phase)
+      → after_served done (owed_adds past) ≡ owed_adds past
       → told_by (node_at cluster node) done (owed_adds past) ≡ [] → IsFree past → Phased cluster (more (Did done))
   did_kept done same served told free =
       kept cluster course node here less phased (Did done) (λ number. same number (phase_of number course))
@@ -64,7 +65,8 @@ module _ (cluster : Cluster) (course : Course) (node : ℕ) (here : Option PostA
     abbrev asker : ℕ
     asker = serves.add.sender
 
-    add_is : (number : ℕ) (other : FrameId) (acts : ℕ) → add_from number other acts serves.add ≡ one (eqb asker number && (same_frame frame other && eqb index acts))
+    add_is : (number : ℕ) (other : FrameId) (acts : ℕ)
+        → add_from number other acts serves.add ≡ one (eqb asker number && (same_frame frame other && eqb index acts))
     add_is number other acts = ap (λ it. one (adds_body number other acts asker it)) serves.asked
 
     pub was_asked : phase_of asker course ≡ Asked frame index
@@ -104,12 +106,15 @@ module _ (cluster : Cluster) (course : Course) (node : ℕ) (here : Option PostA
     adds_asker : (other : FrameId) (acts : ℕ) → under_way cluster (more served) asker other acts ≡ one (is_asked other acts (phase_of asker (more served)))
     adds_asker other acts =
         let change = adds_served cluster course node here less asker other acts serves.add serves.later frame index word old addend serves.oldest in
-        let amount : add_from asker other acts serves.add ≡ one (same_frame frame other && eqb index acts) = add_is asker other acts ∙ rw (own_number asker) refl in
-        let before : under_way cluster course asker other acts ≡ one (same_frame frame other && eqb index acts) = phased.adds asker other acts ∙ ap (λ it. one (is_asked other acts it)) was_asked in
+        let amount : add_from asker other acts serves.add ≡ one (same_frame frame other && eqb index acts) =
+            add_is asker other acts ∙ rw (own_number asker) refl in
+        let before : under_way cluster course asker other acts ≡ one (same_frame frame other && eqb index acts) =
+            phased.adds asker other acts ∙ ap (λ it. one (is_asked other acts it)) was_asked in
         let after : one (is_asked other acts (phase_of asker (more served))) ≡ 0 = ap (λ it. one (is_asked other acts it)) phase_asker in
         omega (arith, change, amount, before, after)
 
-    adds_others : (other : FrameId) (acts number : ℕ) → eqb asker number ≡ false → under_way cluster (more served) number other acts ≡ one (is_asked other acts (phase_of number (more served)))
+    adds_others : (other : FrameId) (acts number : ℕ) → eqb asker number ≡ false
+        → under_way cluster (more served) number other acts ≡ one (is_asked other acts (phase_of number (more served)))
     adds_others other acts number apart =
         let change = adds_served cluster course node here less number other acts serves.add serves.later frame index word old addend serves.oldest in
         let amount : add_from number other acts serves.add ≡ 0 = add_is number other acts ∙ rw apart refl in
@@ -140,17 +145,21 @@ module _ (cluster : Cluster) (course : Course) (node : ℕ) (here : Option PostA
     served_phased : Phased cluster (more served)
     served_phased = record {
       within = by_number (λ number. waits_in (phase_of number (more served)) ≡ true → number < cluster.config.nodes)
-          (λ waits. phased.within asker (ap waits_in was_asked)) (λ number apart waits. phased.within number (ap waits_in (sym (phase_others number apart)) ∙ waits));
+          (λ waits. phased.within asker (ap waits_in was_asked))
+          (λ number apart waits. phased.within number (ap waits_in (sym (phase_others number apart)) ∙ waits));
       waiting = by_number (λ number. awaits ForAdded (own number (more served)) ≡ waits_in (phase_of number (more served)))
           (awaits_more cluster course node here less phased served refl asker ∙ phased.waiting asker ∙ ap waits_in was_asked ∙ ap waits_in (sym phase_asker))
-          (λ number apart. awaits_more cluster course node here less phased served refl number ∙ phased.waiting number ∙ ap waits_in (sym (phase_others number apart)));
+          (λ number apart. awaits_more cluster course node here less phased served refl number ∙ phased.waiting number
+              ∙ ap waits_in (sym (phase_others number apart)));
       first = by_number (λ number. IsFirst (phase_of number (more served)) (stack_of (node_at cluster number) (own number (more served))))
           (subst (IsFirst (phase_of asker (more served))) (sym (stack_more cluster course node here less phased served stack_stays asker))
           (subst (λ it. IsFirst it (stack_of (node_at cluster asker) (own asker course))) (sym phase_asker)
           (subst (λ it. IsFirst it (stack_of (node_at cluster asker) (own asker course))) was_asked (phased.first asker))))
           (λ number apart. subst (IsFirst (phase_of number (more served))) (sym (stack_more cluster course node here less phased served stack_stays number))
           (subst (λ it. IsFirst it (stack_of (node_at cluster number) (own number course))) (sym (phase_others number apart)) (phased.first number)));
-      adds = λ number other acts. by_number (λ number. under_way cluster (more served) number other acts ≡ one (is_asked other acts (phase_of number (more served))))
+      adds =
+          λ number other acts.
+              by_number (λ number. under_way cluster (more served) number other acts ≡ one (is_asked other acts (phase_of number (more served))))
           (adds_asker other acts) (λ number apart. adds_others other acts number apart) number;
       olds = λ such. by_number (λ number. to_tell cluster (more served) such number ≡ one (is_told such (phase_of number (more served))))
           (olds_asker such) (olds_others such);
@@ -161,14 +170,21 @@ module _ (cluster : Cluster) (course : Course) (node : ℕ) (here : Option PostA
   free_of done rest posts never (inl owed) = absurd (never owed)
   free_of done rest posts never (inr both) = both.0
 
-  did_phased : (done : Item) (rest : List Item) (posts : List Msg) → IsOwed (node_at cluster node) past done ⊎ (IsFree past × MayDo (node_at cluster node) past done rest posts)
+  did_phased : (done : Item) (rest : List Item) (posts : List Msg)
+      → IsOwed (node_at cluster node) past done ⊎ (IsFree past × MayDo (node_at cluster node) past done rest posts)
       → Phased cluster (more (Did done))
-  did_phased (item.Act frame index act) rest posts may = did_kept (item.Act frame index act) (λ number phase. refl) refl refl (free_of (item.Act frame index act) rest posts (λ owed. owed) may)
-  did_phased (item.Tick frame) rest posts may = did_kept (item.Tick frame) (λ number phase. refl) refl refl (free_of (item.Tick frame) rest posts (λ owed. owed) may)
-  did_phased (item.Drop page) rest posts may = did_kept (item.Drop page) (λ number phase. refl) refl refl (free_of (item.Drop page) rest posts (λ owed. owed) may)
-  did_phased (item.TakeUp frame) rest posts may = did_kept (item.TakeUp frame) (λ number phase. refl) refl refl (free_of (item.TakeUp frame) rest posts (λ owed. owed) may)
-  did_phased (item.OwnFetch page words) rest posts may = did_kept (item.OwnFetch page words) (λ number phase. refl) refl refl (free_of (item.OwnFetch page words) rest posts (λ owed. owed) may)
-  did_phased (item.OwnReconcile part) rest posts may = did_kept (item.OwnReconcile part) (λ number phase. refl) refl refl (free_of (item.OwnReconcile part) rest posts (λ owed. owed) may)
+  did_phased (item.Act frame index act) rest posts may =
+      did_kept (item.Act frame index act) (λ number phase. refl) refl refl (free_of (item.Act frame index act) rest posts (λ owed. owed) may)
+  did_phased (item.Tick frame) rest posts may =
+      did_kept (item.Tick frame) (λ number phase. refl) refl refl (free_of (item.Tick frame) rest posts (λ owed. owed) may)
+  did_phased (item.Drop page) rest posts may =
+      did_kept (item.Drop page) (λ number phase. refl) refl refl (free_of (item.Drop page) rest posts (λ owed. owed) may)
+  did_phased (item.TakeUp frame) rest posts may =
+      did_kept (item.TakeUp frame) (λ number phase. refl) refl refl (free_of (item.TakeUp frame) rest posts (λ owed. owed) may)
+  did_phased (item.OwnFetch page words) rest posts may =
+      did_kept (item.OwnFetch page words) (λ number phase. refl) refl refl (free_of (item.OwnFetch page words) rest posts (λ owed. owed) may)
+  did_phased (item.OwnReconcile part) rest posts may =
+      did_kept (item.OwnReconcile part) (λ number phase. refl) refl refl (free_of (item.OwnReconcile part) rest posts (λ owed. owed) may)
   did_phased (item.Served frame index word old addend) rest posts (inl serves) = served_phased frame index word old addend serves
   did_phased (item.Served frame index word old addend) rest posts (inr both) =
       let none = both.0.none_owed in
@@ -182,7 +198,8 @@ module _ (cluster : Cluster) (course : Course) (node : ℕ) (here : Option PostA
     abbrev post : Event
     post = Sent message
 
-    pub phase_posted : (number : ℕ) (said : Body) → message.body ≡ said → phase_of number (more post) ≡ cond (eqb node number) (after_post said (phase_of number course)) (phase_of number course)
+    pub phase_posted : (number : ℕ) (said : Body) → message.body ≡ said
+        → phase_of number (more post) ≡ cond (eqb node number) (after_post said (phase_of number course)) (phase_of number course)
     phase_posted number said is = ap (λ it. cond (eqb node number) (after_post it (phase_of number course)) (phase_of number course)) is
 
     -- it is neither an Add nor an Added
@@ -193,9 +210,11 @@ module _ (cluster : Cluster) (course : Course) (node : ℕ) (here : Option PostA
     unfolding frames_of
     other_post said is same adds olds waits first =
         kept cluster course node here less phased post
-        (λ number. phase_posted number said is ∙ cond_same (eqb node number) (after_post said (phase_of number course)) (phase_of number course) (same (phase_of number course)))
+        (λ number. phase_posted number said is ∙ cond_same (eqb node number) (after_post said (phase_of number course)) (phase_of number course)
+            (same (phase_of number course)))
         (λ number frame index. let sent = adds_sent cluster course node here less number frame index message posts in
-        let none : add_from number frame index message ≡ 0 = ap (λ it. one (adds_body number frame index message.sender it)) is ∙ ap one (adds number frame index message.sender) in
+        let none : add_from number frame index message ≡ 0 =
+            ap (λ it. one (adds_body number frame index message.sender it)) is ∙ ap one (adds number frame index message.sender) in
         omega (arith, sent, none))
         olds (ap (λ it. adds_in it || awaits ForAdded past) is ∙ ap (λ b. b || awaits ForAdded past) waits)
         (subst (λ it. IsFirst (phase_of node course) (stack_sent it (stack_of (node_at cluster node) past))) (sym is) first)
@@ -218,9 +237,11 @@ module _ (cluster : Cluster) (course : Course) (node : ℕ) (here : Option PostA
       pub was_idle : phase_of node course ≡ Idle
       was_idle = quiet_idle cluster course node here less phased may.quiet
 
-      add_amount : (number : ℕ) (other : FrameId) (acts : ℕ) → add_from number other acts message ≡ one (eqb node number && (same_frame frame other && eqb index acts))
+      add_amount : (number : ℕ) (other : FrameId) (acts : ℕ)
+          → add_from number other acts message ≡ one (eqb node number && (same_frame frame other && eqb index acts))
       add_amount number other acts =
-          ap (λ it. one (adds_body number other acts message.sender it)) is ∙ ap (λ it. one (eqb it number && (same_frame frame other && eqb index acts))) posts.sender
+          ap (λ it. one (adds_body number other acts message.sender it)) is
+              ∙ ap (λ it. one (eqb it number && (same_frame frame other && eqb index acts))) posts.sender
 
       first_asks : IsFirst (Asked frame index) (live (stack_of (node_at cluster node) past))
       first_asks =
@@ -243,12 +264,15 @@ module _ (cluster : Cluster) (course : Course) (node : ℕ) (here : Option PostA
       adds_node : (other : FrameId) (acts : ℕ) → under_way cluster (more post) node other acts ≡ one (is_asked other acts (phase_of node (more post)))
       adds_node other acts =
           let sent = adds_sent cluster course node here less node other acts message posts in
-          let amount : add_from node other acts message ≡ one (same_frame frame other && eqb index acts) = add_amount node other acts ∙ rw (own_number node) refl in
+          let amount : add_from node other acts message ≡ one (same_frame frame other && eqb index acts) =
+              add_amount node other acts ∙ rw (own_number node) refl in
           let before : under_way cluster course node other acts ≡ 0 = phased.adds node other acts ∙ ap (λ it. one (is_asked other acts it)) was_idle in
-          let after : one (is_asked other acts (phase_of node (more post))) ≡ one (same_frame frame other && eqb index acts) = ap (λ it. one (is_asked other acts it)) phase_node in
+          let after : one (is_asked other acts (phase_of node (more post))) ≡ one (same_frame frame other && eqb index acts) =
+              ap (λ it. one (is_asked other acts it)) phase_node in
           omega (arith, sent, amount, before, after)
 
-      adds_apart : (other : FrameId) (acts number : ℕ) → number ≢ node → under_way cluster (more post) number other acts ≡ one (is_asked other acts (phase_of number (more post)))
+      adds_apart : (other : FrameId) (acts number : ℕ) → number ≢ node
+          → under_way cluster (more post) number other acts ≡ one (is_asked other acts (phase_of number (more post)))
       adds_apart other acts number not =
           let sent = adds_sent cluster course node here less number other acts message posts in
           let amount : add_from number other acts message ≡ 0 = add_amount number other acts
@@ -266,8 +290,10 @@ module _ (cluster : Cluster) (course : Course) (node : ℕ) (here : Option PostA
         within = by_node (λ number. waits_in (phase_of number (more post)) ≡ true → number < cluster.config.nodes) (λ waits. less)
             (λ number not waits. phased.within number (ap waits_in (sym (phase_apart number not)) ∙ waits));
         waiting = by_node (λ number. awaits ForAdded (own number (more post)) ≡ waits_in (phase_of number (more post)))
-            (ap (awaits ForAdded) (own_first (moved_by node post here) course) ∙ ap (λ it. adds_in it || awaits ForAdded past) is ∙ ap waits_in (sym phase_node))
-            (λ number not. ap (awaits ForAdded) (own_other number (moved_by node post here) course not) ∙ phased.waiting number ∙ ap waits_in (sym (phase_apart number not)));
+            (ap (awaits ForAdded) (own_first (moved_by node post here) course) ∙ ap (λ it. adds_in it || awaits ForAdded past) is
+                ∙ ap waits_in (sym phase_node))
+            (λ number not. ap (awaits ForAdded) (own_other number (moved_by node post here) course not) ∙ phased.waiting number
+                ∙ ap waits_in (sym (phase_apart number not)));
         first = first_more cluster course node here less phased post phase_apart first_post;
         adds =
             λ number other acts. by_node (λ number. under_way cluster (more post) number other acts ≡ one (is_asked other acts (phase_of number (more post))))
@@ -280,7 +306,8 @@ module _ (cluster : Cluster) (course : Course) (node : ℕ) (here : Option PostA
     abbrev first_here : IsFirst (phase_of node course) (stack_of (node_at cluster node) past)
     first_here = phased.first node
 
-    sent_phased : (said : Body) → message.body ≡ said → (replies_in said ≡ true) ⊎ MayPost (node_at cluster node) past message.receiver said → Phased cluster (more post)
+    sent_phased : (said : Body) → message.body ≡ said → (replies_in said ≡ true) ⊎ MayPost (node_at cluster node) past message.receiver said
+        → Phased cluster (more post)
     sent_phased (body.Fetch page) is (inl reply) = absurd (cc)
     sent_phased (body.Fetch page) is (inr may) =
         other_post (body.Fetch page) is (λ phase. refl) (λ number frame index sender. refl)
@@ -327,7 +354,8 @@ module _ (cluster : Cluster) (course : Course) (node : ℕ) (here : Option PostA
     abbrev taking : Event
     taking = Took message
 
-    pub phase_taken : (number : ℕ) (said : Body) → message.body ≡ said → phase_of number (more taking) ≡ cond (eqb node number) (after_taking said (phase_of number course)) (phase_of number course)
+    pub phase_taken : (number : ℕ) (said : Body) → message.body ≡ said
+        → phase_of number (more taking) ≡ cond (eqb node number) (after_taking said (phase_of number course)) (phase_of number course)
     phase_taken number said is = ap (λ it. cond (eqb node number) (after_taking it (phase_of number course)) (phase_of number course)) is
 
     -- it is no Added
@@ -336,7 +364,8 @@ module _ (cluster : Cluster) (course : Course) (node : ℕ) (here : Option PostA
         → stack_of (node_at cluster node) (taking ∷ past) ≡ stack_of (node_at cluster node) past → Phased cluster (more taking)
     other_taking said is same none other stack =
         kept cluster course node here less phased taking
-        (λ number. phase_taken number said is ∙ cond_same (eqb node number) (after_taking said (phase_of number course)) (phase_of number course) (same (phase_of number course)))
+        (λ number. phase_taken number said is ∙ cond_same (eqb node number) (after_taking said (phase_of number course)) (phase_of number course)
+            (same (phase_of number course)))
         (λ number frame index. adds_took cluster course node here less number frame index message stepped takes)
         (λ such number. let took = olds_took cluster course node here less such number message stepped takes in
         let zero : old_to such number message ≡ 0 =
@@ -350,7 +379,8 @@ module _ (cluster : Cluster) (course : Course) (node : ℕ) (here : Option PostA
       phase_done = phase_taken node (body.Added old) is ∙ ap (λ b. cond b Idle (phase_of node course)) (own_number node)
 
       pub phase_far : (number : ℕ) → number ≢ node → phase_of number (more taking) ≡ phase_of number course
-      phase_far number not = phase_taken number (body.Added old) is ∙ ap (λ b. cond b Idle (phase_of number course)) (other_number node number (λ same. not (sym same)))
+      phase_far number not =
+          phase_taken number (body.Added old) is ∙ ap (λ b. cond b Idle (phase_of number course)) (other_number node number (λ same. not (sym same)))
 
       old_amount : (such : ℤ → Bool) (number : ℕ) (b : Bool) → eqb node number ≡ b → old_to such number message ≡ one (b && such old)
       old_amount such number b same =
@@ -395,8 +425,11 @@ module _ (cluster : Cluster) (course : Course) (node : ℕ) (here : Option PostA
             (λ number not waits. phased.within number (ap waits_in (sym (phase_far number not)) ∙ waits));
         waiting = by_place (λ number. awaits ForAdded (own number (more taking)) ≡ waits_in (phase_of number (more taking)))
             (ap (awaits ForAdded) (own_first (moved_by node taking here) course) ∙ awaits_told message past (ap tells_in is) ∙ ap waits_in (sym phase_done))
-            (λ number not. ap (awaits ForAdded) (own_other number (moved_by node taking here) course not) ∙ phased.waiting number ∙ ap waits_in (sym (phase_far number not)));
-        first = first_more cluster course node here less phased taking phase_far (first_idle (phase_of node (more taking)) (stack_of (node_at cluster node) (taking ∷ past)) phase_done);
+            (λ number not. ap (awaits ForAdded) (own_other number (moved_by node taking here) course not) ∙ phased.waiting number
+                ∙ ap waits_in (sym (phase_far number not)));
+        first =
+            first_more cluster course node here less phased taking phase_far
+                (first_idle (phase_of node (more taking)) (stack_of (node_at cluster node) (taking ∷ past)) phase_done);
         adds = λ number frame index. adds_took cluster course node here less number frame index message stepped takes
             ∙ by_place (λ number. under_way cluster course number frame index ≡ one (is_asked frame index (phase_of number (more taking))))
             (phased.adds node frame index ∙ ap (λ it. one (is_asked frame index it)) was_told.2 ∙ ap (λ it. one (is_asked frame index it)) (sym phase_done))
@@ -406,7 +439,8 @@ module _ (cluster : Cluster) (course : Course) (node : ℕ) (here : Option PostA
       }
 
     stack_taken : (said : Body) → message.body ≡ said
-        → stack_of (node_at cluster node) (taking ∷ past) ≡ (frames_took (node_at cluster node) said (taking ∷ past) (frames_of (node_at cluster node) past)).stack
+        → stack_of (node_at cluster node) (taking ∷ past)
+            ≡ (frames_took (node_at cluster node) said (taking ∷ past) (frames_of (node_at cluster node) past)).stack
     unfolding frames_of
     stack_taken said is = ap (λ it. (frames_took (node_at cluster node) it (taking ∷ past) (frames_of (node_at cluster node) past)).stack) is
 
@@ -435,19 +469,23 @@ module _ (cluster : Cluster) (course : Course) (node : ℕ) (here : Option PostA
   ended_phased : (end : NodeEnd) → Phased cluster (more (Ended end))
   unfolding frames_of
   ended_phased end =
-      kept cluster course node here less phased (Ended end) (λ number. refl) (λ number frame index. adds_ended cluster course node here less number frame index end)
+      kept cluster course node here less phased (Ended end) (λ number. refl)
+          (λ number frame index. adds_ended cluster course node here less number frame index end)
       (λ such number. olds_ended cluster course node here less such number end) refl (phased.first node)
 
 -- ---- all events
 
-event_phased : (cluster : Cluster) (course : Course) (node : ℕ) (here : Option PostAt) (event : Event) → Stepped cluster course → Step cluster course (moved_by node event here)
+event_phased : (cluster : Cluster) (course : Course) (node : ℕ) (here : Option PostAt) (event : Event) → Stepped cluster course
+    → Step cluster course (moved_by node event here)
     → Phased cluster course
     → Phased cluster (moved_by node event here ∷ course)
 event_phased cluster course node here (Did done) stepped step phased =
     did_phased cluster course node here step.within phased done step.allowed.rest step.allowed.posts step.allowed.may
 event_phased cluster course node here (Sent message) stepped step phased =
-    sent_phased cluster course node here step.within phased message step.carries message.body refl (may_post (node_at cluster node) (own node course) message step.allowed)
-event_phased cluster course node here (Took message) stepped step phased = took_phased cluster course node here step.within phased message stepped step.carries message.body refl
+    sent_phased cluster course node here step.within phased message step.carries message.body refl
+        (may_post (node_at cluster node) (own node course) message step.allowed)
+event_phased cluster course node here (Took message) stepped step phased =
+    took_phased cluster course node here step.within phased message stepped step.carries message.body refl
 event_phased cluster course node here (Ended end) stepped step phased = ended_phased cluster course node here step.within phased end
 
 start_adds : (cluster : Cluster) (number : ℕ) (frame : FrameId) (index : ℕ) → under_way cluster [] number frame index ≡ 0
@@ -469,7 +507,8 @@ phased cluster [] stepped = record {
 phased cluster (moved ∷ course) stepped = event_phased cluster course moved.node moved.message moved.event stepped.0 stepped.1 (phased cluster course stepped.0)
 
 -- an Add of this frame and index is under way
-pub asked_by : (cluster : Cluster) (course : Course) → Phased cluster course → (number : ℕ) (frame : FrameId) (index : ℕ) → 1 ≤ under_way cluster course number frame index
+pub asked_by : (cluster : Cluster) (course : Course) → Phased cluster course → (number : ℕ) (frame : FrameId) (index : ℕ)
+    → 1 ≤ under_way cluster course number frame index
     → phase_of number course ≡ Asked frame index
 asked_by cluster course phased number frame index some =
     let is = phased.adds number frame index in

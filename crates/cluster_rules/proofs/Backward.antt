@@ -14,7 +14,8 @@ pub record Latest {A : Type 0} (is : A → Bool) (events : List A) (event : A) :
 module _ {A : Type 0} (is : A → Bool) where
   later_on : (first event : A) (events : List A) → is first ≡ false → Latest is events event → Latest is (first ∷ events) event
   later_on first event events not latest =
-      record { newer = first ∷ latest.newer; older = latest.older; parts = ap (λ xs. first ∷ xs) latest.parts; such = latest.such; none = rw (not, latest.none) refl }
+      record { newer = first ∷ latest.newer; older = latest.older; parts = ap (λ xs. first ∷ xs) latest.parts; such = latest.such;
+          none = rw (not, latest.none) refl }
 
   -- neither the first nor one behind it
   neither : (first : A) (events : List A) → list_any is (first ∷ events) ≡ false → (is first ≡ false) × (list_any is events ≡ false)
@@ -25,7 +26,8 @@ module _ {A : Type 0} (is : A → Bool) where
   since_at (first ∷ newer) event older none such =
       let both = neither first newer none in rw (both.0) (ap (λ xs. first ∷ xs) (since_at newer event older both.1 such))
 
-  any_on : (first : A) (events : List A) (b : Bool) → is first ≡ b → b || list_any is events ≡ true → (list_any is events ≡ true → (event : A) × Latest is events event)
+  any_on : (first : A) (events : List A) (b : Bool) → is first ≡ b → b || list_any is events ≡ true
+      → (list_any is events ≡ true → (event : A) × Latest is events event)
       → (event : A) × Latest is (first ∷ events) event
   any_on first events true such any before = (first, record { newer = []; older = events; parts = refl; such = such; none = refl })
   any_on first events false not any before = let found = before any in (found.0, later_on first found.0 events not found.1)
@@ -35,7 +37,8 @@ module _ {A : Type 0} (is : A → Bool) where
   any_latest [] any = absurd (cc)
   any_latest (first ∷ events) any = any_on first events (is first) refl any (any_latest events)
 
-  since_front_on : (first : A) (events : List A) (b : Bool) → (rest : List A) × (events ≡ since is events ++ rest) → (rest : List A) × (first ∷ events ≡ cond b [] (first ∷ since is events) ++ rest)
+  since_front_on : (first : A) (events : List A) (b : Bool) → (rest : List A) × (events ≡ since is events ++ rest)
+      → (rest : List A) × (first ∷ events ≡ cond b [] (first ∷ since is events) ++ rest)
   since_front_on first events true before = (first ∷ events, refl)
   since_front_on first events false before = (before.0, ap (λ xs. first ∷ xs) before.1)
 
@@ -44,7 +47,8 @@ module _ {A : Type 0} (is : A → Bool) where
   since_front [] = ([], refl)
   since_front (first ∷ events) = since_front_on first events (is first) (since_front events)
 
-  since_none_on : (first : A) (events : List A) (b : Bool) → is first ≡ b → list_any is (since is events) ≡ false → list_any is (cond b [] (first ∷ since is events)) ≡ false
+  since_none_on : (first : A) (events : List A) (b : Bool) → is first ≡ b → list_any is (since is events) ≡ false
+      → list_any is (cond b [] (first ∷ since is events)) ≡ false
   since_none_on first events true such none = refl
   since_none_on first events false not none = rw (not, none) refl
 
@@ -67,7 +71,8 @@ module _ {A B : Type 0} (by : A → Option B) where
   both_none None second none = (refl, none)
   both_none (Some value) second none = absurd (cc)
 
-  pub given_at : (newer : List A) (event : A) (older : List A) (value : B) → given by newer ≡ None → by event ≡ Some value → given by (newer ++ event ∷ older) ≡ Some value
+  pub given_at : (newer : List A) (event : A) (older : List A) (value : B) → given by newer ≡ None → by event ≡ Some value
+      → given by (newer ++ event ∷ older) ≡ Some value
   given_at [] event older value none gives = rw gives refl
   given_at (first ∷ newer) event older value none gives =
       let both = both_none (by first) (given by newer) none in rw (both.0) (given_at newer event older value both.1 gives)

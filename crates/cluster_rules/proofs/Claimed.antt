@@ -21,18 +21,21 @@ ClaimsEvent frame index (Ended end) = ⊥
 
 -- ---- what stands at a position may come behind what stood before it
 
-step_on : (cluster : Cluster) (first moved : Moved) (course : Course) (position : ℕ) (b : Bool) → Step cluster course first → cond b (Some first) (at course position) ≡ Some moved
+step_on : (cluster : Cluster) (first moved : Moved) (course : Course) (position : ℕ) (b : Bool) → Step cluster course first
+    → cond b (Some first) (at course position) ≡ Some moved
     → (at course position ≡ Some moved → Step cluster (before course position) moved) → Step cluster (cond b course (before course position)) moved
 step_on cluster first moved course position true step found rest = let same : first ≡ moved = cc in subst (Step cluster course) same step
 step_on cluster first moved course position false step found rest = rest found
 
-pub step_at : (cluster : Cluster) (course : Course) → Stepped cluster course → (position : ℕ) (moved : Moved) → at course position ≡ Some moved → Step cluster (before course position) moved
+pub step_at : (cluster : Cluster) (course : Course) → Stepped cluster course → (position : ℕ) (moved : Moved) → at course position ≡ Some moved
+    → Step cluster (before course position) moved
 step_at cluster [] stepped position moved found = absurd (cc)
 step_at cluster (first ∷ course) stepped position moved found =
     step_on cluster first moved course position (eqb position (length course)) stepped.1 found (step_at cluster course stepped.0 position moved)
 
 -- the course up to a position and with it
-pub stepped_at : (cluster : Cluster) (course : Course) → Stepped cluster course → (position : ℕ) (moved : Moved) → at course position ≡ Some moved → Stepped cluster (moved ∷ before course position)
+pub stepped_at : (cluster : Cluster) (course : Course) → Stepped cluster course → (position : ℕ) (moved : Moved) → at course position ≡ Some moved
+    → Stepped cluster (moved ∷ before course position)
 stepped_at cluster course stepped position moved found = (stepped_before cluster course stepped position, step_at cluster course stepped position moved found)
 
 -- ---- acts are counted up
@@ -53,7 +56,8 @@ pub at_within : (course : Course) (position : ℕ) (moved : Moved) → at course
 at_within [] position moved found = absurd (cc)
 at_within (first ∷ course) position moved found = on (eqb position (length course)) refl found (at_within course position moved)
   where
-    on : (b : Bool) → eqb position (length course) ≡ b → cond b (Some first) (at course position) ≡ Some moved → (at course position ≡ Some moved → position < length course)
+    on : (b : Bool) → eqb position (length course) ≡ b → cond b (Some first) (at course position) ≡ Some moved
+        → (at course position ≡ Some moved → position < length course)
         → position < length (first ∷ course)
     on true is found rest = let same : position ≡ length course = grind (arith, nat_tests) in omega (arith, same)
     on false is found rest = let less = rest found in omega (arith, less)
@@ -65,27 +69,32 @@ module _ (frame : FrameId) (index : ℕ) where
   acts_within [] position moved found claims = absurd (cc)
   acts_within (first ∷ course) position moved found claims = on (eqb position (length course)) found (λ older. acts_within course position moved older claims)
     where
-      on : (b : Bool) → cond b (Some first) (at course position) ≡ Some moved → (at course position ≡ Some moved → suc (acts_before frame (before course position)) ≤ acts_before frame course)
+      on : (b : Bool) → cond b (Some first) (at course position) ≡ Some moved
+          → (at course position ≡ Some moved → suc (acts_before frame (before course position)) ≤ acts_before frame course)
           → suc (acts_before frame (cond b course (before course position))) ≤ acts_before frame (first ∷ course)
       on true found rest =
           let same : first ≡ moved = cc in
-          let some : claims_event frame first.event ≡ 1 = ap (λ it. claims_event frame it.event) same ∙ claims_one frame index moved.event claims in omega (arith, some)
+          let some : claims_event frame first.event ≡ 1 = ap (λ it. claims_event frame it.event) same ∙ claims_one frame index moved.event claims in
+          omega (arith, some)
       on false found rest = let less = rest found in omega (arith, less)
 
   -- so they are fewer than before a later position
-  acts_later : (course : Course) (first second : ℕ) (one_moved other : Moved) → first < second → at course first ≡ Some one_moved → at course second ≡ Some other
+  acts_later : (course : Course) (first second : ℕ) (one_moved other : Moved) → first < second → at course first ≡ Some one_moved
+      → at course second ≡ Some other
       → ClaimsEvent frame index one_moved.event
       → suc (acts_before frame (before course first)) ≤ acts_before frame (before course second)
   acts_later [] first second one_moved other less found found' claims = absurd (cc)
   acts_later (top ∷ course) first second one_moved other less found found' claims =
-      on (eqb first (length course)) refl (eqb second (length course)) refl found found' (at_within course second other) (λ older. acts_within course first one_moved older claims)
+      on (eqb first (length course)) refl (eqb second (length course)) refl found found' (at_within course second other)
+          (λ older. acts_within course first one_moved older claims)
       (λ older older'. acts_later course first second one_moved other less older older' claims)
     where
       on : (a : Bool) → eqb first (length course) ≡ a → (b : Bool) → eqb second (length course) ≡ b → cond a (Some top) (at course first) ≡ Some one_moved
           → cond b (Some top) (at course second) ≡ Some other
           → (at course second ≡ Some other → second < length course)
           → (at course first ≡ Some one_moved → suc (acts_before frame (before course first)) ≤ acts_before frame course)
-          → (at course first ≡ Some one_moved → at course second ≡ Some other → suc (acts_before frame (before course first)) ≤ acts_before frame (before course second))
+          → (at course first ≡ Some one_moved → at course second ≡ Some other
+              → suc (acts_before frame (before course first)) ≤ acts_before frame (before course second))
           → suc (acts_before frame (cond a course (before course first))) ≤ acts_before frame (cond b course (before course second))
       on true is true was found found' bound whole rest =
           let one_place : first ≡ length course = grind (arith, nat_tests) in let other_place : second ≡ length course = grind (arith, nat_tests) in
@@ -97,7 +106,8 @@ module _ (frame : FrameId) (index : ℕ) where
 
 -- ---- once
 
-index_at : (cluster : Cluster) (course : Course) → Stepped cluster course → (position : ℕ) (moved : Moved) → at course position ≡ Some moved → (frame : FrameId) (index : ℕ) → (event : Event)
+index_at : (cluster : Cluster) (course : Course) → Stepped cluster course → (position : ℕ) (moved : Moved) → at course position ≡ Some moved
+    → (frame : FrameId) (index : ℕ) → (event : Event)
     → moved.event ≡ event
     → ClaimsEvent frame index event → index ≡ acts_before frame (before course position)
 index_at cluster course stepped position moved found frame index (Did done) is claims =
@@ -108,7 +118,8 @@ index_at cluster course stepped position moved found frame index (Ended end) is 
 
 -- Items at different positions are different acts.
 pub claimed_once : (cluster : Cluster) (course : Course) → Stepped cluster course → (frame : FrameId) (index first second : ℕ) (one_moved other : Moved)
-    → at course first ≡ Some one_moved → at course second ≡ Some other → ClaimsEvent frame index one_moved.event → ClaimsEvent frame index other.event → first ≡ second
+    → at course first ≡ Some one_moved → at course second ≡ Some other → ClaimsEvent frame index one_moved.event → ClaimsEvent frame index other.event
+    → first ≡ second
 claimed_once cluster course stepped frame index first second one_moved other found found' claims claims' = on (less_or_more first second)
   where
     here : index ≡ acts_before frame (before course first)
@@ -122,5 +133,7 @@ claimed_once cluster course stepped frame index first second one_moved other fou
 
     on : (first ≡ second) ⊎ ((first < second) ⊎ (second < first)) → first ≡ second
     on (inl same) = same
-    on (inr (inl less)) = let later = acts_later frame index course first second one_moved other less found found' claims in absurd (omega (arith, later, here, there))
-    on (inr (inr more)) = let later = acts_later frame index course second first other one_moved more found' found claims' in absurd (omega (arith, later, here, there))
+    on (inr (inl less)) =
+        let later = acts_later frame index course first second one_moved other less found found' claims in absurd (omega (arith, later, here, there))
+    on (inr (inr more)) =
+        let later = acts_later frame index course second first other one_moved more found' found claims' in absurd (omega (arith, later, here, there))

@@ -57,15 +57,18 @@ pending_at course frame number = one (is_told_of frame (phase_of number course))
 abbrev pub pending : Cluster → FrameId → Course → ℕ
 pending cluster frame course = sum_below cluster.config.nodes (pending_at course frame)
 
-pending_same : (cluster : Cluster) (frame : FrameId) (course other : Course) → ((number : ℕ) → is_told_of frame (phase_of number other) ≡ is_told_of frame (phase_of number course))
+pending_same : (cluster : Cluster) (frame : FrameId) (course other : Course)
+    → ((number : ℕ) → is_told_of frame (phase_of number other) ≡ is_told_of frame (phase_of number course))
     → pending cluster frame other ≡ pending cluster frame course
-pending_same cluster frame course other same = sum_same cluster.config.nodes (pending_at course frame) (pending_at other frame) (λ number less. ap one (same number))
+pending_same cluster frame course other same =
+    sum_same cluster.config.nodes (pending_at course frame) (pending_at other frame) (λ number less. ap one (same number))
 
 -- an act was counted, or is an add of which the frame was not told yet
 abbrev AddsUp : Cluster → Course → Type 0
 AddsUp cluster course = (frame : FrameId) → acts_before frame course ≡ counted cluster frame course + pending cluster frame course
 
-module _ (cluster : Cluster) (course : Course) (node : ℕ) (here : Option PostAt) (less : node < cluster.config.nodes) (stepped : Stepped cluster course) (sums : AddsUp cluster course) where
+module _ (cluster : Cluster) (course : Course) (node : ℕ) (here : Option PostAt) (less : node < cluster.config.nodes) (stepped : Stepped cluster course)
+    (sums : AddsUp cluster course) where
   abbrev past : Past
   past = own node course
 
@@ -110,12 +113,14 @@ module _ (cluster : Cluster) (course : Course) (node : ℕ) (here : Option PostA
   own_adds_up : (frame other : FrameId) (index word : ℕ) (old addend : ℤ) → IsFree past
       → AddsUpFor frame (more (Did (item.Served other index word old addend)))
   own_adds_up frame other index word old addend free =
-      let advances : many (named frame) (advanced cluster course (moved_by node (Did (item.Served other index word old addend)) here)) ≡ one (same_frame other frame) + 0 =
+      let advances : many (named frame) (advanced cluster course (moved_by node (Did (item.Served other index word old addend)) here))
+          ≡ one (same_frame other frame) + 0 =
       ap (λ adds. many (named frame) (cond (is_empty adds) (record { id = other; acts = index } ∷ []) [])) free.none_owed in
       plain (Did (item.Served other index word old addend)) frame (omega (arith, advances))
       (λ number. ap (λ adds. is_told_of frame (after_adding number other index old adds (phase_of number course))) free.none_owed)
 
-  did_adds_up : (done : Item) (rest : List Item) (posts : List Msg) → IsOwed (node_at cluster node) past done ⊎ (IsFree past × MayDo (node_at cluster node) past done rest posts)
+  did_adds_up : (done : Item) (rest : List Item) (posts : List Msg)
+      → IsOwed (node_at cluster node) past done ⊎ (IsFree past × MayDo (node_at cluster node) past done rest posts)
       → AddsUp cluster (more (Did done))
   did_adds_up (item.Act other index act) rest posts may = λ frame. plain (Did (item.Act other index act)) frame (omega arith) (λ number. refl)
   did_adds_up (item.Tick other) rest posts may = λ frame. plain (Did (item.Tick other)) frame refl (λ number. refl)
@@ -133,7 +138,8 @@ module _ (cluster : Cluster) (course : Course) (node : ℕ) (here : Option PostA
     told_stays true frame phase after same = ap (is_told_of frame) same
     told_stays false frame phase after same = refl
 
-    asked_stays : (b : Bool) (frame other : FrameId) (index : ℕ) (phase : Phase) → (b ≡ true → phase ≡ Idle) → is_told_of frame (cond b (Asked other index) phase) ≡ is_told_of frame phase
+    asked_stays : (b : Bool) (frame other : FrameId) (index : ℕ) (phase : Phase) → (b ≡ true → phase ≡ Idle)
+        → is_told_of frame (cond b (Asked other index) phase) ≡ is_told_of frame phase
     asked_stays true frame other index phase idle = ap (is_told_of frame) (sym (idle refl))
     asked_stays false frame other index phase idle = refl
 
@@ -142,7 +148,8 @@ module _ (cluster : Cluster) (course : Course) (node : ℕ) (here : Option PostA
         ap (λ it. is_told_of frame (cond (eqb node number) (after_post it (phase_of number course)) (phase_of number course))) is
         ∙ told_stays (eqb node number) frame (phase_of number course) (after_post said (phase_of number course)) (same (phase_of number course)))
 
-    sent_adds_up : (said : Body) → message.body ≡ said → (replies_in said ≡ true) ⊎ MayPost (node_at cluster node) past message.receiver said → AddsUp cluster (more (Sent message))
+    sent_adds_up : (said : Body) → message.body ≡ said → (replies_in said ≡ true) ⊎ MayPost (node_at cluster node) past message.receiver said
+        → AddsUp cluster (more (Sent message))
     sent_adds_up (body.Fetch page) is may = posted_stays (body.Fetch page) is (λ phase. refl)
     sent_adds_up (body.Page page words) is may = posted_stays (body.Page page words) is (λ phase. refl)
     sent_adds_up (body.Reconcile parts) is may = posted_stays (body.Reconcile parts) is (λ phase. refl)
@@ -165,7 +172,8 @@ module _ (cluster : Cluster) (course : Course) (node : ℕ) (here : Option PostA
   -- ---- takings
 
   module _ (message : Msg) (takes : Takes course node here message) where
-    taken_stays : (said : Body) → message.body ≡ said → ((phase : Phase) → after_taking said phase ≡ phase) → advanced_body said (stack_of (node_at cluster node) past) ≡ []
+    taken_stays : (said : Body) → message.body ≡ said → ((phase : Phase) → after_taking said phase ≡ phase)
+        → advanced_body said (stack_of (node_at cluster node) past) ≡ []
         → AddsUp cluster (more (Took message))
     taken_stays said is same none = λ frame. plain (Took message) frame
         (sym (ap (λ it. many (named frame) (advanced_body it (stack_of (node_at cluster node) past))) is ∙ ap (many (named frame)) none))
@@ -206,15 +214,22 @@ module _ (cluster : Cluster) (course : Course) (node : ℕ) (here : Option PostA
     took_adds_up (body.Add other index word addend) is = taken_stays (body.Add other index word addend) is (λ phase. refl) refl
     took_adds_up (body.Added old) is = added_adds_up old is
 
-event_adds_up : (cluster : Cluster) (course : Course) (node : ℕ) (here : Option PostAt) (event : Event) → Stepped cluster course → Step cluster course (moved_by node event here)
+event_adds_up : (cluster : Cluster) (course : Course) (node : ℕ) (here : Option PostAt) (event : Event) → Stepped cluster course
+    → Step cluster course (moved_by node event here)
     → AddsUp cluster course
     → AddsUp cluster (moved_by node event here ∷ course)
-event_adds_up cluster course node here (Did done) stepped step sums = did_adds_up cluster course node here step.within stepped sums done step.allowed.rest step.allowed.posts step.allowed.may
+event_adds_up cluster course node here (Did done) stepped step sums =
+    did_adds_up cluster course node here step.within stepped sums done step.allowed.rest step.allowed.posts step.allowed.may
 event_adds_up cluster course node here (Sent message) stepped step sums =
-    sent_adds_up cluster course node here step.within stepped sums message message.body refl (may_post (node_at cluster node) (own node course) message step.allowed)
-event_adds_up cluster course node here (Took message) stepped step sums = took_adds_up cluster course node here step.within stepped sums message step.carries message.body refl
-event_adds_up cluster course node here (Ended end) stepped step sums = λ frame. plain cluster course node here step.within stepped sums (Ended end) frame refl (λ number. refl)
+    sent_adds_up cluster course node here step.within stepped sums message message.body refl
+        (may_post (node_at cluster node) (own node course) message step.allowed)
+event_adds_up cluster course node here (Took message) stepped step sums =
+    took_adds_up cluster course node here step.within stepped sums message step.carries message.body refl
+event_adds_up cluster course node here (Ended end) stepped step sums =
+    λ frame. plain cluster course node here step.within stepped sums (Ended end) frame refl (λ number. refl)
 
-pub adds_up : (cluster : Cluster) (course : Course) → Stepped cluster course → (frame : FrameId) → acts_before frame course ≡ counted cluster frame course + pending cluster frame course
+pub adds_up : (cluster : Cluster) (course : Course) → Stepped cluster course → (frame : FrameId)
+    → acts_before frame course ≡ counted cluster frame course + pending cluster frame course
 adds_up cluster [] stepped = λ frame. let none = sum_none cluster.config.nodes (pending_at [] frame) (λ number less. refl) in omega (arith, none)
-adds_up cluster (moved ∷ course) stepped = event_adds_up cluster course moved.node moved.message moved.event stepped.0 stepped.1 (adds_up cluster course stepped.0)
+adds_up cluster (moved ∷ course) stepped =
+    event_adds_up cluster course moved.node moved.message moved.event stepped.0 stepped.1 (adds_up cluster course stepped.0)

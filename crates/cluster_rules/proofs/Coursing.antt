@@ -30,10 +30,12 @@ own_posts : (other number : ℕ) (b : Bool) → eqb other number ≡ b → (plac
 own_posts other number true is place [] course = refl
 own_posts other number false is place [] course = refl
 own_posts other number true is place (message ∷ messages) course =
-    own_posts other number true is (record place { index = place.index + 1 }) messages (record { node = other; event = Sent message; message = Some place } ∷ course)
+    own_posts other number true is (record place { index = place.index + 1 }) messages
+        (record { node = other; event = Sent message; message = Some place } ∷ course)
     ∙ ap (λ b. sent messages (cond b (Sent message ∷ own number course) (own number course))) is
 own_posts other number false is place (message ∷ messages) course =
-    own_posts other number false is (record place { index = place.index + 1 }) messages (record { node = other; event = Sent message; message = Some place } ∷ course)
+    own_posts other number false is (record place { index = place.index + 1 }) messages
+        (record { node = other; event = Sent message; message = Some place } ∷ course)
     ∙ ap (λ b. cond b (Sent message ∷ own number course) (own number course)) is
 
 own_taking : (other number : ℕ) (b : Bool) → eqb other number ≡ b → (place : Option PostAt) (message : Option Msg) (course : Course)
@@ -83,9 +85,11 @@ pub record Splits (course : Course) (position : ℕ) (moved : Moved) : Type 0 wh
   pub parts : course ≡ later ++ moved ∷ before course position
   pub count : length (before course position) ≡ position
 
-at_on : (first moved : Moved) (course : Course) (position : ℕ) (b : Bool) → eqb position (length course) ≡ b → cond b (Some first) (at course position) ≡ Some moved
+at_on : (first moved : Moved) (course : Course) (position : ℕ) (b : Bool) → eqb position (length course) ≡ b
+    → cond b (Some first) (at course position) ≡ Some moved
     → (at course position ≡ Some moved → Splits course position moved)
-    → (later : Course) × (first ∷ course ≡ later ++ moved ∷ cond b course (before course position)) × (length (cond b course (before course position)) ≡ position)
+    → (later : Course) × (first ∷ course ≡ later ++ moved ∷ cond b course (before course position))
+        × (length (cond b course (before course position)) ≡ position)
 at_on first moved course position true is found rest = let same : first ≡ moved = cc in ([], ap (λ it. it ∷ course) same, grind (arith, nat_tests))
 at_on first moved course position false is found rest = let split = rest found in (first ∷ split.later, ap (λ it. first ∷ it) split.parts, split.count)
 
@@ -96,7 +100,8 @@ at_splits (first ∷ course) position moved found =
     record { later = split.0; parts = split.1; count = split.2 }
 
 own_append_on : (number : ℕ) (first : Moved) (front back : Course) (b : Bool) → own number (front ++ back) ≡ own number front ++ own number back
-    → cond b (first.event ∷ own number (front ++ back)) (own number (front ++ back)) ≡ cond b (first.event ∷ own number front) (own number front) ++ own number back
+    → cond b (first.event ∷ own number (front ++ back)) (own number (front ++ back))
+        ≡ cond b (first.event ∷ own number front) (own number front) ++ own number back
 own_append_on number first front back true same = ap (λ it. first.event ∷ it) same
 own_append_on number first front back false same = same
 
@@ -105,7 +110,8 @@ own_append number [] back = refl
 own_append number (first ∷ front) back = own_append_on number first front back (eqb first.node number) (own_append number front back)
 
 -- Each event of lawful turns is allowed, at its position, by what its node did and took before.
-pub lawful_at : (cluster : Cluster) (turns : List WholeTurn) (position : ℕ) (moved : Moved) → IsLawful cluster turns → at (course_of turns) position ≡ Some moved
+pub lawful_at : (cluster : Cluster) (turns : List WholeTurn) (position : ℕ) (moved : Moved) → IsLawful cluster turns
+    → at (course_of turns) position ≡ Some moved
     → IsAllowed (node_at cluster moved.node) (own moved.node (before (course_of turns) position)) moved.event
 lawful_at cluster turns position moved lawful found =
     let split = at_splits (course_of turns) position moved found in

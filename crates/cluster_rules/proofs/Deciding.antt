@@ -165,7 +165,8 @@ gives_back (Some (Returns other)) value = do
 gives_back (Some (Traps kind)) value = None
 
 -- the target of the child that is wanted
-abbrev pub spawns : (wanted : Option Want) (procedure : ℕ) (arguments : List ℤ) → Option ((target : Option ℕ) × (wanted ≡ Some (Asks (Spawn target procedure arguments))))
+abbrev pub spawns : (wanted : Option Want) (procedure : ℕ) (arguments : List ℤ)
+    → Option ((target : Option ℕ) × (wanted ≡ Some (Asks (Spawn target procedure arguments))))
 spawns None procedure arguments = None
 spawns (Some (Asks (Spawn target called given))) procedure arguments = do
   procedures ← same called procedure

@@ -56,11 +56,13 @@ same_data life closure = do
   Some (record { id = id; depth = depth; acts = acts; link = link; spawned = spawned; join = join; away = away })
 
 -- what a frame wants, where nothing is kept for its next sync
-pub goes_alike : {own goes : Meaning} → ((answers : List Answer) → own answers ≡ goes answers) → (answers : List Answer) → own answers ≡ goes (at_sync [] answers)
+pub goes_alike : {own goes : Meaning} → ((answers : List Answer) → own answers ≡ goes answers) → (answers : List Answer)
+    → own answers ≡ goes (at_sync [] answers)
 goes_alike {goes = goes} alike answers = alike answers ∙ ap goes (sym (none_at_sync answers))
 
 pub closure_by : {node : Node} {life : Life} {closure : Closure} → ComesFrom node life.origin life.depth closure.frame.frame
-    → ((answers : List Answer) → wants node.code closure.frame.frame answers ≡ life.goes (at_sync life.kept answers)) → is_some (same_data life closure) ≡ true → IsClosure node life closure
+    → ((answers : List Answer) → wants node.code closure.frame.frame answers ≡ life.goes (at_sync life.kept answers)) → is_some (same_data life closure) ≡ true
+    → IsClosure node life closure
 closure_by {life = life} {closure = closure} comes goes is =
     let data_is = (gives_some (same_data life closure) is).0 in
     record {

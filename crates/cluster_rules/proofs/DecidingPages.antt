@@ -61,7 +61,8 @@ unwritten_act word other value false words past is none before = before none
 
 unwritten_in_act : (word : ℕ) (frame : FrameId) (index : ℕ) (act : LoggedAct) (past : Past) → is_among word (words_in_act act ++ written_words past) ≡ false
     → (is_among word (written_words past) ≡ false → list_any (writes word) past ≡ false) → list_any (writes word) (Did (Act frame index act) ∷ past) ≡ false
-unwritten_in_act word frame index (Write other value) past none before = unwritten_act word other value (other == word) (written_words past) past refl none before
+unwritten_in_act word frame index (Write other value) past none before =
+    unwritten_act word other value (other == word) (written_words past) past refl none before
 unwritten_in_act word frame index (Read other value) past none before = before none
 unwritten_in_act word frame index (Print value) past none before = before none
 unwritten_in_act word frame index (Spawn child procedure arguments) past none before = before none
@@ -85,19 +86,22 @@ unwritten word (Sent message ∷ past) none = unwritten word past none
 unwritten word (Took message ∷ past) none = unwritten word past none
 unwritten word (Ended end ∷ past) none = unwritten word past none
 
-sent_among_on : (node : Node) (word first : ℕ) (words : List ℕ) (past : Past) (b : Bool) → (first == word) ≡ b → are_sent_home node first [] past ≡ true → b || is_among word words ≡ true
+sent_among_on : (node : Node) (word first : ℕ) (words : List ℕ) (past : Past) (b : Bool) → (first == word) ≡ b → are_sent_home node first [] past ≡ true
+    → b || is_among word words ≡ true
     → (is_among word words ≡ true → are_sent_home node word [] past ≡ true) → are_sent_home node word [] past ≡ true
 sent_among_on node word first words past true is sent among before =
     let one : first ≡ word = grind (arith, nat_tests) in subst (λ it. are_sent_home node it [] past ≡ true) one sent
 sent_among_on node word first words past false is sent among before = before among
 
-sent_among : (node : Node) (word : ℕ) (words : List ℕ) (past : Past) → all_sent_home node words past ≡ true → is_among word words ≡ true → are_sent_home node word [] past ≡ true
+sent_among : (node : Node) (word : ℕ) (words : List ℕ) (past : Past) → all_sent_home node words past ≡ true → is_among word words ≡ true
+    → are_sent_home node word [] past ≡ true
 sent_among node word [] past all among = absurd (cc)
 sent_among node word (first ∷ words) past all among =
     let both = both_true (are_sent_home node first [] past) (all_sent_home node words past) all in
     sent_among_on node word first words past (first == word) refl both.0 among (sent_among node word words past both.1)
 
-settled_on : (node : Node) (word : ℕ) (past : Past) (b : Bool) → is_among word (written_words past) ≡ b → all_sent_home node (written_words past) past ≡ true → AllSettled node word past
+settled_on : (node : Node) (word : ℕ) (past : Past) (b : Bool) → is_among word (written_words past) ≡ b → all_sent_home node (written_words past) past ≡ true
+    → AllSettled node word past
 settled_on node word past true is all = settled_by node word past (sent_among node word (written_words past) past all is)
 settled_on node word past false is all = settled_unwritten node word past (unwritten word past is)
 
@@ -150,7 +154,8 @@ among_first page other pages false is = among_without page other pages is
 
 -- a page that goes
 among_gone : (page other : ℕ) (pages : List ℕ) (b : Bool) → (other == page) ≡ b → is_among page (without other pages) ≡ cond b false (is_among page pages)
-among_gone page other pages true is = let one : other ≡ page = grind (arith, nat_tests) in subst (λ it. is_among page (without it pages) ≡ false) (sym one) (none_without page pages)
+among_gone page other pages true is =
+    let one : other ≡ page = grind (arith, nat_tests) in subst (λ it. is_among page (without it pages) ≡ false) (sym one) (none_without page pages)
 among_gone page other pages false is = among_without page other pages is
 
 among_used_on : (page other : ℕ) (pages : List ℕ) (in_them b : Bool) → is_among other pages ≡ in_them → (other == page) ≡ b
@@ -169,7 +174,8 @@ arrival : (b resident : Bool) (words : List ℤ) → b || resident ≡ is_some (
 arrival true resident words = refl
 arrival false resident words = refl
 
-departure : (page other : ℕ) (past : Past) (b : Bool) → cond b false (is_resident page past) ≡ list_any (arrives page) (cond b [] (Did (Drop other) ∷ since (drops page) past))
+departure : (page other : ℕ) (past : Past) (b : Bool)
+    → cond b false (is_resident page past) ≡ list_any (arrives page) (cond b [] (Did (Drop other) ∷ since (drops page) past))
 departure page other past true = refl
 departure page other past false = refl
 
@@ -180,7 +186,8 @@ by_act node page (Print value) pages = refl
 by_act node page (Spawn child procedure arguments) pages = refl
 by_act node page Sync pages = refl
 
-by_item : (node : Node) (page : ℕ) (item : Item) (past : Past) (pages : List ℕ) → is_among page pages ≡ is_resident page past → is_among page (by_use_item node item pages) ≡ is_resident page (Did item ∷ past)
+by_item : (node : Node) (page : ℕ) (item : Item) (past : Past) (pages : List ℕ) → is_among page pages ≡ is_resident page past
+    → is_among page (by_use_item node item pages) ≡ is_resident page (Did item ∷ past)
 by_item node page (Act frame index act) past pages before = by_act node page act pages ∙ before
 by_item node page (Tick frame) past pages before = before
 by_item node page (Drop other) past pages before =
@@ -212,7 +219,8 @@ unfolding by_use
 used_is_resident node page [] = refl
 used_is_resident node page (Did item ∷ past) = by_item node page item past (by_use node past) (used_is_resident node page past)
 used_is_resident node page (Sent message ∷ past) = used_is_resident node page past
-used_is_resident node page (Took message ∷ past) = by_body page message.sender message.receiver message.body past (by_use node past) (used_is_resident node page past)
+used_is_resident node page (Took message ∷ past) =
+    by_body page message.sender message.receiver message.body past (by_use node past) (used_is_resident node page past)
 used_is_resident node page (Ended end ∷ past) = used_is_resident node page past
 
 -- ---- pages that come
@@ -344,7 +352,8 @@ is_sending node past home part = do
   fits ← part_fits node part
   some_mark ← first_marked part.mask node.config.page_words
   dirty ← each_below (λ place. same_bool (marks part.mask place) (is_dirty node (word_of node part.page place) past)) node.config.page_words
-  words ← each_below (λ place. where_needed (marks part.mask place) (same_int (slice_index_or part.words place (pos 0)) (cached node (word_of node part.page place) past))) node.config.page_words
+  words ← each_below (λ place. where_needed (marks part.mask place)
+      (same_int (slice_index_or part.words place (pos 0)) (cached node (word_of node part.page place) past))) node.config.page_words
   cause ← has_cause node past part.page
   Some (record { at_home = at_home; is_in = is_in; fits = fits; some_mark = some_mark; dirty = dirty; words = words; cause = cause })
 
@@ -387,7 +396,8 @@ abbrev pub why_dropped : (node : Node) (past : Past) (page : ℕ) (rest : List I
     → Option ((is_at_take_up past ≡ true) ⊎ (IsForRoom node past page rest posts ⊎ IsForAdd node page rest posts))
 why_dropped node past page rest posts =
     or_try (holds (is_at_take_up past) >>= λ at. Some (inl at))
-    (or_try (is_for_room node past page rest posts >>= λ room. Some (inr (inl room))) (holds (stands_before (adds_to node page) (posts_add_to node page) rest posts) >>= λ add. Some (inr (inr add))))
+    (or_try (is_for_room node past page rest posts >>= λ room. Some (inr (inl room)))
+        (holds (stands_before (adds_to node page) (posts_add_to node page) rest posts) >>= λ add. Some (inr (inr add))))
 
 abbrev pub may_drop : (node : Node) (past : Past) (page : ℕ) (rest : List Item) (posts : List Msg) → Option (MayDrop node past page rest posts)
 may_drop node past page rest posts = do
@@ -417,7 +427,8 @@ all_among pages others = list_all (λ page. is_among page others) pages
 
 among_all_on : (page first : ℕ) (pages others : List ℕ) (b : Bool) → (first == page) ≡ b → is_among first others ≡ true → b || is_among page pages ≡ true
     → (is_among page pages ≡ true → is_among page others ≡ true) → is_among page others ≡ true
-among_all_on page first pages others true is in_others among before = let one : first ≡ page = grind (arith, nat_tests) in subst (λ it. is_among it others ≡ true) one in_others
+among_all_on page first pages others true is in_others among before =
+    let one : first ≡ page = grind (arith, nat_tests) in subst (λ it. is_among it others ≡ true) one in_others
 among_all_on page first pages others false is in_others among before = before among
 
 among_all : (page : ℕ) (pages others : List ℕ) → all_among pages others ≡ true → is_among page pages ≡ true → is_among page others ≡ true
@@ -435,7 +446,8 @@ same_truth false false forth back = refl
 pub all_resident : (node : Node) (past : Past) (pages : List ℕ) → all_among pages (by_use node past) ≡ true → all_among (by_use node past) pages ≡ true
     → (page : ℕ) → is_among page pages ≡ is_resident page past
 all_resident node past pages forth back page =
-    same_truth (is_among page pages) (is_among page (by_use node past)) (among_all page pages (by_use node past) forth) (among_all page (by_use node past) pages back)
+    same_truth (is_among page pages) (is_among page (by_use node past)) (among_all page pages (by_use node past) forth)
+        (among_all page (by_use node past) pages back)
     ∙ used_is_resident node page past
 
 abbrev pub may_take_up : (node : Node) (past : Past) (frame : FrameId) (rest : List Item) → Option (MayTakeUp node past frame rest)

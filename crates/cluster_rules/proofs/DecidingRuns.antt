@@ -72,11 +72,13 @@ module _ (node : Node) (past : Past) where
   StateAnd (Park join closure) more = ParkAnd closure (at_join node past) more
   StateAnd _ more = more
 
-  abbrev pub grant_part : (closure : Closure) (bottom : Option (Bottom (stack_of node past))) {more : Type 0} → GrantAnd closure bottom more → GrantState node past closure bottom × more
+  abbrev pub grant_part : (closure : Closure) (bottom : Option (Bottom (stack_of node past))) {more : Type 0} → GrantAnd closure bottom more
+      → GrantState node past closure bottom × more
   grant_part closure None given = (tt, given)
   grant_part closure (Some bottom) given = given
 
-  abbrev pub park_part : (closure : Closure) (waits : Option ((life : Life) × (join : JoinId) × IsAtJoin node past life join)) {more : Type 0} → ParkAnd closure waits more
+  abbrev pub park_part : (closure : Closure) (waits : Option ((life : Life) × (join : JoinId) × IsAtJoin node past life join)) {more : Type 0}
+      → ParkAnd closure waits more
       → ParkState node past closure waits × more
   park_part closure None given = (tt, given)
   park_part closure (Some waits) given = given
@@ -98,7 +100,8 @@ abbrev pub StatesAnd : Node → Past → List Msg → Type 0 → Type 0
 StatesAnd node past [] more = more
 StatesAnd node past (message ∷ messages) more = StateAnd node past message.body (StatesAnd node (Sent message ∷ past) messages more)
 
-abbrev pub states_part : (node : Node) (past : Past) (messages : List Msg) {more : Type 0} → StatesAnd node past messages more → StatesOfPosts node past messages × more
+abbrev pub states_part : (node : Node) (past : Past) (messages : List Msg) {more : Type 0} → StatesAnd node past messages more
+    → StatesOfPosts node past messages × more
 states_part node past [] given = (tt, given)
 states_part node past (message ∷ messages) given =
     let first = state_part node past message.body given in
@@ -121,7 +124,8 @@ lawful_search cluster (turn ∷ older) closures = do
   Some (before, next)
 
 -- A log whose closures are these is a run, where the search finds that.
-pub run_by : (cluster : Cluster) (log : List Turn) (closures : List Closure) → log ≡ map logged (whole log closures) → (states : AreClosures cluster (reverse (whole log closures)))
+pub run_by : (cluster : Cluster) (log : List Turn) (closures : List Closure) → log ≡ map logged (whole log closures)
+    → (states : AreClosures cluster (reverse (whole log closures)))
     → is_some (lawful_search cluster (reverse (whole log closures)) states) ≡ true → IsRun cluster log
 run_by cluster log closures log_is states is =
     record { turns = whole log closures; log_is = log_is; lawful = (gives_some (lawful_search cluster (reverse (whole log closures)) states) is).0 }

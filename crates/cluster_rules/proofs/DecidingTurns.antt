@@ -47,7 +47,8 @@ acts node past frame = do
   top ← found (highest node past)
   named ← same_frame_id frame top.0.id
   budget ← less (ticks_of past) node.config.budget
-  alone ← where_needed (keeps_ask node past) (single (live (stack_of node past)) >>= λ only. Some (first_alone (live (stack_of node past)) top.0 only.0 top.1 only.1))
+  alone ← where_needed (keeps_ask node past)
+      (single (live (stack_of node past)) >>= λ only. Some (first_alone (live (stack_of node past)) top.0 only.0 top.1 only.1))
   Some (top.0, record { is = top.1; named = named; budget = budget; alone = alone })
 
 abbrev pub may_make : (node : Node) (past : Past) (act : LoggedAct) (life : Life) → Option (MayMake node past act life)
@@ -85,7 +86,8 @@ may_tick node past frame = do
 
 -- ---- adds
 
-abbrev pub may_add : (node : Node) (past : Past) (home : ℕ) (frame : FrameId) (index word : ℕ) (addend : ℤ) → Option (MayAdd node past home frame index word addend)
+abbrev pub may_add : (node : Node) (past : Past) (home : ℕ) (frame : FrameId) (index word : ℕ) (addend : ℤ)
+    → Option (MayAdd node past home frame index word addend)
 may_add node past home frame index word addend = do
   top ← acts node past frame
   index_is ← same index top.0.acts
@@ -94,13 +96,15 @@ may_add node past home frame index word addend = do
   at_home ← same home (home_of node (page_of node word))
   Some (record { life = top.0; acts = top.1; index_is = index_is; wanted = wanted; absent = absent; at_home = at_home })
 
-abbrev pub may_add_here : (node : Node) (past : Past) (frame : FrameId) (index word : ℕ) (old addend : ℤ) → Option (MayAddHere node past frame index word old addend)
+abbrev pub may_add_here : (node : Node) (past : Past) (frame : FrameId) (index word : ℕ) (old addend : ℤ)
+    → Option (MayAddHere node past frame index word old addend)
 may_add_here node past frame index word old addend = do
   add ← may_add node past node.me frame index word addend
   old_is ← same_int old (stored node word past)
   Some (record { add = add; old_is = old_is })
 
-abbrev pub may_post_add : (node : Node) (past : Past) (receiver : ℕ) (frame : FrameId) (index word : ℕ) (addend : ℤ) → Option (MayPostAdd node past receiver frame index word addend)
+abbrev pub may_post_add : (node : Node) (past : Past) (receiver : ℕ) (frame : FrameId) (index word : ℕ) (addend : ℤ)
+    → Option (MayPostAdd node past receiver frame index word addend)
 may_post_add node past receiver frame index word addend = do
   add ← may_add node past receiver frame index word addend
   other ← differ receiver node.me
@@ -166,13 +170,15 @@ may_ask node past receiver = do
   other ← differ receiver node.me
   Some (record { idle = idle; none_out = none_out; to = receiver_is; other = other })
 
-abbrev pub oldest_kept : (asked : List Asked) (sender : ℕ) → Option ((kept : Bool) × (later : List Asked) × (asked ≡ record { sender = sender; kept = kept } ∷ later))
+abbrev pub oldest_kept : (asked : List Asked) (sender : ℕ)
+    → Option ((kept : Bool) × (later : List Asked) × (asked ≡ record { sender = sender; kept = kept } ∷ later))
 oldest_kept [] sender = None
 oldest_kept (first ∷ later) sender = do
   is ← same first.sender sender
   Some (first.kept, later, λ i. record { sender = is i; kept = first.kept } ∷ later)
 
-abbrev pub kept_is : (node : Node) (past : Past) (sender : ℕ) → (kept : Bool) → (later : List Asked) → asks_of node past ≡ record { sender = sender; kept = kept } ∷ later
+abbrev pub kept_is : (node : Node) (past : Past) (sender : ℕ) → (kept : Bool) → (later : List Asked)
+    → asks_of node past ≡ record { sender = sender; kept = kept } ∷ later
     → Option (IsOldestAsk node past sender true)
 kept_is node past sender true later is = Some (later, is)
 kept_is node past sender false later is = None
@@ -211,7 +217,8 @@ abbrev pub ParkState : (node : Node) (past : Past) (closure : Closure) → Optio
 ParkState node past closure None = Unit {0}
 ParkState node past closure (Some waits) = IsClosure node waits.0 closure
 
-abbrev pub may_grant : (node : Node) (past : Past) (receiver : ℕ) (closure : Closure) (bottom : Option (Bottom (stack_of node past))) → GrantState node past closure bottom
+abbrev pub may_grant : (node : Node) (past : Past) (receiver : ℕ) (closure : Closure) (bottom : Option (Bottom (stack_of node past)))
+    → GrantState node past closure bottom
     → Option (MayGrant node past receiver closure)
 may_grant node past receiver closure None state = None
 may_grant node past receiver closure (Some bottom) state = do
@@ -220,7 +227,8 @@ may_grant node past receiver closure (Some bottom) state = do
   clean ← all_clean node past
   Some (record { ask = ask; above = bottom.above; child = bottom.child; parent = bottom.parent; stack = bottom.parts; state = state; clean = clean })
 
-abbrev pub may_park : (node : Node) (past : Past) (receiver : ℕ) (join : JoinId) (closure : Closure) (waits : Option ((life : Life) × (at : JoinId) × IsAtJoin node past life at))
+abbrev pub may_park : (node : Node) (past : Past) (receiver : ℕ) (join : JoinId) (closure : Closure)
+    (waits : Option ((life : Life) × (at : JoinId) × IsAtJoin node past life at))
     → ParkState node past closure waits → Option (MayPark node past receiver join closure)
 may_park node past receiver join closure None state = None
 may_park node past receiver join closure (Some waits) state = do
@@ -383,7 +391,8 @@ moves node past deeds states = do
   end ← may_end_so node (behind deeds past) deeds.end
   Some (record { patient = patient; items = items; posts = posts; end = end })
 
-abbrev pub is_idle : (items : List Item) (posts : List Msg) (end : Option NodeEnd) → Option (◌≡◌ {A = Deeds} (record { items = items; posts = posts; end = end }) no_deeds)
+abbrev pub is_idle : (items : List Item) (posts : List Msg) (end : Option NodeEnd)
+    → Option (◌≡◌ {A = Deeds} (record { items = items; posts = posts; end = end }) no_deeds)
 is_idle items posts end = do
   no_items ← none items
   no_posts ← none posts

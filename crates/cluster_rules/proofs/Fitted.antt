@@ -30,7 +30,8 @@ abbrev Fits : Config → Msg → Type 0
 Fits config message = BodyFits config message.body
 
 reply_fits : (node : Node) (sender : ℕ) (body : Body) (past : Past) → All (Fits node.config) (reply node sender body past)
-reply_fits node sender (Fetch page) past = All-cons (Fits node.config) _ [] (stored_length node (word_of node page 0) node.config.page_words past) (All-nil (Fits node.config))
+reply_fits node sender (Fetch page) past =
+    All-cons (Fits node.config) _ [] (stored_length node (word_of node page 0) node.config.page_words past) (All-nil (Fits node.config))
 reply_fits node sender (Reconcile parts) past = All-cons (Fits node.config) _ [] tt (All-nil (Fits node.config))
 reply_fits node sender _ past = All-nil (Fits node.config)
 
@@ -38,7 +39,8 @@ rest_fits : (config : Config) (messages : List Msg) → All (Fits config) messag
 rest_fits config [] all = all
 rest_fits config (message ∷ messages) all = All-tail (Fits config) message messages all
 
-after_sent : (config : Config) (replies : Bool) (messages : List Msg) → All (Fits config) messages → All (Fits config) (cond replies (rest_of messages) messages)
+after_sent : (config : Config) (replies : Bool) (messages : List Msg) → All (Fits config) messages
+    → All (Fits config) (cond replies (rest_of messages) messages)
 after_sent config true messages all = rest_fits config messages all
 after_sent config false messages all = all
 
@@ -47,7 +49,8 @@ owed_fits : (node : Node) (past : Past) → All (Fits node.config) (owed_home_re
 unfolding owed_home_replies
 owed_fits node [] = All-nil (Fits node.config)
 owed_fits node (Took message ∷ past) =
-    All-append (Fits node.config) (owed_home_replies node past) (reply node message.sender message.body past) (owed_fits node past) (reply_fits node message.sender message.body past)
+    All-append (Fits node.config) (owed_home_replies node past) (reply node message.sender message.body past) (owed_fits node past)
+        (reply_fits node message.sender message.body past)
 owed_fits node (Sent message ∷ past) = after_sent node.config (replies_in message.body) (owed_home_replies node past) (owed_fits node past)
 owed_fits node (Did item ∷ past) = owed_fits node past
 owed_fits node (Ended end ∷ past) = owed_fits node past
@@ -85,7 +88,8 @@ owed_item_fits node past _ owed = absurd owed
 items_fit : (node : Node) (posts : List Msg) (past : Past) (items : List Item) → MayDoAll node posts past items → All (ItemFits node.config) items
 items_fit node posts past [] may = All-nil (ItemFits node.config)
 items_fit node posts past (item ∷ items) may =
-    All-cons (ItemFits node.config) item items (elim may.0 [ inl owed ↦ owed_item_fits node past item owed | inr own ↦ own_item_fits node past item items posts own.1 ])
+    All-cons (ItemFits node.config) item items
+        (elim may.0 [ inl owed ↦ owed_item_fits node past item owed | inr own ↦ own_item_fits node past item items posts own.1 ])
     (items_fit node posts (Did item ∷ past) items may.1)
 
 -- ---- turns
@@ -106,7 +110,8 @@ TurnFits config turn = DeedsFit config (deeds_of turn)
 turns_fit : (cluster : Cluster) (turns : List WholeTurn) → IsLawful cluster turns → All (TurnFits cluster.config) turns
 turns_fit cluster [] lawful = All-nil (TurnFits cluster.config)
 turns_fit cluster (turn ∷ older) lawful =
-    All-cons (TurnFits cluster.config) turn older (step_fits (node_at cluster turn.node) (past_of turn.node older) (deeds_of turn) lawful.1.allows.step) (turns_fit cluster older lawful.0)
+    All-cons (TurnFits cluster.config) turn older (step_fits (node_at cluster turn.node) (past_of turn.node older) (deeds_of turn) lawful.1.allows.step)
+        (turns_fit cluster older lawful.0)
 
 -- What a turn of lawful turns holds fits.
 pub turn_fits : (cluster : Cluster) (turns : List WholeTurn) (turn : WholeTurn) → IsLawful cluster turns → Contains turns turn
@@ -125,7 +130,8 @@ LoggedFits config turn = All (ItemFits config) turn.items × All (λ post. NoteF
 
 logged_fits : (config : Config) (turn : WholeTurn) → TurnFits config turn → LoggedFits config (logged turn)
 logged_fits config turn fits =
-    (fits.0, All-map (λ post. NoteFits config post.note) post_of turn.posts (All-weaker (Fits config) (λ message. NoteFits config (note_of message.body)) (λ message. note_fits config message.body) turn.posts fits.1))
+    (fits.0, All-map (λ post. NoteFits config post.note) post_of turn.posts
+        (All-weaker (Fits config) (λ message. NoteFits config (note_of message.body)) (λ message. note_fits config message.body) turn.posts fits.1))
 
 latest_last : {A : Type 0} (first : A) (rest : List A) → reverse (first ∷ rest) ≡ reverse rest ++ first ∷ []
 latest_last first rest = reverse-append (first ∷ []) rest

@@ -52,7 +52,8 @@ own_other number moved course other = let not : eqb moved.node number ≡ false 
 
 -- ---- what an event makes of what is held
 
-flying_changes : (cluster : Cluster) (course : Course) (such : Mark → Bool) (node : ℕ) (here : Option PostAt) (event : Event) → Stepped cluster course → Carries course node here event
+flying_changes : (cluster : Cluster) (course : Course) (such : Mark → Bool) (node : ℕ) (here : Option PostAt) (event : Event) → Stepped cluster course
+    → Carries course node here event
     → amount_of (in_message such) (letters_on event here (letters_of course)) + many such (come_by event) ≡ flying course such + many such (gone_by event)
 flying_changes cluster course such node here (Did item) stepped carries = refl
 flying_changes cluster course such node here (Sent message) stepped carries =
@@ -71,7 +72,8 @@ module _ (cluster : Cluster) (course : Course) (moved : Moved) (stepped : Steppe
       ≤ held_by cluster course such + many such (risen (advanced cluster course moved)) + many such (born_by moved.event)
   held_changes such =
       let here = passes (node_at cluster moved.node) (own moved.node course) moved.event step.allowed such in
-      let after : at_node cluster (moved ∷ course) such moved.node ≡ many such (marks_of (frames_of (node_at cluster moved.node) (moved.event ∷ own moved.node course))) =
+      let after : at_node cluster (moved ∷ course) such moved.node
+          ≡ many such (marks_of (frames_of (node_at cluster moved.node) (moved.event ∷ own moved.node course))) =
       ap (λ past. many such (marks_of (frames_of (node_at cluster moved.node) past))) (own_first moved course) in
       let sum = sum_change cluster.config.nodes (at_node cluster course such) (at_node cluster (moved ∷ course) such) moved.node step.within
       (λ number other. ap (λ past. many such (marks_of (frames_of (node_at cluster number) past))) (own_other number moved course other)) in
@@ -98,7 +100,8 @@ pub next_grows : (cluster : Cluster) (course : Course) (moved : Moved) (frame : 
 next_grows cluster course moved frame = next_on (node_at cluster frame.node) frame.node moved course
 
 -- what is unknown was so before
-pub unknown_before : (cluster : Cluster) (course : Course) (moved : Moved) (frame : FrameId) → Unknown cluster (moved ∷ course) frame → Unknown cluster course frame
+pub unknown_before : (cluster : Cluster) (course : Course) (moved : Moved) (frame : FrameId) → Unknown cluster (moved ∷ course) frame
+    → Unknown cluster course frame
 unknown_before cluster course moved frame unknown = let less = next_on (node_at cluster frame.node) frame.node moved course in omega (arith, less, unknown)
 
 -- The frame is born by this event: it gets the next number of its node.
@@ -107,7 +110,8 @@ pub record IsBorn (cluster : Cluster) (course : Course) (moved : Moved) (frame :
   pub was : next_frame (node_at cluster frame.node) (own frame.node course) ≡ frame.number
   pub now : next_frame (node_at cluster frame.node) (own frame.node (moved ∷ course)) ≡ suc frame.number
 
-next_first : (node : Node) (moved : Moved) (course : Course) → next_frame node (own moved.node (moved ∷ course)) ≡ next_frame node (own moved.node course) + spawns_on moved.event
+next_first : (node : Node) (moved : Moved) (course : Course)
+    → next_frame node (own moved.node (moved ∷ course)) ≡ next_frame node (own moved.node course) + spawns_on moved.event
 unfolding next_frame
 next_first node moved course = ap (next_frame node) (own_first moved course)
 
@@ -125,7 +129,8 @@ module _ (cluster : Cluster) (course : Course) (moved : Moved) where
   none_born : (frame : FrameId) (event : Event) → moved.event ≡ event → born_by event ≡ [] → Births frame
   none_born frame event is none = inl (ap (λ it. many (named frame) (born_by it)) is ∙ ap (many (named frame)) none)
 
-  spawn_births : (frame parent child : FrameId) (index procedure : ℕ) (arguments : List ℤ) → moved.event ≡ Did (item.Act parent index (act.Spawn child procedure arguments))
+  spawn_births : (frame parent child : FrameId) (index procedure : ℕ) (arguments : List ℤ)
+      → moved.event ≡ Did (item.Act parent index (act.Spawn child procedure arguments))
       → child ≡ record { node = moved.node; number = next_frame node past } → Births frame
   spawn_births frame parent child index procedure arguments is name = on (same_frame child frame) refl
     where
@@ -144,19 +149,23 @@ module _ (cluster : Cluster) (course : Course) (moved : Moved) where
       on false same = inl (ap (many (named frame)) by_spawn ∙ rw same refl)
 
   act_births : (frame parent : FrameId) (index : ℕ) (done : LoggedAct) → moved.event ≡ Did (item.Act parent index done)
-      → IsOwed node past (item.Act parent index done) ⊎ (IsFree past × (rest : List Item) × (posts : List Msg) × MayDo node past (item.Act parent index done) rest posts) → Births frame
+      → IsOwed node past (item.Act parent index done)
+          ⊎ (IsFree past × (rest : List Item) × (posts : List Msg) × MayDo node past (item.Act parent index done) rest posts) → Births frame
   act_births frame parent index done is (inl owed) = absurd owed
   act_births frame parent index (act.Read word value) is (inr may) = none_born frame (Did (item.Act parent index (act.Read word value))) is refl
   act_births frame parent index (act.Write word value) is (inr may) = none_born frame (Did (item.Act parent index (act.Write word value))) is refl
   act_births frame parent index (act.Print value) is (inr may) = none_born frame (Did (item.Act parent index (act.Print value))) is refl
-  act_births frame parent index (act.Spawn child procedure arguments) is (inr may) = spawn_births frame parent child index procedure arguments is may.3.makes.name
+  act_births frame parent index (act.Spawn child procedure arguments) is (inr may) =
+      spawn_births frame parent child index procedure arguments is may.3.makes.name
   act_births frame parent index act.Sync is (inr may) = none_born frame (Did (item.Act parent index act.Sync)) is refl
 
   event_births : (frame : FrameId) (event : Event) → moved.event ≡ event → IsAllowed node past event → Births frame
   event_births frame (Did (item.Act parent index done)) is does = act_births frame parent index done is (spread does.rest does.posts does.may)
     where
-      spread : (rest : List Item) (posts : List Msg) → IsOwed node past (item.Act parent index done) ⊎ (IsFree past × MayDo node past (item.Act parent index done) rest posts)
-          → IsOwed node past (item.Act parent index done) ⊎ (IsFree past × (rest : List Item) × (posts : List Msg) × MayDo node past (item.Act parent index done) rest posts)
+      spread : (rest : List Item) (posts : List Msg)
+          → IsOwed node past (item.Act parent index done) ⊎ (IsFree past × MayDo node past (item.Act parent index done) rest posts)
+          → IsOwed node past (item.Act parent index done)
+              ⊎ (IsFree past × (rest : List Item) × (posts : List Msg) × MayDo node past (item.Act parent index done) rest posts)
       spread rest posts (inl owed) = inl owed
       spread rest posts (inr both) = inr (both.0, rest, posts, both.1)
   event_births frame (Did (item.Tick other)) is does = none_born frame (Did (item.Tick other)) is refl
@@ -201,7 +210,8 @@ pub main_known : (cluster : Cluster) (frame : FrameId) → Unknown cluster [] fr
 unfolding next_frame
 main_known cluster frame unknown = on (eqb frame.node 0) refl (eqb 0 frame.node) refl (eqb 0 frame.number) refl unknown
   where
-    on : (a : Bool) → eqb frame.node 0 ≡ a → (b : Bool) → eqb 0 frame.node ≡ b → (c : Bool) → eqb 0 frame.number ≡ c → cond a 1 0 ≤ frame.number → b && c ≡ false
+    on : (a : Bool) → eqb frame.node 0 ≡ a → (b : Bool) → eqb 0 frame.node ≡ b → (c : Bool) → eqb 0 frame.number ≡ c → cond a 1 0 ≤ frame.number
+        → b && c ≡ false
     on true is true was true number less = grind (arith, nat_tests)
     on true is true was false number less = refl
     on false is true was c number less = let same : 0 ≡ frame.node = grind (arith, nat_tests) in grind (arith, nat_tests)
@@ -230,7 +240,8 @@ held_more cluster course moved stepped step frame =
     let changes = held_changes cluster course moved stepped step (named frame) in
     let same = same_risen frame (advanced cluster course moved) in omega (arith, changes, same)
 
-unknown_next : (cluster : Cluster) (course : Course) (moved : Moved) → Stepped cluster course → Step cluster course moved → HoldsOnce cluster course → (frame : FrameId)
+unknown_next : (cluster : Cluster) (course : Course) (moved : Moved) → Stepped cluster course → Step cluster course moved → HoldsOnce cluster course
+    → (frame : FrameId)
     → Unknown cluster (moved ∷ course) frame → held cluster (moved ∷ course) frame ≡ 0
 unknown_next cluster course moved stepped step holds frame unknown = on (births cluster course moved frame step)
   where
@@ -240,7 +251,8 @@ unknown_next cluster course moved stepped step holds frame unknown = on (births 
         let before = holds.unknown frame (unknown_before cluster course moved frame unknown) in omega (arith, more, before, none)
     on (inr born) = let now = born.now in absurd (omega (arith, now, unknown))
 
-once_next : (cluster : Cluster) (course : Course) (moved : Moved) → Stepped cluster course → Step cluster course moved → HoldsOnce cluster course → (frame : FrameId)
+once_next : (cluster : Cluster) (course : Course) (moved : Moved) → Stepped cluster course → Step cluster course moved → HoldsOnce cluster course
+    → (frame : FrameId)
     → held cluster (moved ∷ course) frame ≤ 1
 once_next cluster course moved stepped step holds frame = on (births cluster course moved frame step)
   where
@@ -269,11 +281,13 @@ pub held_once : (cluster : Cluster) (course : Course) → Stepped cluster course
 held_once cluster course stepped = (holds_once cluster course stepped).once
 
 -- A frame whose name was not given is nowhere.
-pub held_known : (cluster : Cluster) (course : Course) → Stepped cluster course → (frame : FrameId) → Unknown cluster course frame → held cluster course frame ≡ 0
+pub held_known : (cluster : Cluster) (course : Course) → Stepped cluster course → (frame : FrameId) → Unknown cluster course frame
+    → held cluster course frame ≡ 0
 held_known cluster course stepped = (holds_once cluster course stepped).unknown
 
 -- A frame that one node has is not at another one.
-pub one_node : (cluster : Cluster) (course : Course) → Stepped cluster course → (frame : FrameId) (number other : ℕ) → number < cluster.config.nodes → other < cluster.config.nodes
+pub one_node : (cluster : Cluster) (course : Course) → Stepped cluster course → (frame : FrameId) (number other : ℕ) → number < cluster.config.nodes
+    → other < cluster.config.nodes
     → 1 ≤ at_node cluster course (named frame) number → 1 ≤ at_node cluster course (named frame) other → number ≡ other
 one_node cluster course stepped frame number other less below here there = on (one_or_two number other)
   where

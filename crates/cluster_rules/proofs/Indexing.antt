@@ -27,7 +27,8 @@ use Rattle.cluster_rules.proofs.Claiming.{acts_before, pending_at, pending, adds
 abbrev pub HasMark : Cluster → Course → ℕ → Mark → Type 0
 HasMark cluster course number mark = (such : Mark → Bool) → one (such mark) ≤ at_node cluster course such number
 
-pub mark_named : (cluster : Cluster) (course : Course) (number : ℕ) (frame : FrameId) (acts : ℕ) → HasMark cluster course number (record { id = frame; acts = acts })
+pub mark_named : (cluster : Cluster) (course : Course) (number : ℕ) (frame : FrameId) (acts : ℕ)
+    → HasMark cluster course number (record { id = frame; acts = acts })
     → 1 ≤ at_node cluster course (named frame) number
 mark_named cluster course number frame acts has =
     let here = has (named frame) in
@@ -43,19 +44,23 @@ stack_mark cluster course number mark has = λ such.
 same_mark : (life : Life) (frame : FrameId) (acts : ℕ) → life.id ≡ frame → life.acts ≡ acts → mark_of life ≡ record { id = frame; acts = acts }
 same_mark life frame acts name number = λ i. record { id = name i; acts = number i }
 
-first_mark : (such : Mark → Bool) (frame : FrameId) (acts : ℕ) (stack : List Life) → AddsFirst frame acts stack → one (such (record { id = frame; acts = acts })) ≤ many such (marks stack)
+first_mark : (such : Mark → Bool) (frame : FrameId) (acts : ℕ) (stack : List Life) → AddsFirst frame acts stack
+    → one (such (record { id = frame; acts = acts })) ≤ many such (marks stack)
 first_mark such frame acts [] first = absurd first
 first_mark such frame acts (life ∷ below) first =
     let is = ap (λ it. one (such it)) (same_mark life frame acts first.0 first.1) in omega (arith, is)
 
-pub first_stack_mark : (cluster : Cluster) (course : Course) (number : ℕ) (frame : FrameId) (acts : ℕ) → AddsFirst frame acts (stack_of (node_at cluster number) (own number course))
+pub first_stack_mark : (cluster : Cluster) (course : Course) (number : ℕ) (frame : FrameId) (acts : ℕ)
+    → AddsFirst frame acts (stack_of (node_at cluster number) (own number course))
     → HasMark cluster course number (record { id = frame; acts = acts })
 first_stack_mark cluster course number frame acts first =
-    stack_mark cluster course number (record { id = frame; acts = acts }) (λ such. first_mark such frame acts (stack_of (node_at cluster number) (own number course)) first)
+    stack_mark cluster course number (record { id = frame; acts = acts })
+        (λ such. first_mark such frame acts (stack_of (node_at cluster number) (own number course)) first)
 
 module _ (cluster : Cluster) (course : Course) (stepped : Stepped cluster course) where
   -- a frame that was not told of its add is the first of its stack
-  pub told_there : (number : ℕ) (frame : FrameId) (phase : Phase) → phase_of number course ≡ phase → is_told_of frame phase ≡ true → 1 ≤ at_node cluster course (named frame) number
+  pub told_there : (number : ℕ) (frame : FrameId) (phase : Phase) → phase_of number course ≡ phase → is_told_of frame phase ≡ true
+      → 1 ≤ at_node cluster course (named frame) number
   told_there number frame Idle is told = absurd (cc)
   told_there number frame (Asked other acts) is told = absurd (cc)
   told_there number frame (Told other acts old) is told =
@@ -65,15 +70,12 @@ module _ (cluster : Cluster) (course : Course) (stepped : Stepped cluster course
       let has = first_stack_mark cluster course number other acts first in
       subst (λ it. 1 ≤ at_node cluster course (named it) number) name (mark_named cluster course number other acts has)
 
-  pub told_within : (number : ℕ) (frame : FrameId) (phase : Phase) → phase_of number course ≡ phase → is_told_of frame phase ≡ true → number < cluster.config.nodes
-  told_within number frame Idle is told = absurd (cc)
-  told_within number frame (Asked other acts) is told = absurd (cc)
-  told_within number frame (Told other acts old) is told = (phased cluster course stepped).within number (ap waits_in is)
-
   -- a frame that one node has, which was told of its adds, is nowhere to be told
-  none_pending : (node : ℕ) → node < cluster.config.nodes → (frame : FrameId) → 1 ≤ at_node cluster course (named frame) node → is_told_of frame (phase_of node course) ≡ false
+  none_pending : (node : ℕ) → node < cluster.config.nodes → (frame : FrameId) → 1 ≤ at_node cluster course (named frame) node
+      → is_told_of frame (phase_of node course) ≡ false
       → pending cluster frame course ≡ 0
-  none_pending node less frame here not = sum_none cluster.config.nodes (pending_at course frame) (λ number below. on number below (is_told_of frame (phase_of number course)) refl)
+  none_pending node less frame here not =
+      sum_none cluster.config.nodes (pending_at course frame) (λ number below. on number below (is_told_of frame (phase_of number course)) refl)
     where
       on : (number : ℕ) → number < cluster.config.nodes → (b : Bool) → is_told_of frame (phase_of number course) ≡ b → one b ≡ 0
       on number below false is = refl
@@ -91,7 +93,8 @@ module _ (cluster : Cluster) (course : Course) (stepped : Stepped cluster course
       let sums = adds_up cluster course stepped frame in
       omega (arith, counts, none, sums)
 
-  mark_held : (node : ℕ) → node < cluster.config.nodes → (frame : FrameId) (acts : ℕ) → HasMark cluster course node (record { id = frame; acts = acts }) → 1 ≤ held cluster course frame
+  mark_held : (node : ℕ) → node < cluster.config.nodes → (frame : FrameId) (acts : ℕ) → HasMark cluster course node (record { id = frame; acts = acts })
+      → 1 ≤ held cluster course frame
   mark_held node less frame acts has =
       let here = mark_named cluster course node frame acts has in
       let whole = sum_one cluster.config.nodes (at_node cluster course (named frame)) node less in omega (arith, here, whole)
@@ -127,12 +130,14 @@ module _ (cluster : Cluster) (course : Course) (stepped : Stepped cluster course
         (mark_acts asker within frame index has (ap (is_told_of frame) asked), mark_held asker within frame index has)
 
     act_on : (frame : FrameId) (index : ℕ) (act : LoggedAct) (rest : List Item) (posts : List Msg)
-        → IsOwed (node_at cluster node) past (item.Act frame index act) ⊎ (IsFree past × MayDo (node_at cluster node) past (item.Act frame index act) rest posts) → Made frame index
+        → IsOwed (node_at cluster node) past (item.Act frame index act)
+            ⊎ (IsFree past × MayDo (node_at cluster node) past (item.Act frame index act) rest posts) → Made frame index
     act_on frame index act rest posts (inl owed) = absurd owed
     act_on frame index act rest posts (inr both) = acting frame both.1.life index both.0 both.1.acts both.1.index_is
 
     served_on : (frame : FrameId) (index word : ℕ) (old addend : ℤ) (rest : List Item) (posts : List Msg)
-        → IsOwed (node_at cluster node) past (item.Served frame index word old addend) ⊎ (IsFree past × MayDo (node_at cluster node) past (item.Served frame index word old addend) rest posts)
+        → IsOwed (node_at cluster node) past (item.Served frame index word old addend)
+            ⊎ (IsFree past × MayDo (node_at cluster node) past (item.Served frame index word old addend) rest posts)
         → Made frame index
     served_on frame index word old addend rest posts (inl serves) = serving frame index word old addend serves
     served_on frame index word old addend rest posts (inr both) = acting frame both.1.add.life index both.0 both.1.add.acts both.1.add.index_is
@@ -153,32 +158,39 @@ renamed : (cluster : Cluster) (course : Course) (stepped : Stepped cluster cours
 renamed cluster course stepped other frame number index names numbers made =
     subst (Made cluster course stepped frame) numbers (subst (λ it. Made cluster course stepped it number) names made)
 
-claim_on : (cluster : Cluster) (course : Course) (moved : Moved) → (stepped : Stepped cluster course) → Step cluster course moved → (done : Item) (frame : FrameId) (index : ℕ)
+claim_on : (cluster : Cluster) (course : Course) (moved : Moved) → (stepped : Stepped cluster course) → Step cluster course moved
+    → (done : Item) (frame : FrameId) (index : ℕ)
     → IsAllowed (node_at cluster moved.node) (own moved.node course) (Did done) → Claims frame index done → Made cluster course stepped frame index
 claim_on cluster course moved stepped step (item.Act other number act) frame index does claims =
-    renamed cluster course stepped other frame number index claims.0 claims.1 (act_on cluster course stepped moved step other number act does.rest does.posts does.may)
+    renamed cluster course stepped other frame number index claims.0 claims.1
+        (act_on cluster course stepped moved step other number act does.rest does.posts does.may)
 claim_on cluster course moved stepped step (item.Tick other) frame index does claims = absurd claims
 claim_on cluster course moved stepped step (item.Drop page) frame index does claims = absurd claims
 claim_on cluster course moved stepped step (item.TakeUp other) frame index does claims = absurd claims
 claim_on cluster course moved stepped step (item.OwnFetch page words) frame index does claims = absurd claims
 claim_on cluster course moved stepped step (item.OwnReconcile part) frame index does claims = absurd claims
 claim_on cluster course moved stepped step (item.Served other number word old addend) frame index does claims =
-    renamed cluster course stepped other frame number index claims.0 claims.1 (served_on cluster course stepped moved step other number word old addend does.rest does.posts does.may)
+    renamed cluster course stepped other frame number index claims.0 claims.1
+        (served_on cluster course stepped moved step other number word old addend does.rest does.posts does.may)
 
-claim : (cluster : Cluster) (course : Course) (moved : Moved) → (stepped : Stepped cluster (moved ∷ course)) → (done : Item) → moved.event ≡ Did done → (frame : FrameId) (index : ℕ)
+claim : (cluster : Cluster) (course : Course) (moved : Moved) → (stepped : Stepped cluster (moved ∷ course)) → (done : Item) → moved.event ≡ Did done
+    → (frame : FrameId) (index : ℕ)
     → Claims frame index done
     → Made cluster course stepped.0 frame index
 claim cluster course moved stepped done is frame index claims =
-    claim_on cluster course moved stepped.0 stepped.1 done frame index (subst (IsAllowed (node_at cluster moved.node) (own moved.node course)) is stepped.1.allowed) claims
+    claim_on cluster course moved stepped.0 stepped.1 done frame index
+        (subst (IsAllowed (node_at cluster moved.node) (own moved.node course)) is stepped.1.allowed) claims
 
 -- The index of an act is the number of acts that its frame made before.
-pub index_is_count : (cluster : Cluster) (course : Course) (moved : Moved) → Stepped cluster (moved ∷ course) → (done : Item) → moved.event ≡ Did done → (frame : FrameId) (index : ℕ)
+pub index_is_count : (cluster : Cluster) (course : Course) (moved : Moved) → Stepped cluster (moved ∷ course) → (done : Item) → moved.event ≡ Did done
+    → (frame : FrameId) (index : ℕ)
     → Claims frame index done
     → index ≡ acts_before frame course
 index_is_count cluster course moved stepped done is frame index claims = (claim cluster course moved stepped done is frame index claims).0
 
 -- Its frame is somewhere as it is made.
-pub claims_held : (cluster : Cluster) (course : Course) (moved : Moved) → Stepped cluster (moved ∷ course) → (done : Item) → moved.event ≡ Did done → (frame : FrameId) (index : ℕ)
+pub claims_held : (cluster : Cluster) (course : Course) (moved : Moved) → Stepped cluster (moved ∷ course) → (done : Item) → moved.event ≡ Did done
+    → (frame : FrameId) (index : ℕ)
     → Claims frame index done
     → 1 ≤ held cluster course frame
 claims_held cluster course moved stepped done is frame index claims = (claim cluster course moved stepped done is frame index claims).1

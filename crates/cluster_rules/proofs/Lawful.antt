@@ -15,16 +15,19 @@ use Rattle.cluster_rules.specs.Allowed.{IsAllowed, AllAllowed}
 
 -- ---- each event is allowed
 
-items_allowed : (node : Node) (posts : List Msg) (past : Past) (items : List Item) → MayDoAll node posts past items → AllAllowed node past → AllAllowed node (did items past)
+items_allowed : (node : Node) (posts : List Msg) (past : Past) (items : List Item) → MayDoAll node posts past items → AllAllowed node past
+    → AllAllowed node (did items past)
 items_allowed node posts past [] may all = all
-items_allowed node posts past (item ∷ items) may all = items_allowed node posts (Did item ∷ past) items may.1 (record { rest = items; posts = posts; may = may.0 }, all)
+items_allowed node posts past (item ∷ items) may all =
+    items_allowed node posts (Did item ∷ past) items may.1 (record { rest = items; posts = posts; may = may.0 }, all)
 
 posts_allowed : (node : Node) (past : Past) (messages : List Msg) → MaySendAll node past messages → AllAllowed node past → AllAllowed node (sent messages past)
 posts_allowed node past [] may all = all
 posts_allowed node past (message ∷ messages) may all = posts_allowed node (Sent message ∷ past) messages may.1 (may.0, all)
 
 moves_allowed : (node : Node) (past : Past) (deeds : Deeds) → Moves node past deeds → AllAllowed node past → AllAllowed node (behind deeds past)
-moves_allowed node past deeds moves all = posts_allowed node (did deeds.items past) deeds.posts moves.posts (items_allowed node deeds.posts past deeds.items moves.items all)
+moves_allowed node past deeds moves all =
+    posts_allowed node (did deeds.items past) deeds.posts moves.posts (items_allowed node deeds.posts past deeds.items moves.items all)
 
 step_allowed : (node : Node) (past : Past) (deeds : Deeds) → IsStep node past deeds → AllAllowed node past → AllAllowed node (behind deeds past)
 step_allowed node past deeds step all = elim step [
@@ -36,7 +39,8 @@ step_allowed node past deeds step all = elim step [
 abbrev pub IsFor : ℕ → Option Msg → Type 0
 IsFor receiver message = (taken : Msg) → message ≡ Some taken → taken.receiver ≡ receiver
 
-take_allowed : (node : Node) (past : Past) (end : Option NodeEnd) (message : Option Msg) → IsFor node.me message → MayTake node past end message → AllAllowed node past
+take_allowed : (node : Node) (past : Past) (end : Option NodeEnd) (message : Option Msg) → IsFor node.me message → MayTake node past end message
+    → AllAllowed node past
     → AllAllowed node (took message past)
 take_allowed node past end None for may all = all
 take_allowed node past end (Some taken) for may all = ((for taken refl, may.1), all)
@@ -52,19 +56,22 @@ step_ends node past deeds step = elim step [
 ]
 
 -- a turn with an end takes nothing
-rest_allowed : (node : Node) (past : Past) (end : Option NodeEnd) (message : Option Msg) → IsFor node.me message → MayTake node past end message → MayEndSo node past end
+rest_allowed : (node : Node) (past : Past) (end : Option NodeEnd) (message : Option Msg) → IsFor node.me message → MayTake node past end message
+    → MayEndSo node past end
     → AllAllowed node past → AllAllowed node (ended end (took message past))
 rest_allowed node past end None for may ends all = end_allowed node past end ends all
 rest_allowed node past None (Some taken) for may ends all = take_allowed node past None (Some taken) for may all
 rest_allowed node past (Some end) (Some taken) for may ends all = let none : Some end ≡ None = may.0 in absurd (cc)
 
-turn_allowed : (node : Node) (past : Past) (turn : WholeTurn) (message : Option Msg) → IsFor node.me message → Allows node past (deeds_of turn) message → AllAllowed node past
+turn_allowed : (node : Node) (past : Past) (turn : WholeTurn) (message : Option Msg) → IsFor node.me message → Allows node past (deeds_of turn) message
+    → AllAllowed node past
     → AllAllowed node (after_turn turn message past)
 turn_allowed node past turn message for allows all =
     rest_allowed node (behind (deeds_of turn) past) turn.end message for allows.takes (step_ends node past (deeds_of turn) allows.step)
     (step_allowed node past (deeds_of turn) allows.step all)
 
-delivered_for : (older : List WholeTurn) (receiver : ℕ) (place : Option PostAt) (message : Option Msg) → IsDelivered older receiver place message → IsFor receiver message
+delivered_for : (older : List WholeTurn) (receiver : ℕ) (place : Option PostAt) (message : Option Msg) → IsDelivered older receiver place message
+    → IsFor receiver message
 delivered_for older receiver None message delivered taken is = let none : Some taken ≡ None = sym is ∙ delivered in absurd (cc)
 delivered_for older receiver (Some place) message delivered taken is =
     let same : Some delivered.0 ≡ Some taken = sym delivered.1 ∙ is in
@@ -84,7 +91,8 @@ past_on cluster number other true turn older test allows for all =
     all
 
 -- Each event of each node is allowed by what the node did and took before.
-pub lawful_past : (cluster : Cluster) (turns : List WholeTurn) (number : ℕ) → IsLawful cluster turns → AllAllowed (node_at cluster number) (past_of number turns)
+pub lawful_past : (cluster : Cluster) (turns : List WholeTurn) (number : ℕ) → IsLawful cluster turns
+    → AllAllowed (node_at cluster number) (past_of number turns)
 unfolding past_of
 lawful_past cluster [] number lawful = tt
 lawful_past cluster (turn ∷ older) number lawful =
@@ -155,7 +163,8 @@ parted (first ∷ log) more [] is = absurd (cc)
 parted (first ∷ log) more (turn ∷ turns) is =
     let one = first_is first (logged turn) (log ++ more) (map logged turns) is in
     let rest = parted log more turns (rest_is first (logged turn) (log ++ more) (map logged turns) is) in
-    record { front = turn ∷ rest.front; back = rest.back; parts = ap (λ xs. turn ∷ xs) rest.parts; log_is = ap (λ it. it ∷ log) one ∙ ap (λ xs. logged turn ∷ xs) rest.log_is }
+    record { front = turn ∷ rest.front; back =
+        rest.back; parts = ap (λ xs. turn ∷ xs) rest.parts; log_is = ap (λ it. it ∷ log) one ∙ ap (λ xs. logged turn ∷ xs) rest.log_is }
 
 -- A run that is cut after a turn is a run.
 pub cut_run : (cluster : Cluster) (log more : List Turn) → IsRun cluster (log ++ more) → IsRun cluster log

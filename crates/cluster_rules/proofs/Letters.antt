@@ -73,7 +73,8 @@ holds_amount amount place message (letter ∷ letters) (inr both) =
     rw both.0 (let first = before in omega (arith, first))
 
 -- letters of another place
-holds_without_on : (place other : PostAt) (message : Msg) (letter : Letter) (letters : List Letter) (b : Bool) → same_place letter.place other ≡ b → same_place place other ≡ false
+holds_without_on : (place other : PostAt) (message : Msg) (letter : Letter) (letters : List Letter) (b : Bool) → same_place letter.place other ≡ b
+    → same_place place other ≡ false
     → Holds place message (letter ∷ letters) → (Holds place message letters → Holds place message (without_letter other letters))
     → Holds place message (cond b letters (letter ∷ without_letter other letters))
 holds_without_on place other message letter letters true is apart (inl both) rest =
@@ -82,7 +83,8 @@ holds_without_on place other message letter letters true is apart (inr both) res
 holds_without_on place other message letter letters false is apart (inl both) rest = inl both
 holds_without_on place other message letter letters false is apart (inr both) rest = inr (both.0, rest both.1)
 
-holds_without : (place other : PostAt) (message : Msg) (letters : List Letter) → same_place place other ≡ false → Holds place message letters → Holds place message (without_letter other letters)
+holds_without : (place other : PostAt) (message : Msg) (letters : List Letter) → same_place place other ≡ false → Holds place message letters
+    → Holds place message (without_letter other letters)
 holds_without place other message [] apart holds = absurd holds
 holds_without place other message (letter ∷ letters) apart holds =
     holds_without_on place other message letter letters (same_place letter.place other) refl apart holds (holds_without place other message letters apart)
@@ -99,7 +101,8 @@ posted_any (moved ∷ course) place message (inr was) = on (posts_place place mo
     on true any = refl
     on false any = any
 
-apart_on : (place other : PostAt) (course : Course) (message : Msg) (b : Bool) → same_place other place ≡ b → WasPosted course place message → list_any (posts_place other) course ≡ false → b ≡ false
+apart_on : (place other : PostAt) (course : Course) (message : Msg) (b : Bool) → same_place other place ≡ b → WasPosted course place message
+    → list_any (posts_place other) course ≡ false → b ≡ false
 apart_on place other course message false is was fresh = refl
 apart_on place other course message true is was fresh =
     let same = same_is other place is in
@@ -112,10 +115,12 @@ same_turned place other b is apart = on (same_place place other) refl
   where
     on : (c : Bool) → same_place place other ≡ c → c ≡ false
     on false turned = refl
-    on true turned = let one : same_place other place ≡ true = subst (λ it. same_place it place ≡ true) (same_is place other turned) (same_here place) in absurd (cc)
+    on true turned =
+        let one : same_place other place ≡ true = subst (λ it. same_place it place ≡ true) (same_is place other turned) (same_here place) in absurd (cc)
 
 module _ (cluster : Cluster) where
-  letters_hold_on : (first : Moved) (course : Course) (place : PostAt) (message : Msg) (event : Event) → first.event ≡ event → Carries course first.node first.message event
+  letters_hold_on : (first : Moved) (course : Course) (place : PostAt) (message : Msg) (event : Event) → first.event ≡ event
+      → Carries course first.node first.message event
       → IsPost place message first ⊎ WasPosted course place message → takes_place place first ≡ false
       → (WasPosted course place message → Holds place message (letters_of course)) → Holds place message (letters_on event first.message (letters_of course))
   letters_hold_on first course place message (Did item) is carries (inl post) not rest = let other : Did item ≡ Sent message = sym is ∙ post.0 in absurd (cc)
@@ -136,14 +141,18 @@ module _ (cluster : Cluster) where
       (holds_without place carries.place message (letters_of course) (same_turned place carries.place false apart apart) (rest was))
     where
       took : (said : Msg) → first.event ≡ Took said → takes_place place first ≡ false → takes_at place first.message ≡ false
-      took said is not = subst (λ event. takes_at place first.message ≡ false) is (let taken : takes_place place first ≡ takes_at place first.message = rw is refl in sym taken ∙ not)
+      took said is not =
+          subst (λ event. takes_at place first.message ≡ false) is
+              (let taken : takes_place place first ≡ takes_at place first.message = rw is refl in sym taken ∙ not)
 
-  pub letters_hold : (course : Course) → Stepped cluster course → (place : PostAt) (message : Msg) → WasPosted course place message → list_any (takes_place place) course ≡ false
+  pub letters_hold : (course : Course) → Stepped cluster course → (place : PostAt) (message : Msg) → WasPosted course place message
+      → list_any (takes_place place) course ≡ false
       → Holds place message (letters_of course)
   letters_hold [] stepped place message was none = absurd was
   letters_hold (first ∷ course) stepped place message was none =
       let both = neither (takes_place place first) (list_any (takes_place place) course) none in
-      letters_hold_on first course place message first.event refl stepped.1.carries was both.0 (λ before. letters_hold course stepped.0 place message before both.1)
+      letters_hold_on first course place message first.event refl stepped.1.carries was both.0
+          (λ before. letters_hold course stepped.0 place message before both.1)
 
   -- A posted message is one letter more.
   pub letter_sent : (amount : Msg → ℕ) (course : Course) (node : ℕ) (here : Option PostAt) (message : Msg) → Posts course node here message
@@ -151,7 +160,8 @@ module _ (cluster : Cluster) where
   letter_sent amount course node here message posts = rw (posts.place_is) refl
 
   -- A taken one is one letter less.
-  pub letter_taken : (amount : Msg → ℕ) (course : Course) (node : ℕ) (here : Option PostAt) (message : Msg) → Stepped cluster course → Takes course node here message
+  pub letter_taken : (amount : Msg → ℕ) (course : Course) (node : ℕ) (here : Option PostAt) (message : Msg) → Stepped cluster course
+      → Takes course node here message
       → amount_of amount (letters_of course) ≡ amount message + amount_of amount (without_some here (letters_of course))
   letter_taken amount course node here message stepped takes =
       subst (λ it. amount_of amount (letters_of course) ≡ amount message + amount_of amount (without_some it (letters_of course))) (sym takes.place_is)

@@ -29,4 +29,3 @@ pub mod Claiming
 pub mod Indexing
 pub mod Claimed
 pub mod Places
-pub mod Posting

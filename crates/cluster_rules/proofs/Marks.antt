@@ -56,9 +56,6 @@ Within after before = (such : Mark → Bool) → many such after ≤ many such b
 pub within_same : (marks : List Mark) → Within marks marks
 within_same marks = λ such. omega arith
 
-pub within_equal : (after before : List Mark) → after ≡ before → Within after before
-within_equal after before is = subst (λ it. Within it before) (sym is) (within_same before)
-
 pub within_both : (first second third : List Mark) → Within first second → Within second third → Within first third
 within_both first second third one_within other_within = λ such. let a = one_within such in let b = other_within such in omega (arith, a, b)
 
@@ -103,11 +100,13 @@ pub parked_append : (front back : List Parked) → parked_marks (front ++ back) 
 parked_append [] back = refl
 parked_append (first ∷ front) back = ap (λ it. record { id = first.closure.id; acts = first.closure.acts } ∷ it) (parked_append front back)
 
-live_on : (deposits : List Deposit) (life : Life) (below : List Life) (value : Option ℤ) → ((given : List Deposit) → Within (marks (live_from given below)) (marks below))
+live_on : (deposits : List Deposit) (life : Life) (below : List Life) (value : Option ℤ)
+    → ((given : List Deposit) → Within (marks (live_from given below)) (marks below))
     → Within (marks (elim value [ None ↦ with_kept deposits life ∷ below | Some it ↦ live_from ((life.spawned.target, it) ∷ []) below ])) (marks (life ∷ below))
 live_on deposits life below None before = within_same (marks (life ∷ below))
 live_on deposits life below (Some it) before =
-    within_both (marks (live_from ((life.spawned.target, it) ∷ []) below)) (marks below) (marks (life ∷ below)) (before ((life.spawned.target, it) ∷ [])) (within_skip (mark_of life) (marks below))
+    within_both (marks (live_from ((life.spawned.target, it) ∷ []) below)) (marks below) (marks (life ∷ below)) (before ((life.spawned.target, it) ∷ []))
+        (within_skip (mark_of life) (marks below))
 
 live_from_within : (deposits : List Deposit) (stack : List Life) → Within (marks (live_from deposits stack)) (marks stack)
 live_from_within deposits [] = within_same []
@@ -122,15 +121,18 @@ joined_on : (node : Node) (past : Past) (first : Parked) (parked : List Parked) 
     → Within (marks (all_joined node past parked) ++ parked_marks (still_parked past parked)) (parked_marks parked)
     → Within (marks (all_joined node past (first ∷ parked)) ++ parked_marks (still_parked past (first ∷ parked))) (parked_marks (first ∷ parked))
 joined_on node past first parked true is before =
-    rw is (within_cons (record { id = first.closure.id; acts = first.closure.acts }) (marks (all_joined node past parked) ++ parked_marks (still_parked past parked)) (parked_marks parked) before)
+    rw is (within_cons (record { id = first.closure.id; acts = first.closure.acts })
+        (marks (all_joined node past parked) ++ parked_marks (still_parked past parked)) (parked_marks parked) before)
 joined_on node past first parked false is before =
     let mark : Mark = record { id = first.closure.id; acts = first.closure.acts } in
     rw is
-    (within_both (marks (all_joined node past parked) ++ mark ∷ parked_marks (still_parked past parked)) (mark ∷ (marks (all_joined node past parked) ++ parked_marks (still_parked past parked)))
+    (within_both (marks (all_joined node past parked) ++ mark ∷ parked_marks (still_parked past parked))
+        (mark ∷ (marks (all_joined node past parked) ++ parked_marks (still_parked past parked)))
     (mark ∷ parked_marks parked) (within_insert mark (marks (all_joined node past parked)) (parked_marks (still_parked past parked)))
     (within_cons mark (marks (all_joined node past parked) ++ parked_marks (still_parked past parked)) (parked_marks parked) before))
 
-joined_within : (node : Node) (past : Past) (parked : List Parked) → Within (marks (all_joined node past parked) ++ parked_marks (still_parked past parked)) (parked_marks parked)
+joined_within : (node : Node) (past : Past) (parked : List Parked)
+    → Within (marks (all_joined node past parked) ++ parked_marks (still_parked past parked)) (parked_marks parked)
 joined_within node past [] = within_same []
 joined_within node past (first ∷ parked) = joined_on node past first parked (is_complete past first) refl (joined_within node past parked)
 
@@ -143,11 +145,13 @@ with_joined_within node past frames =
     ap (λ it. it ++ still) (marks_append frames.ready (all_joined node past frames.parked)) ∙ append_assoc (marks frames.ready) joined still in
     within_append (marks frames.stack) (marks frames.stack) (other_marks (with_joined node past frames)) (other_marks frames) (within_same (marks frames.stack))
     (subst (λ it. Within it (other_marks frames)) (sym regrouped)
-    (within_append (marks frames.ready) (marks frames.ready) (joined ++ still) (parked_marks frames.parked) (within_same (marks frames.ready)) (joined_within node past frames.parked)))
+    (within_append (marks frames.ready) (marks frames.ready) (joined ++ still) (parked_marks frames.parked) (within_same (marks frames.ready))
+        (joined_within node past frames.parked)))
 
 -- ---- Grants
 
-not_empty : (above : List Life) (child parent : Life) (rest : List Life) → rest ≡ above ++ (child ∷ (parent ∷ [])) → (second third : Life) × (below : List Life) × (rest ≡ second ∷ (third ∷ below))
+not_empty : (above : List Life) (child parent : Life) (rest : List Life) → rest ≡ above ++ (child ∷ (parent ∷ []))
+    → (second third : Life) × (below : List Life) × (rest ≡ second ∷ (third ∷ below))
 not_empty [] child parent rest is = (child, parent, [], is)
 not_empty (first ∷ []) child parent rest is = (first, child, parent ∷ [], is)
 not_empty (first ∷ (second ∷ above)) child parent rest is = (first, second, above ++ (child ∷ (parent ∷ [])), is)
@@ -177,10 +181,12 @@ AddsFirst frame acts (life ∷ below) = (life.id ≡ frame) × (life.acts ≡ ac
 
 live_first_on : (life : Life) (below : List Life) (value : Option ℤ) → value ≡ None
     → elim value [ None ↦ with_kept [] life ∷ below | Some it ↦ live_from ((life.spawned.target, it) ∷ []) below ] ≡ with_kept [] life ∷ below
-live_first_on life below value is = ap (λ value. elim value [ None ↦ with_kept [] life ∷ below | Some it ↦ live_from ((life.spawned.target, it) ∷ []) below ]) is
+live_first_on life below value is =
+    ap (λ value. elim value [ None ↦ with_kept [] life ∷ below | Some it ↦ live_from ((life.spawned.target, it) ∷ []) below ]) is
 
 -- it has not returned
-pub live_first : (frame : FrameId) (acts : ℕ) (stack : List Life) → AddsFirst frame acts stack → (life : Life) × (below : List Life) × (live stack ≡ life ∷ below) × WantsAdd life
+pub live_first : (frame : FrameId) (acts : ℕ) (stack : List Life) → AddsFirst frame acts stack
+    → (life : Life) × (below : List Life) × (live stack ≡ life ∷ below) × WantsAdd life
 live_first frame acts [] first = absurd first
 live_first frame acts (life ∷ below) first = (with_kept [] life, below, live_first_on life below (returned life) (rw first.2.2 refl), first.2)
 
@@ -188,7 +194,8 @@ pub first_is : (lives : List Life) (life : Life) → first_of lives ≡ Some lif
 first_is [] life is = absurd (cc)
 first_is (first ∷ below) life is = let one : first ≡ life = cc in (below, ap (λ it. it ∷ below) one)
 
-pub kept_first : (frame : FrameId) (acts : ℕ) (join : Option JoinId) (above : List Life) (child parent : Life) → AddsFirst frame acts (above ++ (child ∷ (parent ∷ [])))
+pub kept_first : (frame : FrameId) (acts : ℕ) (join : Option JoinId) (above : List Life) (child parent : Life)
+    → AddsFirst frame acts (above ++ (child ∷ (parent ∷ [])))
     → AddsFirst frame acts (above ++ (record child { link = link_to join } ∷ []))
 kept_first frame acts join [] child parent first = first
 kept_first frame acts join (life ∷ above) child parent first = first

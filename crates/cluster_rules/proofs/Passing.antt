@@ -149,7 +149,8 @@ ticked stack = within_changes (marks stack) (marks (with_first (answered DoneAns
     (subst (λ it. Within it (marks stack)) (sym (first_answered (live stack))) (live_within stack))
 
 acted_marks : (such : Mark → Bool) (node : Node) (done : LoggedAct) (life : Life) (below : List Life)
-    → many such (marks (after_act node done (life ∷ below))) ≡ many such (born_act done) + (one (such (record { id = life.id; acts = suc life.acts })) + many such (marks below))
+    → many such (marks (after_act node done (life ∷ below)))
+        ≡ many such (born_act done) + (one (such (record { id = life.id; acts = suc life.acts })) + many such (marks below))
 acted_marks such node (act.Read word value) life below = omega arith
 acted_marks such node (act.Write word value) life below = omega arith
 acted_marks such node (act.Print value) life below = omega arith
@@ -168,14 +169,17 @@ module _ (node : Node) (past : Past) (frame : FrameId) (life : Life) (acts : Act
   pub is_among : (such : Mark → Bool) → one (such (record { id = frame; acts = index })) ≤ many such (marks (stack_of node past))
   is_among such =
       let among = live_within (stack_of node past) such in
-      let first : many such (marks (live (stack_of node past))) ≡ one (such (mark_of life)) + many such (marks first_live.0) = ap (λ it. many such (marks it)) first_live.1 in
+      let first : many such (marks (live (stack_of node past))) ≡ one (such (mark_of life)) + many such (marks first_live.0) =
+          ap (λ it. many such (marks it)) first_live.1 in
       let same : one (such (record { id = frame; acts = index })) ≡ one (such (mark_of life)) = ap (λ it. one (such it)) its_mark in
       omega (arith, among, first, same)
 
-  act_changes : (done : LoggedAct) → Changes (marks (stack_of node past)) (marks (after_act node done (live (stack_of node past)))) [] [] (record { id = frame; acts = index } ∷ []) (born_act done)
+  act_changes : (done : LoggedAct) → Changes (marks (stack_of node past)) (marks (after_act node done (live (stack_of node past)))) [] []
+      (record { id = frame; acts = index } ∷ []) (born_act done)
   act_changes done = λ such.
       let among = live_within (stack_of node past) such in
-      let first : many such (marks (live (stack_of node past))) ≡ one (such (mark_of life)) + many such (marks first_live.0) = ap (λ it. many such (marks it)) first_live.1 in
+      let first : many such (marks (live (stack_of node past))) ≡ one (such (mark_of life)) + many such (marks first_live.0) =
+          ap (λ it. many such (marks it)) first_live.1 in
       let after : many such (marks (after_act node done (live (stack_of node past))))
       ≡ many such (born_act done) + (one (such (record { id = life.id; acts = suc life.acts })) + many such (marks first_live.0)) =
       ap (λ it. many such (marks (after_act node done it))) first_live.1 ∙ acted_marks such node done life first_live.0 in
@@ -184,18 +188,22 @@ module _ (node : Node) (past : Past) (frame : FrameId) (life : Life) (acts : Act
       ap (λ (it : Mark). one (such (record { id = it.id; acts = suc it.acts }))) its_mark in
       omega (arith, among, first, after, same, rises)
 
-  add_changes : (old : ℤ) → Changes (marks (stack_of node past)) (marks (added old (live (stack_of node past)))) [] [] (record { id = frame; acts = index } ∷ []) []
+  add_changes : (old : ℤ) → Changes (marks (stack_of node past)) (marks (added old (live (stack_of node past)))) [] []
+      (record { id = frame; acts = index } ∷ []) []
   add_changes old = λ such.
       let among = live_within (stack_of node past) such in
-      let first : many such (marks (live (stack_of node past))) ≡ one (such (mark_of life)) + many such (marks first_live.0) = ap (λ it. many such (marks it)) first_live.1 in
-      let after : many such (marks (added old (live (stack_of node past)))) ≡ one (such (record { id = life.id; acts = suc life.acts })) + many such (marks first_live.0) =
+      let first : many such (marks (live (stack_of node past))) ≡ one (such (mark_of life)) + many such (marks first_live.0) =
+          ap (λ it. many such (marks it)) first_live.1 in
+      let after : many such (marks (added old (live (stack_of node past)))) ≡ one (such (record { id = life.id; acts = suc life.acts })) + many such
+          (marks first_live.0) =
       ap (λ it. many such (marks (added old it))) first_live.1 in
       let same : one (such (record { id = frame; acts = index })) ≡ one (such (mark_of life)) = ap (λ it. one (such it)) its_mark in
       let rises : one (such (record { id = frame; acts = suc index })) ≡ one (such (record { id = life.id; acts = suc life.acts })) =
       ap (λ (it : Mark). one (such (record { id = it.id; acts = suc it.acts }))) its_mark in
       omega (arith, among, first, after, same, rises)
 
-taken_up_changes : (stack ready : List Life) (parked : List Parked) → stack ≡ [] → Same (record { stack = stack; ready = ready; parked = parked }) (taken_up stack ready parked)
+taken_up_changes : (stack ready : List Life) (parked : List Parked) → stack ≡ []
+    → Same (record { stack = stack; ready = ready; parked = parked }) (taken_up stack ready parked)
 taken_up_changes [] [] parked idle = λ such. omega arith
 taken_up_changes [] (life ∷ ready) parked idle = λ such. omega arith
 taken_up_changes (top ∷ below) ready parked idle = absurd (cc)
@@ -203,7 +211,8 @@ taken_up_changes (top ∷ below) ready parked idle = absurd (cc)
 -- ---- posts
 
 -- what is no reply may be posted
-pub may_post : (node : Node) (past : Past) (message : Msg) → MaySend node past message → (replies_in message.body ≡ true) ⊎ MayPost node past message.receiver message.body
+pub may_post : (node : Node) (past : Past) (message : Msg) → MaySend node past message
+    → (replies_in message.body ≡ true) ⊎ MayPost node past message.receiver message.body
 may_post node past message (inl due) = inl ((subst (AreReplies node.me) due.1 (owed_replies node past)).1)
 may_post node past message (inr sends) = inr sends.may
 
@@ -212,11 +221,13 @@ grant_changes : (node : Node) (past : Past) (receiver : ℕ) (closure : Closure)
 grant_changes node past receiver closure may = λ such.
     let left = may.above ++ (record may.child { link = link_to closure.join } ∷ []) in
     let after : many such (marks (without_bottom closure.join (stack_of node past))) ≡ many such (marks left) =
-    ap (λ it. many such (marks (without_bottom closure.join it))) may.stack ∙ ap (λ it. many such (marks it)) (bottom_gone closure.join may.above may.child may.parent) in
+    ap (λ it. many such (marks (without_bottom closure.join it))) may.stack
+        ∙ ap (λ it. many such (marks it)) (bottom_gone closure.join may.above may.child may.parent) in
     let before : many such (marks (stack_of node past)) ≡ many such (marks left ++ mark_of may.parent ∷ []) =
     ap (λ it. many such (marks it)) may.stack ∙ ap (many such) (bottom_marks closure.join may.above may.child may.parent) in
     let parts = many_append such (marks left) (mark_of may.parent ∷ []) in
-    let mark : one (such (closure_mark closure)) ≡ one (such (mark_of may.parent)) = ap (λ it. one (such it)) (λ i. record { id = may.state.id i; acts = may.state.acts i }) in
+    let mark : one (such (closure_mark closure)) ≡ one (such (mark_of may.parent)) =
+        ap (λ it. one (such it)) (λ i. record { id = may.state.id i; acts = may.state.acts i }) in
     omega (arith, after, before, parts, mark)
 
 park_changes : (node : Node) (past : Past) (receiver : ℕ) (join : JoinId) (closure : Closure) → MayPark node past receiver join closure
@@ -224,7 +235,8 @@ park_changes : (node : Node) (past : Past) (receiver : ℕ) (join : JoinId) (clo
 park_changes node past receiver join closure may = λ such.
     let among = live_within (stack_of node past) such in
     let first : many such (marks (live (stack_of node past))) ≡ one (such (mark_of may.life)) + 0 = ap (λ it. many such (marks it)) may.at_join.alone in
-    let mark : one (such (closure_mark closure)) ≡ one (such (mark_of may.life)) = ap (λ it. one (such it)) (λ i. record { id = may.state.id i; acts = may.state.acts i }) in
+    let mark : one (such (closure_mark closure)) ≡ one (such (mark_of may.life)) =
+        ap (λ it. one (such it)) (λ i. record { id = may.state.id i; acts = may.state.acts i }) in
     omega (arith, among, first, mark)
 
 sent_changes : (node : Node) (past : Past) (receiver : ℕ) (said : Body) → (replies_in said ≡ true) ⊎ MayPost node past receiver said
@@ -262,7 +274,8 @@ granted_changes node closure frames = λ such.
     omega (arith, ready, a, b, c, d, e)
 
 parked_changes : (node : Node) (past : Past) (join : JoinId) (closure : Closure) (frames : Frames)
-    → Changes (marks_of frames) (marks_of (with_joined node past (record frames { parked = frames.parked ++ record { join = join; closure = closure } ∷ [] }))) [] (closure_mark closure ∷ []) [] []
+    → Changes (marks_of frames) (marks_of (with_joined node past (record frames { parked = frames.parked ++ record { join = join; closure = closure } ∷ [] })))
+        [] (closure_mark closure ∷ []) [] []
 parked_changes node past join closure frames = λ such.
     let one_more : Frames = record frames { parked = frames.parked ++ record { join = join; closure = closure } ∷ [] } in
     let joined = with_joined_within node past one_more such in
@@ -284,10 +297,12 @@ took_changes node body.Ack past frames = λ such. omega arith
 took_changes node body.Ask past frames = λ such. omega arith
 took_changes node (body.Grant closure) past frames = granted_changes node closure frames
 took_changes node body.Refuse past frames = λ such. omega arith
-took_changes node (body.Done join index value) past frames = within_changes (marks_of frames) (marks_of (with_joined node past frames)) (with_joined_within node past frames)
+took_changes node (body.Done join index value) past frames =
+    within_changes (marks_of frames) (marks_of (with_joined node past frames)) (with_joined_within node past frames)
 took_changes node (body.Park join closure) past frames = parked_changes node past join closure frames
 took_changes node (body.Add frame index word addend) past frames = λ such. omega arith
-took_changes node (body.Added old) past frames = stack_changes frames (added old frames.stack) [] [] (first_marks frames.stack) [] (added_changes old frames.stack)
+took_changes node (body.Added old) past frames =
+    stack_changes frames (added old frames.stack) [] [] (first_marks frames.stack) [] (added_changes old frames.stack)
 
 -- ---- each event
 
@@ -298,7 +313,8 @@ module _ (node : Node) (past : Past) where
   abbrev ItemChanges : Item → Type 0
   ItemChanges done = Changes (marks_of frames) (marks_of (frames_item node done past frames)) [] [] (advanced_item done past) (born_item done)
 
-  item_changes : (done : Item) (rest : List Item) (posts : List Msg) → IsOwed node past done ⊎ (IsFree past × MayDo node past done rest posts) → ItemChanges done
+  item_changes : (done : Item) (rest : List Item) (posts : List Msg) → IsOwed node past done ⊎ (IsFree past × MayDo node past done rest posts)
+      → ItemChanges done
   item_changes (item.Act frame index act) rest posts (inl owed) = absurd owed
   item_changes (item.Act frame index act) rest posts (inr both) =
       let may = both.1 in
@@ -314,15 +330,18 @@ module _ (node : Node) (past : Past) where
   item_changes (item.Served frame index word old addend) rest posts (inr both) =
       let may = both.1.add in
       rw both.0.none_owed
-      (stack_changes frames (added old (live frames.stack)) [] [] (record { id = frame; acts = index } ∷ []) [] (add_changes node past frame may.life may.acts index may.index_is old))
+      (stack_changes frames (added old (live frames.stack)) [] [] (record { id = frame; acts = index } ∷ []) []
+          (add_changes node past frame may.life may.acts index may.index_is old))
 
   -- What an event makes of the marks of its node.
   pub passes : (event : Event) → IsAllowed node past event
-      → Changes (marks_of (frames_of node past)) (marks_of (frames_of node (event ∷ past))) (gone_by event) (come_by event) (advanced_by node past event) (born_by event)
+      → Changes (marks_of (frames_of node past)) (marks_of (frames_of node (event ∷ past))) (gone_by event) (come_by event) (advanced_by node past event)
+          (born_by event)
   unfolding frames_of
   passes (Did done) does = item_changes done does.rest does.posts does.may
   passes (Sent message) may =
-      stack_changes frames (stack_sent message.body frames.stack) (closure_marks message.body) [] [] [] (sent_changes node past message.receiver message.body (may_post node past message may))
+      stack_changes frames (stack_sent message.body frames.stack) (closure_marks message.body) [] [] []
+          (sent_changes node past message.receiver message.body (may_post node past message may))
   passes (Took message) may = took_changes node message.body (Took message ∷ past) frames
   passes (Ended end) may = λ such. omega arith
 
@@ -331,7 +350,8 @@ module _ (node : Node) (past : Past) where
   in_stack : (such : Mark → Bool) → many such (marks frames.stack) ≤ many such (marks_of frames)
   in_stack such = let a = many_append such (marks frames.stack) (other_marks frames) in omega (arith, a)
 
-  advanced_here : (done : Item) (rest : List Item) (posts : List Msg) → IsOwed node past done ⊎ (IsFree past × MayDo node past done rest posts) → Within (advanced_item done past) (marks_of frames)
+  advanced_here : (done : Item) (rest : List Item) (posts : List Msg) → IsOwed node past done ⊎ (IsFree past × MayDo node past done rest posts)
+      → Within (advanced_item done past) (marks_of frames)
   advanced_here (item.Act frame index act) rest posts (inl owed) = absurd owed
   advanced_here (item.Act frame index act) rest posts (inr both) = λ such.
       let among = is_among node past frame both.1.life both.1.acts index both.1.index_is such in let whole = in_stack such in omega (arith, among, whole)
@@ -343,7 +363,8 @@ module _ (node : Node) (past : Past) where
   advanced_here (item.Served frame index word old addend) rest posts (inl serves) = rw serves.oldest (λ such. omega arith)
   advanced_here (item.Served frame index word old addend) rest posts (inr both) =
       rw both.0.none_owed
-      (λ such. let among = is_among node past frame both.1.add.life both.1.add.acts index both.1.add.index_is such in let whole = in_stack such in omega (arith, among, whole))
+      (λ such. let among =
+          is_among node past frame both.1.add.life both.1.add.acts index both.1.add.index_is such in let whole = in_stack such in omega (arith, among, whole))
 
   first_within : (stack : List Life) → Within (first_marks stack) (marks stack)
   first_within [] = λ such. omega arith

@@ -1,5 +1,5 @@
 -- Where a node is with its add: it wants none, it has asked the home, or the home has done it and the node does not know yet.
-use Rattle.std.proofs.Common.{◌≡◌, ℕ, ℤ, List, [], ◌∷◌, Bool, true, false, cond, eqb, ◌&&◌, ◌||◌, refl, sym, subst}
+use Rattle.std.proofs.Common.{◌≡◌, ℕ, ℤ, List, [], ◌∷◌, Bool, true, false, cond, eqb, ◌&&◌, refl, sym, subst}
 use Rattle.page_messages.specs.declared.closure.FrameId.{FrameId}
 use Rattle.page_messages.specs.declared.message.Msg.{Msg}
 use Rattle.page_messages.specs.declared.message.Body.{Body}
@@ -7,7 +7,7 @@ use Rattle.page_messages.specs.declared.message.Body.TheVariants as body
 use Rattle.page_messages.specs.declared.log.Item.{Item}
 use Rattle.page_messages.specs.declared.log.Item.TheVariants as item
 use Rattle.cluster_rules.specs.Turns.{Event, Did, Sent, Took, Ended, Past}
-use Rattle.cluster_rules.specs.Sendings.{ForAdded, adds_in, tells_in, awaits}
+use Rattle.cluster_rules.specs.Sendings.{ForAdded, tells_in, awaits}
 use Rattle.cluster_rules.specs.Home.{owed_adds}
 use Rattle.cluster_rules.specs.Lives.{Life, same_frame}
 use Rattle.cluster_rules.specs.Positions.{Course, own}
@@ -106,19 +106,7 @@ idle_is (Told frame acts old) none = absurd (cc)
 pub first_idle : (phase : Phase) (stack : List Life) → phase ≡ Idle → IsFirst phase stack
 first_idle phase stack idle = subst (λ it. IsFirst it stack) (sym idle) tt
 
--- who is asked for is the one in the phase
-pub asked_is : (frame : FrameId) (index : ℕ) (phase : Phase) → is_asked frame index phase ≡ true → waits_in phase ≡ true
-asked_is frame index Idle is = absurd (cc)
-asked_is frame index (Asked other acts) is = refl
-asked_is frame index (Told other acts old) is = absurd (cc)
-
 -- ---- what a node waits for
-
-pub awaits_did : (done : Item) (past : Past) → awaits ForAdded (Did done ∷ past) ≡ awaits ForAdded past
-awaits_did done past = refl
-
-pub awaits_sent : (message : Msg) (past : Past) → awaits ForAdded (Sent message ∷ past) ≡ adds_in message.body || awaits ForAdded past
-awaits_sent message past = refl
 
 pub awaits_told : (message : Msg) (past : Past) → tells_in message.body ≡ true → awaits ForAdded (Took message ∷ past) ≡ false
 awaits_told message past tells = rw tells refl

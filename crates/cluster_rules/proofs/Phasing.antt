@@ -65,13 +65,16 @@ told_same old (Told frame acts other) is = (frame, acts, ap (Told frame acts) (s
 
 -- ---- the first frame stays
 
-pub first_granted : (node : Node) (past : Past) (receiver : ℕ) (closure : Closure) (phase : Phase) → MayGrant node past receiver closure → IsFirst phase (stack_of node past)
+pub first_granted : (node : Node) (past : Past) (receiver : ℕ) (closure : Closure) (phase : Phase) → MayGrant node past receiver closure
+    → IsFirst phase (stack_of node past)
     → IsFirst phase (without_bottom closure.join (stack_of node past))
 first_granted node past receiver closure phase may first =
-    let is : without_bottom closure.join (stack_of node past) ≡ without_bottom closure.join (may.above ++ (may.child ∷ (may.parent ∷ []))) = ap (without_bottom closure.join) may.stack in
+    let is : without_bottom closure.join (stack_of node past) ≡ without_bottom closure.join (may.above ++ (may.child ∷ (may.parent ∷ []))) =
+        ap (without_bottom closure.join) may.stack in
     subst (IsFirst phase) (sym (is ∙ bottom_gone closure.join may.above may.child may.parent)) (on phase (subst (IsFirst phase) may.stack first))
   where
-    on : (phase : Phase) → IsFirst phase (may.above ++ (may.child ∷ (may.parent ∷ []))) → IsFirst phase (may.above ++ (record may.child { link = link_to closure.join } ∷ []))
+    on : (phase : Phase) → IsFirst phase (may.above ++ (may.child ∷ (may.parent ∷ [])))
+        → IsFirst phase (may.above ++ (record may.child { link = link_to closure.join } ∷ []))
     on Idle first = tt
     on (Asked frame acts) first = kept_first frame acts closure.join may.above may.child may.parent first
     on (Told frame acts old) first = kept_first frame acts closure.join may.above may.child may.parent first
@@ -85,7 +88,8 @@ pub wants_no_sync : (life : Life) → WantsAdd life → Wants life want.Sync →
 wants_no_sync life adds sync =
     let is : Some (Asks (want.Add adds.0 adds.1)) ≡ Some (Asks want.Sync) = sym adds.2 ∙ sync in absurd (cc)
 
-pub parked_none : (frame : FrameId) (acts : ℕ) (stack : List Life) (life : Life) → AddsFirst frame acts stack → live stack ≡ life ∷ [] → Wants life want.Sync → ⊥
+pub parked_none : (frame : FrameId) (acts : ℕ) (stack : List Life) (life : Life) → AddsFirst frame acts stack → live stack ≡ life ∷ []
+    → Wants life want.Sync → ⊥
 parked_none frame acts stack life first alone sync =
     let top = live_first frame acts stack first in
     let is : top.0 ∷ top.1 ≡ life ∷ [] = sym top.2 ∙ alone in
@@ -111,18 +115,22 @@ module _ (cluster : Cluster) (course : Course) (node : ℕ) (here : Option PostA
   abbrev pub more : Event → Course
   more event = moved_by node event here ∷ course
 
-  pub awaits_more : (event : Event) → awaits ForAdded (event ∷ past) ≡ awaits ForAdded past → (number : ℕ) → awaits ForAdded (own number (more event)) ≡ awaits ForAdded (own number course)
+  pub awaits_more : (event : Event) → awaits ForAdded (event ∷ past) ≡ awaits ForAdded past → (number : ℕ)
+      → awaits ForAdded (own number (more event)) ≡ awaits ForAdded (own number course)
   awaits_more event same number = on (one_or_two number node)
     where
       on : (number ≡ node) ⊎ (number ≢ node) → awaits ForAdded (own number (more event)) ≡ awaits ForAdded (own number course)
-      on (inl is) = subst (λ it. awaits ForAdded (own it (more event)) ≡ awaits ForAdded (own it course)) (sym is) (ap (awaits ForAdded) (own_first (moved_by node event here) course) ∙ same)
+      on (inl is) =
+          subst (λ it. awaits ForAdded (own it (more event)) ≡ awaits ForAdded (own it course)) (sym is)
+              (ap (awaits ForAdded) (own_first (moved_by node event here) course) ∙ same)
       on (inr not) = ap (awaits ForAdded) (own_other number (moved_by node event here) course not)
 
   pub stack_more : (event : Event) → stack_of (node_at cluster node) (event ∷ past) ≡ stack_of (node_at cluster node) past → (number : ℕ)
       → stack_of (node_at cluster number) (own number (more event)) ≡ stack_of (node_at cluster number) (own number course)
   stack_more event same number = on (one_or_two number node)
     where
-      on : (number ≡ node) ⊎ (number ≢ node) → stack_of (node_at cluster number) (own number (more event)) ≡ stack_of (node_at cluster number) (own number course)
+      on : (number ≡ node) ⊎ (number ≢ node) → stack_of (node_at cluster number) (own number (more event))
+          ≡ stack_of (node_at cluster number) (own number course)
       on (inl is) = subst (λ it. stack_of (node_at cluster it) (own it (more event)) ≡ stack_of (node_at cluster it) (own it course)) (sym is)
           (ap (stack_of (node_at cluster node)) (own_first (moved_by node event here) course) ∙ same)
       on (inr not) = ap (stack_of (node_at cluster number)) (own_other number (moved_by node event here) course not)
@@ -135,14 +143,17 @@ module _ (cluster : Cluster) (course : Course) (node : ℕ) (here : Option PostA
       on : (number ≡ node) ⊎ (number ≢ node) → IsFirst (phase_of number (more event)) (stack_of (node_at cluster number) (own number (more event)))
       on (inl is) = subst (λ it. IsFirst (phase_of it (more event)) (stack_of (node_at cluster it) (own it (more event)))) (sym is)
           (subst (λ it. IsFirst (phase_of node (more event)) (stack_of (node_at cluster node) it)) (sym (own_first (moved_by node event here) course)) first)
-      on (inr not) = subst (λ it. IsFirst (phase_of number (more event)) (stack_of (node_at cluster number) it)) (sym (own_other number (moved_by node event here) course not))
+      on (inr not) =
+          subst (λ it. IsFirst (phase_of number (more event)) (stack_of (node_at cluster number) it))
+              (sym (own_other number (moved_by node event here) course not))
           (subst (λ it. IsFirst it (stack_of (node_at cluster number) (own number course))) (sym (others number not)) (phased.first number))
 
   -- no phase changes
   pub kept : (event : Event) → ((number : ℕ) → phase_of number (more event) ≡ phase_of number course)
       → ((number : ℕ) (frame : FrameId) (index : ℕ) → under_way cluster (more event) number frame index ≡ under_way cluster course number frame index)
       → ((such : ℤ → Bool) (number : ℕ) → to_tell cluster (more event) such number ≡ to_tell cluster course such number)
-      → awaits ForAdded (event ∷ past) ≡ awaits ForAdded past → IsFirst (phase_of node course) (stack_of (node_at cluster node) (event ∷ past)) → Phased cluster (more event)
+      → awaits ForAdded (event ∷ past) ≡ awaits ForAdded past → IsFirst (phase_of node course) (stack_of (node_at cluster node) (event ∷ past))
+      → Phased cluster (more event)
   kept event same adds olds waits first = record {
     within = λ number waits. phased.within number (ap waits_in (sym (same number)) ∙ waits);
     waiting = λ number. awaits_more event waits number ∙ phased.waiting number ∙ ap waits_in (sym (same number));

@@ -8,19 +8,14 @@ use Rattle.page_messages.specs.declared.log.Item.{Item}
 use Rattle.page_messages.specs.declared.log.Item.TheVariants as item
 use Rattle.cluster_rules.specs.Turns.{Event, Did, Sent, Took, Ended}
 use Rattle.cluster_rules.specs.Lives.{same_frame, main_id}
-use Rattle.cluster_rules.specs.Frames.{frames_of, stack_of, next_frame}
+use Rattle.cluster_rules.specs.Frames.{next_frame}
 use Rattle.cluster_rules.specs.Runs.{Cluster, node_at}
 use Rattle.cluster_rules.specs.Positions.{Moved, Course, own, at, before}
 use Rattle.cluster_rules.proofs.Stepping.{Step, Stepped}
-use Rattle.cluster_rules.proofs.Summing.{sum_one}
-use Rattle.cluster_rules.proofs.Marks.{Mark, one, many, many_append, named, marks, other_marks, same_self, same_name, AddsFirst}
+use Rattle.cluster_rules.proofs.Marks.{Mark, one, many, named, same_self, same_name}
 use Rattle.cluster_rules.proofs.Passing.{born_act, born_by}
-use Rattle.cluster_rules.proofs.Holding.{at_node, held, held_start, held_more, held_once, main_mark, next_grows, IsBorn, births}
-use Rattle.cluster_rules.proofs.Phases.{is_told_of, waits_in, IsFirst}
-use Rattle.cluster_rules.proofs.UnderWay.{under_way}
-use Rattle.cluster_rules.proofs.Asking.{phased, asked_by}
-use Rattle.cluster_rules.proofs.Claiming.{acts_before}
-use Rattle.cluster_rules.proofs.Indexing.{Claims, first_stack_mark, mark_acts, claims_held}
+use Rattle.cluster_rules.proofs.Holding.{held, held_start, held_more, main_mark, next_grows, IsBorn, births}
+use Rattle.cluster_rules.proofs.Indexing.{Claims, claims_held}
 use Rattle.cluster_rules.proofs.Claimed.{stepped_at, at_within}
 
 -- ---- spawns
@@ -63,7 +58,8 @@ born_spawns_act : (frame : FrameId) (done : LoggedAct) → born_act done ≡ rec
 born_spawns_act frame (act.Read word value) is = absurd (cc)
 born_spawns_act frame (act.Write word value) is = absurd (cc)
 born_spawns_act frame (act.Print value) is = absurd (cc)
-born_spawns_act frame (act.Spawn child procedure arguments) is = let same : record { id = child; acts = 0 } ≡ record { id = frame; acts = 0 } = cc in ap (λ (it : Mark). it.id) same
+born_spawns_act frame (act.Spawn child procedure arguments) is =
+    let same : record { id = child; acts = 0 } ≡ record { id = frame; acts = 0 } = cc in ap (λ (it : Mark). it.id) same
 born_spawns_act frame act.Sync is = absurd (cc)
 
 born_spawns : (frame : FrameId) (event : Event) → born_by event ≡ record { id = frame; acts = 0 } ∷ [] → Spawns frame event
@@ -98,7 +94,8 @@ spawns_born frame (Took message) spawns = absurd spawns
 spawns_born frame (Ended end) spawns = absurd spawns
 
 -- The name of a spawned frame is given by its Spawn.
-pub spawn_names : (cluster : Cluster) (course : Course) (moved : Moved) → Step cluster course moved → (frame : FrameId) → Spawns frame moved.event → IsBorn cluster course moved frame
+pub spawn_names : (cluster : Cluster) (course : Course) (moved : Moved) → Step cluster course moved → (frame : FrameId) → Spawns frame moved.event
+    → IsBorn cluster course moved frame
 spawn_names cluster course moved step frame spawns = on (births cluster course moved frame step)
   where
     on : (many (named frame) (born_by moved.event) ≡ 0) ⊎ IsBorn cluster course moved frame → IsBorn cluster course moved frame
@@ -113,7 +110,8 @@ held_made_on cluster course moved stepped step frame (inr (inl main)) = inr (inl
 held_made_on cluster course moved stepped step frame (inr (inr was)) = inr (inr (inr was))
 held_made_on cluster course moved stepped step frame (inl none) = on (births cluster course moved frame step)
   where
-    on : (many (named frame) (born_by moved.event) ≡ 0) ⊎ IsBorn cluster course moved frame → (held cluster (moved ∷ course) frame ≡ 0) ⊎ WasMade frame (moved ∷ course)
+    on : (many (named frame) (born_by moved.event) ≡ 0) ⊎ IsBorn cluster course moved frame
+        → (held cluster (moved ∷ course) frame ≡ 0) ⊎ WasMade frame (moved ∷ course)
     on (inl no_birth) = let more = held_more cluster course moved stepped step frame in inl (omega (arith, more, none, no_birth))
     on (inr born) = inr (inr (inl (born_spawns frame moved.event born.marks_are)))
 
@@ -134,10 +132,12 @@ held_made cluster course stepped frame some = on (held_or_made cluster course st
     on (inr made) = made
 
 -- A frame that makes an act was made before.
-pub claims_made : (cluster : Cluster) (course : Course) (moved : Moved) → Stepped cluster (moved ∷ course) → (done : Item) → moved.event ≡ Did done → (frame : FrameId) (index : ℕ)
+pub claims_made : (cluster : Cluster) (course : Course) (moved : Moved) → Stepped cluster (moved ∷ course) → (done : Item) → moved.event ≡ Did done
+    → (frame : FrameId) (index : ℕ)
     → Claims frame index done
     → WasMade frame course
-claims_made cluster course moved stepped done is frame index claims = held_made cluster course stepped.0 frame (claims_held cluster course moved stepped done is frame index claims)
+claims_made cluster course moved stepped done is frame index claims =
+    held_made cluster course stepped.0 frame (claims_held cluster course moved stepped done is frame index claims)
 
 -- ---- each is spawned once
 
@@ -145,7 +145,8 @@ claims_made cluster course moved stepped done is frame index claims = held_made 
 pub spawned_known : (cluster : Cluster) (course : Course) → Stepped cluster course → (frame : FrameId) → WasSpawned frame course
     → frame.number < next_frame (node_at cluster frame.node) (own frame.node course)
 spawned_known cluster [] stepped frame was = absurd was
-spawned_known cluster (moved ∷ course) stepped frame (inl spawns) = let now = (spawn_names cluster course moved stepped.1 frame spawns).now in omega (arith, now)
+spawned_known cluster (moved ∷ course) stepped frame (inl spawns) =
+    let now = (spawn_names cluster course moved stepped.1 frame spawns).now in omega (arith, now)
 spawned_known cluster (moved ∷ course) stepped frame (inr was) =
     let before = spawned_known cluster course stepped.0 frame was in
     let grows = next_grows cluster course moved frame in omega (arith, before, grows)
@@ -154,25 +155,31 @@ spawned_known cluster (moved ∷ course) stepped frame (inr was) =
 pub main_given : (cluster : Cluster) (course : Course) → 0 < next_frame (node_at cluster 0) (own 0 course)
 unfolding next_frame
 main_given cluster [] = omega arith
-main_given cluster (moved ∷ course) = let before = main_given cluster course in let grows = next_grows cluster course moved main_id in omega (arith, before, grows)
+main_given cluster (moved ∷ course) =
+    let before = main_given cluster course in let grows = next_grows cluster course moved main_id in omega (arith, before, grows)
 
 -- what was made has a number that was given
 pub made_known : (cluster : Cluster) (course : Course) → Stepped cluster course → (frame : FrameId) → WasMade frame course
     → frame.number < next_frame (node_at cluster frame.node) (own frame.node course)
-made_known cluster course stepped frame (inl main) = subst (λ it. it.number < next_frame (node_at cluster it.node) (own it.node course)) (sym main) (main_given cluster course)
+made_known cluster course stepped frame (inl main) =
+    subst (λ it. it.number < next_frame (node_at cluster it.node) (own it.node course)) (sym main) (main_given cluster course)
 made_known cluster course stepped frame (inr was) = spawned_known cluster course stepped frame was
 
 -- So what is spawned was not made before.
-pub spawned_new : (cluster : Cluster) (course : Course) (moved : Moved) → Stepped cluster (moved ∷ course) → (frame : FrameId) → Spawns frame moved.event → WasMade frame course → ⊥
+pub spawned_new : (cluster : Cluster) (course : Course) (moved : Moved) → Stepped cluster (moved ∷ course) → (frame : FrameId) → Spawns frame moved.event
+    → WasMade frame course → ⊥
 spawned_new cluster course moved stepped frame spawns made =
     let was = (spawn_names cluster course moved stepped.1 frame spawns).was in
     let known = made_known cluster course stepped.0 frame made in omega (arith, was, known)
 
-spawned_at : (frame : FrameId) (course : Course) (position : ℕ) (moved : Moved) → at course position ≡ Some moved → Spawns frame moved.event → WasSpawned frame course
+spawned_at : (frame : FrameId) (course : Course) (position : ℕ) (moved : Moved) → at course position ≡ Some moved → Spawns frame moved.event
+    → WasSpawned frame course
 spawned_at frame [] position moved found spawns = absurd (cc)
-spawned_at frame (first ∷ course) position moved found spawns = on (eqb position (length course)) found (λ older. spawned_at frame course position moved older spawns)
+spawned_at frame (first ∷ course) position moved found spawns =
+    on (eqb position (length course)) found (λ older. spawned_at frame course position moved older spawns)
   where
-    on : (b : Bool) → cond b (Some first) (at course position) ≡ Some moved → (at course position ≡ Some moved → WasSpawned frame course) → WasSpawned frame (first ∷ course)
+    on : (b : Bool) → cond b (Some first) (at course position) ≡ Some moved → (at course position ≡ Some moved → WasSpawned frame course)
+        → WasSpawned frame (first ∷ course)
     on true found rest = let same : first ≡ moved = cc in inl (subst (λ (it : Moved). Spawns frame it.event) (sym same) spawns)
     on false found rest = inr (rest found)
 
@@ -191,7 +198,8 @@ earlier_there (top ∷ course) first second moved other less found found' =
     on true is true was found found' bound rest =
         let one_place : first ≡ length course = grind (arith, nat_tests) in
         let other_place : second ≡ length course = grind (arith, nat_tests) in absurd (omega (arith, less, one_place, other_place))
-    on true is false was found found' bound rest = let place : first ≡ length course = grind (arith, nat_tests) in let within = bound found' in absurd (omega (arith, less, place, within))
+    on true is false was found found' bound rest =
+        let place : first ≡ length course = grind (arith, nat_tests) in let within = bound found' in absurd (omega (arith, less, place, within))
     on false is true was found found' bound rest = found
     on false is false was found found' bound rest = rest found found'
 
@@ -211,26 +219,3 @@ spawned_once cluster course stepped frame first second moved other found found' 
     on (inr (inr more)) =
         absurd (spawned_new cluster (before course first) moved (stepped_at cluster course stepped first moved found) frame spawns
         (inr (spawned_at frame (before course first) second other (earlier_there course second first other moved more found' found) spawns')))
-
--- ---- on one stack
-
--- No frame is twice on a stack.
-pub stack_once : (cluster : Cluster) (course : Course) → Stepped cluster course → (number : ℕ) → number < cluster.config.nodes → (frame : FrameId)
-    → many (named frame) (marks (stack_of (node_at cluster number) (own number course))) ≤ 1
-stack_once cluster course stepped number less frame =
-    let frames = frames_of (node_at cluster number) (own number course) in
-    let all = many_append (named frame) (marks frames.stack) (other_marks frames) in
-    let whole = sum_one cluster.config.nodes (at_node cluster course (named frame)) number less in
-    let once = held_once cluster course stepped frame in omega (arith, all, whole, once)
-
--- ---- an Add that is under way
-
--- Its frame is the first of the stack of its node and wants it, and its index is the number of the acts before it.
-pub add_asked : (cluster : Cluster) (course : Course) → Stepped cluster course → (number : ℕ) (frame : FrameId) (index : ℕ) → 1 ≤ under_way cluster course number frame index
-    → AddsFirst frame index (stack_of (node_at cluster number) (own number course)) × (index ≡ acts_before frame course)
-add_asked cluster course stepped number frame index some =
-    let known = phased cluster course stepped in
-    let asked = asked_by cluster course known number frame index some in
-    let first : AddsFirst frame index (stack_of (node_at cluster number) (own number course)) =
-    subst (λ it. IsFirst it (stack_of (node_at cluster number) (own number course))) asked (known.first number) in
-    (first, mark_acts cluster course stepped number (known.within number (ap waits_in asked)) frame index (first_stack_mark cluster course number frame index first) (ap (is_told_of frame) asked))

@@ -79,7 +79,8 @@ any_back : (test : Wait → Bool) (front back : List Wait) → list_any test bac
 any_back test [] back any = any
 any_back test (first ∷ front) back any = rw (any_back test front back any) (or_true (test first))
 
-begun_has_in : (wait : Wait) (body : Body) (sender receiver : ℕ) → requests wait (record { sender = sender; receiver = receiver; body = body }) ≡ true → list_any (same_wait wait) (begun_in body receiver) ≡ true
+begun_has_in : (wait : Wait) (body : Body) (sender receiver : ℕ) → requests wait (record { sender = sender; receiver = receiver; body = body }) ≡ true
+    → list_any (same_wait wait) (begun_in body receiver) ≡ true
 begun_has_in (ForPage page) (Fetch other) sender receiver is = rw is refl
 begun_has_in (ForAck home) (Reconcile parts) sender receiver is = rw is refl
 begun_has_in ForAdded (Add frame index word addend) sender receiver is = refl
@@ -120,7 +121,8 @@ begun_has wait (Sent message) is = begun_has_in wait message.body message.sender
 begun_has wait (Took message) is = absurd (cc)
 begun_has wait (Ended end) is = absurd (cc)
 
-left_on : (wait first : Wait) (event : Event) (waits : List Wait) (same ended : Bool) → same_wait wait first ≡ same → ends first event ≡ ended → ends wait event ≡ false
+left_on : (wait first : Wait) (event : Event) (waits : List Wait) (same ended : Bool) → same_wait wait first ≡ same → ends first event ≡ ended
+    → ends wait event ≡ false
     → same || list_any (same_wait wait) waits ≡ true → (list_any (same_wait wait) waits ≡ true → list_any (same_wait wait) (left_open event waits) ≡ true)
     → list_any (same_wait wait) (cond ended (left_open event waits) (first ∷ left_open event waits)) ≡ true
 left_on wait first event waits true true s e not any before =
@@ -131,7 +133,8 @@ left_on wait first event waits true false s e not any before = rw s refl
 left_on wait first event waits false true s e not any before = before any
 left_on wait first event waits false false s e not any before = rw (s) (before any)
 
-left_has : (wait : Wait) (event : Event) (waits : List Wait) → ends wait event ≡ false → list_any (same_wait wait) waits ≡ true → list_any (same_wait wait) (left_open event waits) ≡ true
+left_has : (wait : Wait) (event : Event) (waits : List Wait) → ends wait event ≡ false → list_any (same_wait wait) waits ≡ true
+    → list_any (same_wait wait) (left_open event waits) ≡ true
 left_has wait event [] not any = absurd (cc)
 left_has wait event (first ∷ waits) not any =
     left_on wait first event waits (same_wait wait first) (ends first event) refl refl not any (left_has wait event waits not)

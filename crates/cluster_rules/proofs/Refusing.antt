@@ -27,7 +27,8 @@ use Rattle.cluster_rules.proofs.Backward.{any_latest, none_front, not_at}
 -- ---- settled writes
 
 -- a word that was written and never sent is not settled
-unsettled : (node : Node) (word : ℕ) (past : Past) → list_any (writes word) past ≡ true → list_any (sends_word node word) past ≡ false → ¬ AllSettled node word past
+unsettled : (node : Node) (word : ℕ) (past : Past) → list_any (writes word) past ≡ true → list_any (sends_word node word) past ≡ false
+    → ¬ AllSettled node word past
 unsettled node word past wrote unsent all =
     let found = any_latest (writes word) past wrote in
     let settled = all found.1.newer found.1.older found.0 found.1.parts found.1.such in
@@ -38,7 +39,8 @@ unsettled node word past wrote unsent all =
     let sends = settled.sends in
     absurd (cc)
 
-pub grant_refused : (node : Node) (past : Past) (receiver : ℕ) (closure : Closure) (word : ℕ) → list_any (writes word) past ≡ true → list_any (sends_word node word) past ≡ false
+pub grant_refused : (node : Node) (past : Past) (receiver : ℕ) (closure : Closure) (word : ℕ) → list_any (writes word) past ≡ true
+    → list_any (sends_word node word) past ≡ false
     → ¬ MayGrant node past receiver closure
 grant_refused node past receiver closure word wrote unsent = λ may. unsettled node word past wrote unsent (may.clean word)
 
@@ -54,16 +56,19 @@ drops_among_on : (page first : ℕ) (pages : List ℕ) (others : List Item) (b :
 drops_among_on page first pages others true is among before = rw is refl
 drops_among_on page first pages others false is among before = rw (is) (before among)
 
-drops_among : (page : ℕ) (pages : List ℕ) (others : List Item) → is_among page pages ≡ true → list_any (drops_item page) (map (λ it. Drop it) pages ++ others) ≡ true
+drops_among : (page : ℕ) (pages : List ℕ) (others : List Item) → is_among page pages ≡ true
+    → list_any (drops_item page) (map (λ it. Drop it) pages ++ others) ≡ true
 drops_among page [] others among = absurd (cc)
 drops_among page (first ∷ pages) others among = drops_among_on page first pages others (first == page) refl among (drops_among page pages others)
 
-pub take_up_refused : (node : Node) (past : Past) (frame : FrameId) (rest : List Item) (page : ℕ) → is_resident page past ≡ true → list_any (drops_item page) rest ≡ false
+pub take_up_refused : (node : Node) (past : Past) (frame : FrameId) (rest : List Item) (page : ℕ) → is_resident page past ≡ true
+    → list_any (drops_item page) rest ≡ false
     → ¬ MayTakeUp node past frame rest
 take_up_refused node past frame rest page resident kept = λ may.
     let among : is_among page may.pages ≡ true = may.all page ∙ resident in
     let dropped = drops_among page may.pages may.others among in
-    let none : list_any (drops_item page) (map (λ it. Drop it) may.pages ++ may.others) ≡ false = subst (λ it. list_any (drops_item page) it ≡ false) may.drops kept in
+    let none : list_any (drops_item page) (map (λ it. Drop it) may.pages ++ may.others) ≡ false =
+        subst (λ it. list_any (drops_item page) it ≡ false) may.drops kept in
     absurd (cc)
 
 -- ---- sendings and replies
@@ -75,7 +80,8 @@ sending_refused node past home part place within marked clean = λ may. let is =
 first_of_both : (due other : Msg) (later rest : List Msg) → due ∷ later ≡ other ∷ rest → other ≡ due
 first_of_both due other later rest same = cc
 
-pub reply_refused : (node : Node) (past : Past) (due message : Msg) (later : List Msg) → owed_home_replies node past ≡ due ∷ later → message ≢ due → ¬ MaySend node past message
+pub reply_refused : (node : Node) (past : Past) (due message : Msg) (later : List Msg) → owed_home_replies node past ≡ due ∷ later → message ≢ due
+    → ¬ MaySend node past message
 reply_refused node past due message later owed other = λ may. elim may [
   | inl is_due ↦ other (first_of_both due message later is_due.0 (sym owed ∙ is_due.1))
   | inr sends ↦ (let none : due ∷ later ≡ [] = sym owed ∙ sends.none_owed in absurd (cc))
@@ -86,7 +92,8 @@ reply_refused node past due message later owed other = λ may. elim may [
 one_life : (first second : Life) → Some first ≡ Some second → first ≡ second
 one_life first second same = cc
 
-pub sync_refused : (node : Node) (past : Past) (life : Life) (join : JoinId) (frame : FrameId) (index : ℕ) → highest node past ≡ Some life → life.join ≡ Some join
+pub sync_refused : (node : Node) (past : Past) (life : Life) (join : JoinId) (frame : FrameId) (index : ℕ) → highest node past ≡ Some life
+    → life.join ≡ Some join
     → ¬ MayAct node past frame index Sync
 sync_refused node past life join frame index is granted = λ may.
     let same : may.life ≡ life = one_life may.life life (sym may.acts.is ∙ is) in

@@ -8,7 +8,8 @@ use Rattle.cluster_rules.specs.Cache.{writes}
 use Rattle.cluster_rules.specs.Sendings.{sends_word, settles, IsSettled, AllSettled}
 use Rattle.cluster_rules.proofs.Testing.{both_true}
 
-no_write_on : (word : ℕ) (past later older : Past) (event : Event) → list_any (writes word) past ≡ false → past ≡ later ++ event ∷ older → writes word event ≡ true → ⊥
+no_write_on : (word : ℕ) (past later older : Past) (event : Event) → list_any (writes word) past ≡ false → past ≡ later ++ event ∷ older
+    → writes word event ≡ true → ⊥
 no_write_on word past [] older event none parts wrote =
     let some : list_any (writes word) (event ∷ older) ≡ false = subst (λ it. list_any (writes word) it ≡ false) parts none in
     let not : writes word event ≡ false = grind (rules) in absurd (cc)
@@ -28,10 +29,13 @@ abbrev pub is_sent_home : Node → ℕ → Past → Past → Bool
 is_sent_home node word newer [] = false
 is_sent_home node word newer (event ∷ older) = (sends_word node word event && settles event newer) || is_sent_home node word (newer ++ event ∷ []) older
 
-sent_home_on : (node : Node) (word : ℕ) (newer : Past) (event : Event) (older : Past) (sends settled : Bool) → sends_word node word event ≡ sends → settles event newer ≡ settled
+sent_home_on : (node : Node) (word : ℕ) (newer : Past) (event : Event) (older : Past) (sends settled : Bool) → sends_word node word event ≡ sends
+    → settles event newer ≡ settled
     → (sends && settled) || is_sent_home node word (newer ++ event ∷ []) older ≡ true
-    → (is_sent_home node word (newer ++ event ∷ []) older ≡ true → IsSettled node word ((newer ++ event ∷ []) ++ older)) → IsSettled node word (newer ++ event ∷ older)
-sent_home_on node word newer event older true true sends settled is rest = record { newer = newer; older = older; event = event; parts = refl; sends = sends; settled = settled }
+    → (is_sent_home node word (newer ++ event ∷ []) older ≡ true → IsSettled node word ((newer ++ event ∷ []) ++ older))
+    → IsSettled node word (newer ++ event ∷ older)
+sent_home_on node word newer event older true true sends settled is rest =
+    record { newer = newer; older = older; event = event; parts = refl; sends = sends; settled = settled }
 sent_home_on node word newer event older true false sends settled is rest = subst (IsSettled node word) (append_assoc newer (event ∷ []) older) (rest is)
 sent_home_on node word newer event older false settled_so sends settled is rest = subst (IsSettled node word) (append_assoc newer (event ∷ []) older) (rest is)
 
@@ -43,7 +47,8 @@ sent_home node word newer (event ∷ older) is =
 -- each of these Writes of the word, behind which those events came, is settled
 abbrev pub are_sent_home : Node → ℕ → Past → Past → Bool
 are_sent_home node word newer [] = true
-are_sent_home node word newer (event ∷ older) = (not (writes word event) || is_sent_home node word [] newer) && are_sent_home node word (newer ++ event ∷ []) older
+are_sent_home node word newer (event ∷ older) =
+    (not (writes word event) || is_sent_home node word [] newer) && are_sent_home node word (newer ++ event ∷ []) older
 
 wrote_then : (wrote sent : Bool) → wrote ≡ true → not wrote || sent ≡ true → sent ≡ true
 wrote_then true sent is either = either
@@ -52,7 +57,8 @@ wrote_then false sent is either = absurd (cc)
 same_first : (one other : Event) (ones others : Past) → one ∷ ones ≡ other ∷ others → (one ≡ other) × (ones ≡ others)
 same_first one other ones others same = let first : one ≡ other = cc in let rest : ones ≡ others = cc in (first, rest)
 
-settled_at : (node : Node) (word : ℕ) (newer past later older : Past) (event : Event) → are_sent_home node word newer past ≡ true → past ≡ later ++ event ∷ older
+settled_at : (node : Node) (word : ℕ) (newer past later older : Past) (event : Event) → are_sent_home node word newer past ≡ true
+    → past ≡ later ++ event ∷ older
     → writes word event ≡ true → IsSettled node word (newer ++ later)
 settled_at node word newer [] [] older event are parts wrote = absurd (cc)
 settled_at node word newer [] (first ∷ later) older event are parts wrote = absurd (cc)

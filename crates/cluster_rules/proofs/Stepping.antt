@@ -94,7 +94,8 @@ stepped_before cluster (moved ∷ course) stepped position =
 -- ---- places
 
 -- the latest event of a node is the first of its past
-pub own_now : (number : ℕ) (event : Event) (here : Option PostAt) (course : Course) → own number (record { node = number; event = event; message = here } ∷ course) ≡ event ∷ own number course
+pub own_now : (number : ℕ) (event : Event) (here : Option PostAt) (course : Course)
+    → own number (record { node = number; event = event; message = here } ∷ course) ≡ event ∷ own number course
 own_now number event here course = rw (own_number number) refl
 
 own_did : (number : ℕ) (items : List Item) (course : Course) → own number (with_items number items course) ≡ did items (own number course)
@@ -102,18 +103,21 @@ own_did number [] course = refl
 own_did number (item ∷ items) course =
     own_did number items (record { node = number; event = Did item; message = None } ∷ course) ∙ ap (did items) (own_now number (Did item) None course)
 
-own_sent : (number : ℕ) (place : PostAt) (messages : List Msg) (course : Course) → own number (with_posts number place messages course) ≡ sent messages (own number course)
+own_sent : (number : ℕ) (place : PostAt) (messages : List Msg) (course : Course)
+    → own number (with_posts number place messages course) ≡ sent messages (own number course)
 own_sent number place [] course = refl
 own_sent number place (message ∷ messages) course =
     own_sent number (record place { index = place.index + 1 }) messages (record { node = number; event = Sent message; message = Some place } ∷ course)
     ∙ ap (sent messages) (own_now number (Sent message) (Some place) course)
 
 -- Items post nothing and take nothing.
-items_post : (place : PostAt) (number : ℕ) (items : List Item) (course : Course) → list_any (posts_place place) (with_items number items course) ≡ list_any (posts_place place) course
+items_post : (place : PostAt) (number : ℕ) (items : List Item) (course : Course)
+    → list_any (posts_place place) (with_items number items course) ≡ list_any (posts_place place) course
 items_post place number [] course = refl
 items_post place number (item ∷ items) course = items_post place number items (record { node = number; event = Did item; message = None } ∷ course)
 
-items_take : (place : PostAt) (number : ℕ) (items : List Item) (course : Course) → list_any (takes_place place) (with_items number items course) ≡ list_any (takes_place place) course
+items_take : (place : PostAt) (number : ℕ) (items : List Item) (course : Course)
+    → list_any (takes_place place) (with_items number items course) ≡ list_any (takes_place place) course
 items_take place number [] course = refl
 items_take place number (item ∷ items) course = items_take place number items (record { node = number; event = Did item; message = None } ∷ course)
 
@@ -138,7 +142,8 @@ posts_other : (place : PostAt) (number : ℕ) (here : PostAt) (messages : List M
     → list_any (posts_place place) (with_posts number here messages course) ≡ list_any (posts_place place) course
 posts_other place number here [] course other = refl
 posts_other place number here (message ∷ messages) course other =
-    posts_other place number (record here { index = here.index + 1 }) messages (record { node = number; event = Sent message; message = Some here } ∷ course) other
+    posts_other place number (record here { index = here.index + 1 }) messages
+        (record { node = number; event = Sent message; message = Some here } ∷ course) other
     ∙ rw (other_turn place here other) refl
 
 taking_posts : (place : PostAt) (number : ℕ) (here : Option PostAt) (message : Option Msg) (course : Course)
@@ -146,7 +151,8 @@ taking_posts : (place : PostAt) (number : ℕ) (here : Option PostAt) (message :
 taking_posts place number here None course = refl
 taking_posts place number here (Some message) course = refl
 
-end_posts : (place : PostAt) (number : ℕ) (end : Option NodeEnd) (course : Course) → list_any (posts_place place) (with_end number end course) ≡ list_any (posts_place place) course
+end_posts : (place : PostAt) (number : ℕ) (end : Option NodeEnd) (course : Course)
+    → list_any (posts_place place) (with_end number end course) ≡ list_any (posts_place place) course
 end_posts place number None course = refl
 end_posts place number (Some end) course = refl
 
@@ -161,26 +167,31 @@ none_later (turn ∷ older) place less =
     let posts = with_posts turn.node here turn.posts items in
     let other : length older ≢ place.turn = λ same. omega (arith, less, same) in
     end_posts place turn.node turn.end (with_taking turn.node turn.took message posts) ∙ taking_posts place turn.node turn.took message posts
-    ∙ posts_other place turn.node here turn.posts items other ∙ items_post place turn.node turn.items (course_of older) ∙ none_later older place (omega (arith, less))
+    ∙ posts_other place turn.node here turn.posts items other ∙ items_post place turn.node turn.items (course_of older)
+    ∙ none_later older place (omega (arith, less))
 
 -- ---- what was posted stays so
 
-more_items : (place : PostAt) (message : Msg) (number : ℕ) (items : List Item) (course : Course) → WasPosted course place message → WasPosted (with_items number items course) place message
+more_items : (place : PostAt) (message : Msg) (number : ℕ) (items : List Item) (course : Course) → WasPosted course place message
+    → WasPosted (with_items number items course) place message
 more_items place message number [] course was = was
-more_items place message number (item ∷ items) course was = more_items place message number items (record { node = number; event = Did item; message = None } ∷ course) (inr was)
+more_items place message number (item ∷ items) course was =
+    more_items place message number items (record { node = number; event = Did item; message = None } ∷ course) (inr was)
 
 more_posts : (place : PostAt) (message : Msg) (number : ℕ) (here : PostAt) (messages : List Msg) (course : Course) → WasPosted course place message
     → WasPosted (with_posts number here messages course) place message
 more_posts place message number here [] course was = was
 more_posts place message number here (first ∷ messages) course was =
-    more_posts place message number (record here { index = here.index + 1 }) messages (record { node = number; event = Sent first; message = Some here } ∷ course) (inr was)
+    more_posts place message number (record here { index = here.index + 1 }) messages
+        (record { node = number; event = Sent first; message = Some here } ∷ course) (inr was)
 
 more_taking : (place : PostAt) (message : Msg) (number : ℕ) (here : Option PostAt) (taken : Option Msg) (course : Course) → WasPosted course place message
     → WasPosted (with_taking number here taken course) place message
 more_taking place message number here None course was = was
 more_taking place message number here (Some taken) course was = inr was
 
-more_end : (place : PostAt) (message : Msg) (number : ℕ) (end : Option NodeEnd) (course : Course) → WasPosted course place message → WasPosted (with_end number end course) place message
+more_end : (place : PostAt) (message : Msg) (number : ℕ) (end : Option NodeEnd) (course : Course) → WasPosted course place message
+    → WasPosted (with_end number end course) place message
 more_end place message number None course was = was
 more_end place message number (Some end) course was = inr was
 
@@ -196,15 +207,18 @@ posted_in number turn start zero (first ∷ messages) course message found =
 posted_in number turn start (suc index) (first ∷ messages) course message found =
     let next : (start + 1) + index ≡ start + suc index = omega (arith) in
     let moved : Moved = record { node = number; event = Sent first; message = Some (record { turn = turn; index = start }) } in
-    subst (λ it. WasPosted (with_posts number (record { turn = turn; index = start + 1 }) messages (moved ∷ course)) (record { turn = turn; index = it }) message) next
+    subst (λ it. WasPosted (with_posts number (record { turn = turn; index = start + 1 }) messages (moved ∷ course))
+        (record { turn = turn; index = it }) message) next
     (posted_in number turn (start + 1) index messages (moved ∷ course) message found)
 
-posted_here : (number turn : ℕ) (place : PostAt) (messages : List Msg) (course : Course) (message : Msg) → place.turn ≡ turn → slice_get messages place.index ≡ Some message
+posted_here : (number turn : ℕ) (place : PostAt) (messages : List Msg) (course : Course) (message : Msg) → place.turn ≡ turn
+    → slice_get messages place.index ≡ Some message
     → WasPosted (with_posts number (record { turn = turn; index = 0 }) messages course) place message
 posted_here number turn place messages course message same found =
     let from_zero : 0 + place.index ≡ place.index = omega (arith) in
     let is : record { turn = turn; index = 0 + place.index } ≡ place = λ i. record { turn = sym same i; index = from_zero i } in
-    subst (λ it. WasPosted (with_posts number (record { turn = turn; index = 0 }) messages course) it message) is (posted_in number turn 0 place.index messages course message found)
+    subst (λ it. WasPosted (with_posts number (record { turn = turn; index = 0 }) messages course) it message) is
+        (posted_in number turn 0 place.index messages course message found)
 
 more_turn : (place : PostAt) (message : Msg) (count : ℕ) (turn : WholeTurn) (taken : Option Msg) (course : Course)
     → WasPosted (with_posts turn.node (record { turn = count; index = 0 }) turn.posts (with_items turn.node turn.items course)) place message
@@ -227,10 +241,12 @@ posted_there (turn ∷ older) place message found = on (eqb place.turn (length o
         → WasPosted (with_turn (length older) turn (posted_at older turn.took) (course_of older)) place message
     on true is found rest =
         let same : place.turn ≡ length older = grind (arith, nat_tests) in
-        more_turn place message (length older) turn (posted_at older turn.took) (course_of older) (posted_here turn.node (length older) place turn.posts items message same found)
+        more_turn place message (length older) turn (posted_at older turn.took) (course_of older)
+            (posted_here turn.node (length older) place turn.posts items message same found)
     on false is found rest =
         more_turn place message (length older) turn (posted_at older turn.took) (course_of older)
-        (more_posts place message turn.node (record { turn = length older; index = 0 }) turn.posts items (more_items place message turn.node turn.items (course_of older) (rest found)))
+        (more_posts place message turn.node (record { turn = length older; index = 0 }) turn.posts items
+            (more_items place message turn.node turn.items (course_of older) (rest found)))
 
 -- ---- what was not taken
 
@@ -239,11 +255,13 @@ taking_takes : (place : PostAt) (number : ℕ) (here : Option PostAt) (message :
 taking_takes place number here None course other = refl
 taking_takes place number here (Some message) course other = rw other refl
 
-end_takes : (place : PostAt) (number : ℕ) (end : Option NodeEnd) (course : Course) → list_any (takes_place place) (with_end number end course) ≡ list_any (takes_place place) course
+end_takes : (place : PostAt) (number : ℕ) (end : Option NodeEnd) (course : Course)
+    → list_any (takes_place place) (with_end number end course) ≡ list_any (takes_place place) course
 end_takes place number None course = refl
 end_takes place number (Some end) course = refl
 
-untaken : (older : List WholeTurn) (place : PostAt) → list_any (λ turn. takes_at place turn.took) older ≡ false → list_any (takes_place place) (course_of older) ≡ false
+untaken : (older : List WholeTurn) (place : PostAt) → list_any (λ turn. takes_at place turn.took) older ≡ false
+    → list_any (takes_place place) (course_of older) ≡ false
 unfolding course_of
 untaken [] place none = refl
 untaken (turn ∷ older) place none =
@@ -262,12 +280,14 @@ abbrev FreeFrom : Course → PostAt → Type 0
 FreeFrom course here = (index : ℕ) → here.index ≤ index → list_any (posts_place (record { turn = here.turn; index = index })) course ≡ false
 
 module _ (cluster : Cluster) (number : ℕ) (within : number < cluster.config.nodes) where
-  items_stepped : (posts : List Msg) (items : List Item) (course : Course) → Stepped cluster course → MayDoAll (node_at cluster number) posts (own number course) items
+  items_stepped : (posts : List Msg) (items : List Item) (course : Course) → Stepped cluster course
+      → MayDoAll (node_at cluster number) posts (own number course) items
       → Stepped cluster (with_items number items course)
   items_stepped posts [] course stepped may = stepped
   items_stepped posts (item ∷ items) course stepped may =
       let moved : Moved = record { node = number; event = Did item; message = None } in
-      items_stepped posts items (moved ∷ course) (stepped, record { within = within; allowed = record { rest = items; posts = posts; may = may.0 }; carries = tt })
+      items_stepped posts items (moved ∷ course) (stepped,
+          record { within = within; allowed = record { rest = items; posts = posts; may = may.0 }; carries = tt })
       (subst (λ past. MayDoAll (node_at cluster number) posts past items) (sym (own_now number (Did item) None course)) may.1)
 
   free_next : (here : PostAt) (message : Msg) (course : Course) → FreeFrom course here
@@ -285,7 +305,8 @@ module _ (cluster : Cluster) (number : ℕ) (within : number < cluster.config.no
         record {
           within = within;
           allowed = may.0;
-          carries = record { place = here; place_is = refl; sender = sends_from (node_at cluster number) (own number course) message may.0; fresh = free here.index (omega (arith)) };
+          carries = record { place =
+              here; place_is = refl; sender = sends_from (node_at cluster number) (own number course) message may.0; fresh = free here.index (omega (arith)) };
         },
       ) (free_next here message course free)
       (subst (λ past. MaySendAll (node_at cluster number) past messages) (sym (own_now number (Sent message) (Some here) course)) may.1)
@@ -326,12 +347,14 @@ with_deeds count number deeds course = with_posts number (record { turn = count;
 
 deeds_stepped : (cluster : Cluster) (number : ℕ) (older : List WholeTurn) (deeds : Deeds) → number < cluster.config.nodes → Stepped cluster (course_of older)
     → IsStep (node_at cluster number) (own number (course_of older)) deeds → Stepped cluster (with_deeds (length older) number deeds (course_of older))
-deeds_stepped cluster number older deeds within stepped (inl none) = subst (λ it. Stepped cluster (with_deeds (length older) number it (course_of older))) (sym none) stepped
+deeds_stepped cluster number older deeds within stepped (inl none) =
+    subst (λ it. Stepped cluster (with_deeds (length older) number it (course_of older))) (sym none) stepped
 deeds_stepped cluster number older deeds within stepped (inr moves) =
     let items = with_items number deeds.items (course_of older) in
     let here : PostAt = record { turn = length older; index = 0 } in
     let free : FreeFrom items here = λ index less.
-    items_post (record { turn = length older; index = index }) number deeds.items (course_of older) ∙ none_later older (record { turn = length older; index = index }) (omega (arith)) in
+    items_post (record { turn = length older; index = index }) number deeds.items (course_of older)
+        ∙ none_later older (record { turn = length older; index = index }) (omega (arith)) in
     posts_stepped cluster number within here deeds.posts items
     (items_stepped cluster number within deeds.posts deeds.items (course_of older) stepped moves.items)
     free (subst (λ past. MaySendAll (node_at cluster number) past deeds.posts) (sym (own_did number deeds.items (course_of older))) moves.posts)
@@ -353,7 +376,8 @@ turn_stepped cluster older turn stepped next =
     let behind_is : own turn.node course ≡ sent turn.posts (did turn.items (own turn.node (course_of older))) =
     own_sent turn.node here turn.posts items ∙ ap (sent turn.posts) (own_did turn.node turn.items (course_of older)) in
     let takes : MayTake node (own turn.node course) turn.end (posted_at older turn.took) =
-    subst (λ past. MayTake node past turn.end (posted_at older turn.took)) (sym (behind_is ∙ ap (λ past. sent turn.posts (did turn.items past)) past_is)) next.allows.takes in
+    subst (λ past. MayTake node past turn.end (posted_at older turn.took))
+        (sym (behind_is ∙ ap (λ past. sent turn.posts (did turn.items past)) past_is)) next.allows.takes in
     let ends : MayEndSo node (own turn.node course) turn.end =
     subst (λ past. MayEndSo node past turn.end) (sym behind_is) (step_ends node (own turn.node (course_of older)) deeds step) in
     rest_stepped cluster turn.node next.node turn.end turn.took (posted_at older turn.took) course

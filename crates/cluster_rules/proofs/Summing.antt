@@ -6,7 +6,8 @@ abbrev pub sum_below : ℕ → (ℕ → ℕ) → ℕ
 sum_below zero amount = 0
 sum_below (suc count) amount = amount count + sum_below count amount
 
-pub sum_same : (count : ℕ) (amount other : ℕ → ℕ) → ((number : ℕ) → number < count → other number ≡ amount number) → sum_below count other ≡ sum_below count amount
+pub sum_same : (count : ℕ) (amount other : ℕ → ℕ) → ((number : ℕ) → number < count → other number ≡ amount number)
+    → sum_below count other ≡ sum_below count amount
 sum_same zero amount other same = refl
 sum_same (suc count) amount other same =
     let here = same count (omega arith) in
@@ -49,11 +50,14 @@ sum_one (suc count) amount number less = on (one_or_two count number) (λ below.
     on (inr not) rest = let before = rest (omega (arith, less, not)) in omega (arith, before)
 
 -- and so are two of them
-pub sum_two : (count : ℕ) (amount : ℕ → ℕ) (number other : ℕ) → number < count → other < count → number ≢ other → amount number + amount other ≤ sum_below count amount
+pub sum_two : (count : ℕ) (amount : ℕ → ℕ) (number other : ℕ) → number < count → other < count → number ≢ other
+    → amount number + amount other ≤ sum_below count amount
 sum_two zero amount number other less below not = absurd (omega (arith, less))
-sum_two (suc count) amount number other less below not = on (one_or_two count number) (one_or_two count other) (λ less below. sum_two count amount number other less below not)
+sum_two (suc count) amount number other less below not =
+    on (one_or_two count number) (one_or_two count other) (λ less below. sum_two count amount number other less below not)
   where
-    on : (count ≡ number) ⊎ (count ≢ number) → (count ≡ other) ⊎ (count ≢ other) → (number < count → other < count → amount number + amount other ≤ sum_below count amount)
+    on : (count ≡ number) ⊎ (count ≢ number) → (count ≡ other) ⊎ (count ≢ other)
+        → (number < count → other < count → amount number + amount other ≤ sum_below count amount)
         → amount number + amount other ≤ sum_below (suc count) amount
     on (inl is) (inl too) rest = absurd (omega (arith, is, too, not))
     on (inl is) (inr apart) rest =

@@ -108,7 +108,8 @@ module _ (cluster : Cluster) (course : Course) (node : ℕ) (here : Option PostA
         ≡ sum_below cluster.config.nodes (owed_at cluster course amount) + amount_in amount (owed_adds (event ∷ past))
     adds_sum event = sum_moved cluster.config.nodes (λ home past. amount_in amount (owed_adds past)) node event here course within
 
-    olds_sum : (event : Event) → sum_below cluster.config.nodes (olds_at cluster (moved_by node event here ∷ course) amount) + amount_in amount (owed_olds (node_at cluster node) past)
+    olds_sum : (event : Event) → sum_below cluster.config.nodes (olds_at cluster (moved_by node event here ∷ course) amount) + amount_in amount
+        (owed_olds (node_at cluster node) past)
         ≡ sum_below cluster.config.nodes (olds_at cluster course amount) + amount_in amount (owed_olds (node_at cluster node) (event ∷ past))
     olds_sum event = sum_moved cluster.config.nodes (λ home past. amount_in amount (owed_olds (node_at cluster home) past)) node event here course within
 
@@ -136,7 +137,8 @@ module _ (cluster : Cluster) (course : Course) (node : ℕ) (here : Option PostA
     with_add_amount message adds (body.Park join closure) is = omega arith
     with_add_amount message adds (body.Add other acts word addend) is =
         let both = amount_append amount adds (message ∷ []) in
-        let same : amount message ≡ one (adds_body number frame index message.sender (body.Add other acts word addend)) = ap (λ it. one (adds_body number frame index message.sender it)) is in
+        let same : amount message ≡ one (adds_body number frame index message.sender (body.Add other acts word addend)) =
+            ap (λ it. one (adds_body number frame index message.sender it)) is in
         omega (arith, both, same)
     with_add_amount message adds (body.Added old) is = omega arith
 
@@ -148,7 +150,8 @@ module _ (cluster : Cluster) (course : Course) (node : ℕ) (here : Option PostA
         let owed = with_add_amount message (owed_adds past) message.body refl in
         let letters = letter_taken cluster amount course node here message stepped takes in omega (arith, sum, owed, letters)
 
-    pub adds_ended : (end : NodeEnd) → under_way cluster (moved_by node (Ended end) here ∷ course) number frame index ≡ under_way cluster course number frame index
+    pub adds_ended : (end : NodeEnd) → under_way cluster (moved_by node (Ended end) here ∷ course) number frame index
+        ≡ under_way cluster course number frame index
     unfolding owed_adds
     adds_ended end = let sum = adds_sum amount (Ended end) in omega (arith, sum)
 
@@ -159,7 +162,8 @@ module _ (cluster : Cluster) (course : Course) (node : ℕ) (here : Option PostA
 
     -- the oldest that is owed is done
     pub adds_served : (add : Msg) (later : List Msg) (other : FrameId) (acts word : ℕ) (old addend : ℤ) → owed_adds past ≡ add ∷ later
-        → under_way cluster (moved_by node (Did (item.Served other acts word old addend)) here ∷ course) number frame index + amount add ≡ under_way cluster course number frame index
+        → under_way cluster (moved_by node (Did (item.Served other acts word old addend)) here ∷ course) number frame index + amount add
+            ≡ under_way cluster course number frame index
     unfolding owed_adds
     adds_served add later other acts word old addend oldest =
         let sum = adds_sum amount (Did (item.Served other acts word old addend)) in
@@ -208,12 +212,14 @@ module _ (cluster : Cluster) (course : Course) (node : ℕ) (here : Option PostA
         ap (λ b. amount_in told (cond b (rest_of (owed_olds (node_at cluster node) past)) (owed_olds (node_at cluster node) past))) other in
         let letters = letter_sent cluster told course node here message posts in omega (arith, sum, owed, letters, none)
 
-    pub olds_told : (message : Msg) (old : ℤ) → Posts course node here message → message.body ≡ body.Added old → Tells (node_at cluster node) past message.receiver old
+    pub olds_told : (message : Msg) (old : ℤ) → Posts course node here message → message.body ≡ body.Added old
+        → Tells (node_at cluster node) past message.receiver old
         → to_tell cluster (moved_by node (Sent message) here ∷ course) such number ≡ to_tell cluster course such number
     unfolding owed_olds
     olds_told message old posts is tells =
         let sum = olds_sum told (Sent message) in
-        let owed : amount_in told (cond (tells_in message.body) (rest_of (owed_olds (node_at cluster node) past)) (owed_olds (node_at cluster node) past)) ≡ amount_in told tells.later =
+        let owed : amount_in told (cond (tells_in message.body) (rest_of (owed_olds (node_at cluster node) past)) (owed_olds (node_at cluster node) past))
+            ≡ amount_in told tells.later =
         ap (λ b. amount_in told (cond b (rest_of (owed_olds (node_at cluster node) past)) (owed_olds (node_at cluster node) past))) (ap tells_in is)
         ∙ ap (λ it. amount_in told (rest_of it)) tells.oldest in
         let before : amount_in told (owed_olds (node_at cluster node) past) ≡ one (eqb message.receiver number && such old) + amount_in told tells.later =

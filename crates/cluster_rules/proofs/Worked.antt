@@ -49,7 +49,8 @@ small_cache_runs = record { alone = small_cache; two_nodes = small_caches }
 abbrev main_at : ℕ → List ℤ → ℕ → List Child → Closure
 main_at pc locals acts away = record {
   id = main_id;
-  frame = record { frame = record { running = record { pc = pc; locals = locals; operands = []; room = 2 }; callers = []; depth = 0; overflowed = false }; arguments = [] };
+  frame = record { frame =
+      record { running = record { pc = pc; locals = locals; operands = []; room = 2 }; callers = []; depth = 0; overflowed = false }; arguments = [] };
   acts = acts;
   link = Root;
   spawned = record { index = 0; target = None };
@@ -151,7 +152,8 @@ abbrev speaker_parks : Closure
 speaker_parks = main_at 21 [] 2 (child 0 None ∷ [])
 
 -- the kept value goes to no local
-speaker_goes : (answers : List Answer) → wants speakers speaker_parks.frame.frame answers ≡ wants speakers speaker_parks.frame.frame (at_sync ((None, pos 0) ∷ []) answers)
+speaker_goes : (answers : List Answer) → wants speakers speaker_parks.frame.frame answers
+    ≡ wants speakers speaker_parks.frame.frame (at_sync ((None, pos 0) ∷ []) answers)
 speaker_goes [] = refl
 speaker_goes (Value value ∷ answers) = refl
 speaker_goes (Done ∷ answers) = refl
