@@ -40,10 +40,12 @@ some_on : {A : Type 0} (b : Bool) (value other : A) → (if_so : Option A) → i
 some_on true value other if_so is some = let both : Some value ≡ Some other = sym is ∙ some in let same : value ≡ other = cc in (refl, same)
 some_on false value other if_so is some = let both : None ≡ Some other = sym is ∙ some in absurd (cc)
 
-pub write_in : (w : ℕ) (v : ℤ) (event : Event) → written w event ≡ Some v → (frame : FrameId) × (index : ℕ) × (event ≡ Did (item.Act frame index (act.Write w v)))
+pub write_in : (w : ℕ) (v : ℤ) (event : Event) → written w event ≡ Some v
+    → (frame : FrameId) × (index : ℕ) × (event ≡ Did (item.Act frame index (act.Write w v)))
 write_in w v (Did (item.Act frame index (act.Read word value))) is = absurd (cc)
 write_in w v (Did (item.Act frame index (act.Write word value))) is = let both = some_on (eqb word w) value v (cond (eqb word w) (Some value) None) refl is in
-    (frame, index, ap (λ it. Did (item.Act frame index (act.Write it value))) (same_number word w both.0) ∙ ap (λ it. Did (item.Act frame index (act.Write w it))) both.1)
+    (frame, index, ap (λ it. Did (item.Act frame index (act.Write it value))) (same_number word w both.0)
+        ∙ ap (λ it. Did (item.Act frame index (act.Write w it))) both.1)
 write_in w v (Did (item.Act frame index (act.Print value))) is = absurd (cc)
 write_in w v (Did (item.Act frame index (act.Spawn child procedure arguments))) is = absurd (cc)
 write_in w v (Did (item.Act frame index act.Sync)) is = absurd (cc)
@@ -58,22 +60,33 @@ write_in w v (Took message) is = absurd (cc)
 write_in w v (Ended end) is = absurd (cc)
 
 page_taken : (g : ℕ) (list : List ℤ) (message : Msg) (said : Body) → message.body ≡ said → brings g (Took message) ≡ Some list → message.body ≡ body.Page g list
-page_taken g list message (body.Fetch page) says is = let none : None ≡ Some list = subst (λ it. (brings g (Took (record message { body = it }))) ≡ Some list) says is in absurd (cc)
+page_taken g list message (body.Fetch page) says is =
+    let none : None ≡ Some list = subst (λ it. (brings g (Took (record message { body = it }))) ≡ Some list) says is in absurd (cc)
 page_taken g list message (body.Page page words) says is =
     let here : cond (eqb page g) (Some words) None ≡ Some list = subst (λ it. (brings g (Took (record message { body = it }))) ≡ Some list) says is in
     let both = some_on (eqb page g) words list (cond (eqb page g) (Some words) None) refl here in
     says ∙ ap (λ it. body.Page it words) (same_number page g both.0) ∙ ap (body.Page g) both.1
-page_taken g list message (body.Reconcile parts) says is = let none : None ≡ Some list = subst (λ it. (brings g (Took (record message { body = it }))) ≡ Some list) says is in absurd (cc)
-page_taken g list message body.Ack says is = let none : None ≡ Some list = subst (λ it. (brings g (Took (record message { body = it }))) ≡ Some list) says is in absurd (cc)
-page_taken g list message body.Ask says is = let none : None ≡ Some list = subst (λ it. (brings g (Took (record message { body = it }))) ≡ Some list) says is in absurd (cc)
-page_taken g list message (body.Grant closure) says is = let none : None ≡ Some list = subst (λ it. (brings g (Took (record message { body = it }))) ≡ Some list) says is in absurd (cc)
-page_taken g list message body.Refuse says is = let none : None ≡ Some list = subst (λ it. (brings g (Took (record message { body = it }))) ≡ Some list) says is in absurd (cc)
-page_taken g list message (body.Done join index value) says is = let none : None ≡ Some list = subst (λ it. (brings g (Took (record message { body = it }))) ≡ Some list) says is in absurd (cc)
-page_taken g list message (body.Park join closure) says is = let none : None ≡ Some list = subst (λ it. (brings g (Took (record message { body = it }))) ≡ Some list) says is in absurd (cc)
-page_taken g list message (body.Add frame index word addend) says is = let none : None ≡ Some list = subst (λ it. (brings g (Took (record message { body = it }))) ≡ Some list) says is in absurd (cc)
-page_taken g list message (body.Added old) says is = let none : None ≡ Some list = subst (λ it. (brings g (Took (record message { body = it }))) ≡ Some list) says is in absurd (cc)
+page_taken g list message (body.Reconcile parts) says is =
+    let none : None ≡ Some list = subst (λ it. (brings g (Took (record message { body = it }))) ≡ Some list) says is in absurd (cc)
+page_taken g list message body.Ack says is =
+    let none : None ≡ Some list = subst (λ it. (brings g (Took (record message { body = it }))) ≡ Some list) says is in absurd (cc)
+page_taken g list message body.Ask says is =
+    let none : None ≡ Some list = subst (λ it. (brings g (Took (record message { body = it }))) ≡ Some list) says is in absurd (cc)
+page_taken g list message (body.Grant closure) says is =
+    let none : None ≡ Some list = subst (λ it. (brings g (Took (record message { body = it }))) ≡ Some list) says is in absurd (cc)
+page_taken g list message body.Refuse says is =
+    let none : None ≡ Some list = subst (λ it. (brings g (Took (record message { body = it }))) ≡ Some list) says is in absurd (cc)
+page_taken g list message (body.Done join index value) says is =
+    let none : None ≡ Some list = subst (λ it. (brings g (Took (record message { body = it }))) ≡ Some list) says is in absurd (cc)
+page_taken g list message (body.Park join closure) says is =
+    let none : None ≡ Some list = subst (λ it. (brings g (Took (record message { body = it }))) ≡ Some list) says is in absurd (cc)
+page_taken g list message (body.Add frame index word addend) says is =
+    let none : None ≡ Some list = subst (λ it. (brings g (Took (record message { body = it }))) ≡ Some list) says is in absurd (cc)
+page_taken g list message (body.Added old) says is =
+    let none : None ≡ Some list = subst (λ it. (brings g (Took (record message { body = it }))) ≡ Some list) says is in absurd (cc)
 
-pub bring_in : (g : ℕ) (list : List ℤ) (event : Event) → brings g event ≡ Some list → ((message : Msg) × (event ≡ Took message) × (message.body ≡ body.Page g list)) ⊎ (event ≡ Did (item.OwnFetch g list))
+pub bring_in : (g : ℕ) (list : List ℤ) (event : Event) → brings g event ≡ Some list
+    → ((message : Msg) × (event ≡ Took message) × (message.body ≡ body.Page g list)) ⊎ (event ≡ Did (item.OwnFetch g list))
 bring_in g list (Did (item.Act frame index act)) is = absurd (cc)
 bring_in g list (Did (item.Tick frame)) is = absurd (cc)
 bring_in g list (Did (item.Drop page)) is = absurd (cc)
@@ -92,7 +105,8 @@ module _ (cluster : Cluster) (turns : List WholeTurn) (lawful : IsLawful cluster
   abbrev pub ev : ℕ → log.Event
   ev = events_of cluster (course_of turns)
 
-  pub found_of : (number position : ℕ) (event : Event) → (it : Happens (course_of turns) number position event) → Found cluster (course_of turns) position number (it.moved.message) event
+  pub found_of : (number position : ℕ) (event : Event) → (it : Happens (course_of turns) number position event)
+      → Found cluster (course_of turns) position number (it.moved.message) event
   found_of number position event it = record { moved = it.moved; is = it.is; by = it.by; place_is = refl; event_is = it.event_is }
 
   pub event_there : (number position : ℕ) (event : Event) → (it : Happens (course_of turns) number position event)
@@ -114,17 +128,21 @@ module _ (cluster : Cluster) (turns : List WholeTurn) (lawful : IsLawful cluster
   pub wrote_at : (p w i : ℕ) (v : ℤ) (event : Event) → Happens (course_of turns) p i event → written w event ≡ Some v → Wrote ev p w i v
   wrote_at p w i v event happens is =
       let it = write_in w v event is in
-      record { frame = it.0; is = event_there p i (Did (item.Act (it.0) (it.1) (act.Write w v))) (subst (λ it. Happens (course_of turns) p i it) (it.2) happens) }
+      record { frame =
+          it.0; is = event_there p i (Did (item.Act (it.0) (it.1) (act.Write w v))) (subst (λ it. Happens (course_of turns) p i it) (it.2) happens) }
 
   pub write_at : (p w i : ℕ) (event : Event) → Happens (course_of turns) p i event → writes w event ≡ true → IsWrite ev p w i
   write_at p w i event happens is = let some = gives_some (written w event) is in (some.0, wrote_at p w i (some.0) event happens some.1)
 
-  pub wrote_there : (p w i : ℕ) (v : ℤ) → Wrote ev p w i v → (frame : FrameId) × (index : ℕ) × Happens (course_of turns) p i (Did (item.Act frame index (act.Write w v)))
+  pub wrote_there : (p w i : ℕ) (v : ℤ) → Wrote ev p w i v
+      → (frame : FrameId) × (index : ℕ) × Happens (course_of turns) p i (Did (item.Act frame index (act.Write w v)))
   wrote_there p w i v wrote = on (acted_is cluster (course_of turns) i p (wrote.frame) (log.Write w v) (wrote.is))
     where
       on : Acted cluster (course_of turns) i p (wrote.frame) (log.Write w v) ⊎ Served cluster (course_of turns) i p (wrote.frame) (log.Write w v)
           → (frame : FrameId) × (index : ℕ) × Happens (course_of turns) p i (Did (item.Act frame index (act.Write w v)))
-      on (inl it) = (wrote.frame, it.index, subst (λ done. Happens (course_of turns) p i (Did (item.Act (wrote.frame) (it.index) done))) (write_is w v (it.act) (it.act_is)) (it.is))
+      on (inl it) =
+          (wrote.frame, it.index, subst (λ done. Happens (course_of turns) p i (Did (item.Act (wrote.frame) (it.index) done)))
+              (write_is w v (it.act) (it.act_is)) (it.is))
       on (inr it) = let no : log.Add (it.word) (it.old) (it.addend) ≡ log.Write w v = it.act_is in absurd (cc)
 
   pub written_own : (w : ℕ) (v : ℤ) (frame : FrameId) (index : ℕ) → written w (Did (item.Act frame index (act.Write w v))) ≡ Some v
@@ -135,32 +153,40 @@ module _ (cluster : Cluster) (turns : List WholeTurn) (lawful : IsLawful cluster
       let it = wrote_there p w i (wrote.0) (wrote.1) in
       (Did (item.Act (it.0) (it.1) (act.Write w (wrote.0))), it.2, ap is_some (written_own w (wrote.0) (it.0) (it.1)))
 
-  pub read_there : (p w i : ℕ) (v : ℤ) → HasRead ev p w i v → (frame : FrameId) × (index : ℕ) × Happens (course_of turns) p i (Did (item.Act frame index (act.Read w v)))
+  pub read_there : (p w i : ℕ) (v : ℤ) → HasRead ev p w i v
+      → (frame : FrameId) × (index : ℕ) × Happens (course_of turns) p i (Did (item.Act frame index (act.Read w v)))
   read_there p w i v read = on (acted_is cluster (course_of turns) i p (read.frame) (log.Read w v) (read.is))
     where
       on : Acted cluster (course_of turns) i p (read.frame) (log.Read w v) ⊎ Served cluster (course_of turns) i p (read.frame) (log.Read w v)
           → (frame : FrameId) × (index : ℕ) × Happens (course_of turns) p i (Did (item.Act frame index (act.Read w v)))
-      on (inl it) = (read.frame, it.index, subst (λ done. Happens (course_of turns) p i (Did (item.Act (read.frame) (it.index) done))) (read_is w v (it.act) (it.act_is)) (it.is))
+      on (inl it) =
+          (read.frame, it.index, subst (λ done. Happens (course_of turns) p i (Did (item.Act (read.frame) (it.index) done)))
+              (read_is w v (it.act) (it.act_is)) (it.is))
       on (inr it) = let no : log.Add (it.word) (it.old) (it.addend) ≡ log.Read w v = it.act_is in absurd (cc)
 
   -- arrivals
-  pub arrived_at : (p g i : ℕ) (list : List ℤ) (event : Event) → Happens (course_of turns) p i event → brings g event ≡ Some list → Arrives ev p g i (words_of cluster list)
+  pub arrived_at : (p g i : ℕ) (list : List ℤ) (event : Event) → Happens (course_of turns) p i event → brings g event ≡ Some list
+      → Arrives ev p g i (words_of cluster list)
   arrived_at p g i list event happens is = on (bring_in g list event is)
     where
-      on : ((message : Msg) × (event ≡ Took message) × (message.body ≡ body.Page g list)) ⊎ (event ≡ Did (item.OwnFetch g list)) → Arrives ev p g i (words_of cluster list)
+      on : ((message : Msg) × (event ≡ Took message) × (message.body ≡ body.Page g list)) ⊎ (event ≡ Did (item.OwnFetch g list))
+          → Arrives ev p g i (words_of cluster list)
       on (inl it) =
           let found : Found cluster (course_of turns) i p (happens.moved.message) (Took (it.0)) =
           record { moved = happens.moved; is = happens.is; by = happens.by; place_is = refl; event_is = happens.event_is ∙ it.1 } in
           let taking = taking_found cluster turns lawful p i (happens.moved.message) (it.0) found in
-          ByPage (taking.sender) (taken_from (before (course_of turns) i) (happens.moved.message)) (taken_event cluster turns lawful p i (happens.moved.message) (it.0) found)
+          ByPage (taking.sender) (taken_from (before (course_of turns) i) (happens.moved.message))
+              (taken_event cluster turns lawful p i (happens.moved.message) (it.0) found)
           (posted_event cluster turns lawful p (taken_from (before (course_of turns) i) (happens.moved.message)) i (it.0) taking
-          ∙ ap (λ said. log.Post (taking.sender) p (note_of cluster (taking.sender) (before (course_of turns) (taken_from (before (course_of turns) i) (happens.moved.message))) said)) (it.2))
+          ∙ ap (λ said. log.Post (taking.sender) p
+              (note_of cluster (taking.sender) (before (course_of turns) (taken_from (before (course_of turns) i) (happens.moved.message))) said)) (it.2))
       on (inr same) = ByOwn (event_there p i (Did (item.OwnFetch g list)) (subst (λ one. Happens (course_of turns) p i one) same happens))
 
   pub arrival_at : (p g i : ℕ) (event : Event) → Happens (course_of turns) p i event → arrives g event ≡ true → IsArrival ev p g i
   arrival_at p g i event happens is = let some = gives_some (brings g event) is in (words_of cluster (some.0), arrived_at p g i (some.0) event happens some.1)
 
-  pub arrived_there : (p g i : ℕ) (words : ℕ → ℤ) → Arrives ev p g i words → (list : List ℤ) × (event : Event) × Happens (course_of turns) p i event × (brings g event ≡ Some list) × (words ≡ words_of cluster list)
+  pub arrived_there : (p g i : ℕ) (words : ℕ → ℤ) → Arrives ev p g i words
+      → (list : List ℤ) × (event : Event) × Happens (course_of turns) p i event × (brings g event ≡ Some list) × (words ≡ words_of cluster list)
   arrived_there p g i words (ByOwn is) =
       let it = loaded_is cluster (course_of turns) i p g words is in (it.0, Did (item.OwnFetch g (it.0)), it.1, rw (own_number g) refl, it.2)
   arrived_there p g i words (ByPage home post took posted) =
@@ -169,7 +195,8 @@ module _ (cluster : Cluster) (turns : List WholeTurn) (lawful : IsLawful cluster
       let same = same_message cluster turns lawful (it.0) (source.1) (it.1.sender) home post (Some (it.1.place)) (source.0) (it.1.posted) (source.2) in
       let said = page_is cluster home (before (course_of turns) post) g words (source.1.body) (source.4) in
       let body_is : it.0.body ≡ body.Page g (said.0) = ap (λ message. message.body) (same.0) ∙ said.1 in
-      (said.0, Took (it.0), happens cluster (course_of turns) i p (Some (it.1.place)) (Took (it.0)) (it.1.taken), brought (it.0) (said.0) (it.0.body) refl body_is, said.2)
+      (said.0, Took (it.0), happens cluster (course_of turns) i p (Some (it.1.place)) (Took (it.0)) (it.1.taken),
+          brought (it.0) (said.0) (it.0.body) refl body_is, said.2)
     where
       brought : (message : Msg) (list : List ℤ) (said : Body) → message.body ≡ said → said ≡ body.Page g list → brings g (Took message) ≡ Some list
       brought message list said says is = rw (says ∙ is, own_number g) refl

@@ -38,7 +38,8 @@ serving_item home (item.OwnFetch page words) = inr (λ f i w o d is. absurd (cc)
 serving_item home (item.OwnReconcile part) = inr (λ f i w o d is. absurd (cc))
 serving_item home (item.Served frame index word old addend) = inl (frame, index, word, old, addend, refl)
 
-adds_left : (done : Item) (adds : List Msg) → ((frame : FrameId) (index word : ℕ) (old addend : ℤ) → done ≡ item.Served frame index word old addend → ⊥) → after_served done adds ≡ adds
+adds_left : (done : Item) (adds : List Msg) → ((frame : FrameId) (index word : ℕ) (old addend : ℤ) → done ≡ item.Served frame index word old addend → ⊥)
+    → after_served done adds ≡ adds
 adds_left (item.Act frame index act) adds none = refl
 adds_left (item.Tick frame) adds none = refl
 adds_left (item.Drop page) adds none = refl
@@ -47,7 +48,8 @@ adds_left (item.OwnFetch page words) adds none = refl
 adds_left (item.OwnReconcile part) adds none = refl
 adds_left (item.Served frame index word old addend) adds none = absurd (none frame index word old addend refl)
 
-olds_left : (node : Node) (done : Item) (adds : List Msg) → ((frame : FrameId) (index word : ℕ) (old addend : ℤ) → done ≡ item.Served frame index word old addend → ⊥) → told_by node done adds ≡ []
+olds_left : (node : Node) (done : Item) (adds : List Msg)
+    → ((frame : FrameId) (index word : ℕ) (old addend : ℤ) → done ≡ item.Served frame index word old addend → ⊥) → told_by node done adds ≡ []
 olds_left node (item.Act frame index act) adds none = refl
 olds_left node (item.Tick frame) adds none = refl
 olds_left node (item.Drop page) adds none = refl
@@ -86,7 +88,8 @@ module _ (cluster : Cluster) (turns : List WholeTurn) (lawful : IsLawful cluster
   pub add_other : (add : Msg) (taking : ℕ) → AddTaken add taking → add.sender ≢ home
   add_other add taking it =
       let posted = it.taken.posted in
-      let happens : Happens course (it.taken.sender) (it.post) (Sent add) = record { moved = posted.moved; is = posted.is; by = posted.by; event_is = posted.event_is } in
+      let happens : Happens course (it.taken.sender) (it.post) (Sent add) =
+          record { moved = posted.moved; is = posted.is; by = posted.by; event_is = posted.event_is } in
       let may = add_allowed cluster turns lawful (it.taken.sender) (it.post) add (it.frame) (it.index) (it.word) (it.addend) happens (it.asked) in
       λ same. may.other (it.taken.to ∙ sym same ∙ sent_by cluster turns lawful (it.taken.sender) (it.post) add happens)
 
@@ -106,9 +109,11 @@ module _ (cluster : Cluster) (turns : List WholeTurn) (lawful : IsLawful cluster
   AddsMatched position = Matched AddTaken (adds position) (queue push_add pop_add position)
 
   -- an item of another node serves no add of this home
-  served_elsewhere : (position : ℕ) (moved : Moved) → at course position ≡ Some moved → eqb moved.node home ≡ false → (event : Event) → moved.event ≡ event → serves (memory_of cluster) home (events position) ≡ false
+  served_elsewhere : (position : ℕ) (moved : Moved) → at course position ≡ Some moved → eqb moved.node home ≡ false → (event : Event) → moved.event ≡ event
+      → serves (memory_of cluster) home (events position) ≡ false
   served_elsewhere position moved found other event is =
-      ap (serves (memory_of cluster) home) (event_of_moved cluster turns lawful home position moved found ∙ ap (happens_to cluster (before course position) moved.node moved.message) is) ∙ by_event event is
+      ap (serves (memory_of cluster) home) (event_of_moved cluster turns lawful home position moved found
+          ∙ ap (happens_to cluster (before course position) moved.node moved.message) is) ∙ by_event event is
     where
       by_item : (done : Item) → moved.event ≡ Did done
           → ((frame : FrameId) × (index word : ℕ) × (old addend : ℤ) × (done ≡ item.Served frame index word old addend))
@@ -122,14 +127,16 @@ module _ (cluster : Cluster) (turns : List WholeTurn) (lawful : IsLawful cluster
           ap (λ it. serves (memory_of cluster) home (item_of cluster moved.node (own moved.node (before course position)) it)) (served.5) ∙ rw not refl
       by_item done is (inr none) = served_here cluster home moved.node (own moved.node (before course position)) done none
 
-      by_event : (event : Event) → moved.event ≡ event → serves (memory_of cluster) home (happens_to cluster (before course position) moved.node moved.message event) ≡ false
+      by_event : (event : Event) → moved.event ≡ event
+          → serves (memory_of cluster) home (happens_to cluster (before course position) moved.node moved.message event) ≡ false
       by_event (Did done) is = by_item done is (serving_item home done)
       by_event (Sent message) is = refl
       by_event (Took message) is = refl
       by_event (Ended end) is = refl
 
   -- an item of the home serves an add of another node where one is owed
-  pub served_at_home : (position : ℕ) (frame : FrameId) (index word : ℕ) (old addend : ℤ) → Happens course home position (Did (item.Served frame index word old addend))
+  pub served_at_home : (position : ℕ) (frame : FrameId) (index word : ℕ) (old addend : ℤ)
+      → Happens course home position (Did (item.Served frame index word old addend))
       → serves (memory_of cluster) home (events position) ≡ serves_other home (owed_adds (own home (before course position)))
   served_at_home position frame index word old addend happens =
       let at_home = home_served cluster turns lawful home position frame index word old addend happens in
@@ -142,10 +149,12 @@ module _ (cluster : Cluster) (turns : List WholeTurn) (lawful : IsLawful cluster
   owed_other : (add : Msg) (later : List Msg) → add.sender ≢ home → serves_other home (add ∷ later) ≡ true
   owed_other add later other = let not : eqb (add.sender) home ≡ false = grind (arith, nat_tests) in rw not refl
 
-  head_taken : (position : ℕ) (add : Msg) (later : List Msg) → adds position ≡ add ∷ later → AddsMatched position → (taking : ℕ) × Head push_add pop_add position taking × AddTaken add taking
+  head_taken : (position : ℕ) (add : Msg) (later : List Msg) → adds position ≡ add ∷ later → AddsMatched position
+      → (taking : ℕ) × Head push_add pop_add position taking × AddTaken add taking
   head_taken position add later is matched = head_of AddTaken push_add pop_add adds position (adds position) add later matched is
 
-  add_took : (position : ℕ) (moved : Moved) (message : Msg) → at course position ≡ Some moved → moved.node ≡ home → moved.event ≡ Took message → AddStep position
+  add_took : (position : ℕ) (moved : Moved) (message : Msg) → at course position ≡ Some moved → moved.node ≡ home → moved.event ≡ Took message
+      → AddStep position
   unfolding owed_adds
   add_took position moved message found by is = on (message.body) refl
     where
@@ -159,7 +168,9 @@ module _ (cluster : Cluster) (turns : List WholeTurn) (lawful : IsLawful cluster
       event_is = event_here cluster turns lawful home position moved (Took message) found by is
 
       asked : push_add position ≡ adds_in_body message.body
-      asked = rw (event_is, posted_event cluster turns lawful home post position message it, same_number home) (add_same cluster (it.sender) home (before course post) message.body)
+      asked =
+          rw (event_is, posted_event cluster turns lawful home post position message it, same_number home)
+              (add_same cluster (it.sender) home (before course post) message.body)
 
       no_pop : pop_add position ≡ false
       no_pop = rw event_is refl
@@ -168,7 +179,8 @@ module _ (cluster : Cluster) (turns : List WholeTurn) (lawful : IsLawful cluster
       grown = ap owed_adds (past_next cluster turns lawful home position moved found by ∙ ap (λ event. event ∷ own home (first position course)) is)
 
       kept : (said : Body) → message.body ≡ said → adds_in_body said ≡ false → with_add said message (adds position) ≡ adds position → AddStep position
-      kept said says not_asked same = Kept no_pop (asked ∙ ap adds_in_body says ∙ not_asked) (grown ∙ ap (λ said. with_add said message (adds position)) says ∙ same)
+      kept said says not_asked same =
+          Kept no_pop (asked ∙ ap adds_in_body says ∙ not_asked) (grown ∙ ap (λ said. with_add said message (adds position)) says ∙ same)
 
       on : (said : Body) → message.body ≡ said → AddStep position
       on (body.Fetch page) says = kept (body.Fetch page) says refl refl
@@ -185,7 +197,8 @@ module _ (cluster : Cluster) (turns : List WholeTurn) (lawful : IsLawful cluster
           (record { post = post; frame = frame; index = index; word = word; addend = addend; taken = it; asked = says })
       on (body.Added old) says = kept (body.Added old) says refl refl
 
-  add_did : (position : ℕ) (moved : Moved) (done : Item) → at course position ≡ Some moved → moved.node ≡ home → moved.event ≡ Did done → AddsMatched position → AddStep position
+  add_did : (position : ℕ) (moved : Moved) (done : Item) → at course position ≡ Some moved → moved.node ≡ home → moved.event ≡ Did done → AddsMatched position
+      → AddStep position
   unfolding owed_adds
   add_did position moved done found by is before_matched = on (serving_item home done)
     where
@@ -196,24 +209,31 @@ module _ (cluster : Cluster) (turns : List WholeTurn) (lawful : IsLawful cluster
       event_is = event_here cluster turns lawful home position moved (Did done) found by is
 
       no_push : push_add position ≡ false
-      no_push = subst (λ event. takes_add events home event ≡ false) (sym event_is) ((item_no_message cluster home home events (own home (before course position)) done).no_add)
+      no_push =
+          subst (λ event. takes_add events home event ≡ false) (sym event_is)
+              ((item_no_message cluster home home events (own home (before course position)) done).no_add)
 
-      by_adds : (frame : FrameId) (index word : ℕ) (old addend : ℤ) → done ≡ item.Served frame index word old addend → (owed : List Msg) → adds position ≡ owed → AddStep position
+      by_adds : (frame : FrameId) (index word : ℕ) (old addend : ℤ) → done ≡ item.Served frame index word old addend → (owed : List Msg) → adds position ≡ owed
+          → AddStep position
       by_adds frame index word old addend served [] none =
-          let popped = served_at_home position frame index word old addend (here cluster turns lawful home position moved (Did (item.Served frame index word old addend)) found by (is ∙ ap Did served)) in
+          let popped = served_at_home position frame index word old addend
+              (here cluster turns lawful home position moved (Did (item.Served frame index word old addend)) found by (is ∙ ap Did served)) in
           Kept (popped ∙ ap (serves_other home) (sym (ap owed_adds (past_now cluster turns lawful home position moved found)) ∙ none) ∙ own_add) no_push
           (next ∙ ap (λ it. after_served it (adds position)) served ∙ ap walking.rest_of none ∙ sym none)
       by_adds frame index word old addend served (add ∷ later) some =
-          let popped = served_at_home position frame index word old addend (here cluster turns lawful home position moved (Did (item.Served frame index word old addend)) found by (is ∙ ap Did served)) in
+          let popped = served_at_home position frame index word old addend
+              (here cluster turns lawful home position moved (Did (item.Served frame index word old addend)) found by (is ∙ ap Did served)) in
           let taken = head_taken position add later some before_matched in
-          Popped (popped ∙ ap (serves_other home) (sym (ap owed_adds (past_now cluster turns lawful home position moved found)) ∙ some) ∙ owed_other add later (add_other add (taken.0) (taken.2)))
+          Popped (popped ∙ ap (serves_other home) (sym (ap owed_adds (past_now cluster turns lawful home position moved found)) ∙ some)
+              ∙ owed_other add later (add_other add (taken.0) (taken.2)))
           (next ∙ ap (λ it. after_served it (adds position)) served)
 
       on : ((frame : FrameId) × (index word : ℕ) × (old addend : ℤ) × (done ≡ item.Served frame index word old addend))
           ⊎ ((frame : FrameId) (index word : ℕ) (old addend : ℤ) → done ≡ item.Served frame index word old addend → ⊥) → AddStep position
       on (inl served) = by_adds (served.0) (served.1) (served.2) (served.3) (served.4) (served.5) (adds position) refl
       on (inr none) =
-          Kept (ap (serves (memory_of cluster) home) event_is ∙ served_here cluster home home (own home (before course position)) done none) no_push (next ∙ adds_left done (adds position) none)
+          Kept (ap (serves (memory_of cluster) home) event_is ∙ served_here cluster home home (own home (before course position)) done none) no_push
+              (next ∙ adds_left done (adds position) none)
 
   no_add_push : (event : log.Event) (position : ℕ) → events position ≡ event → takes_add events home event ≡ false → push_add position ≡ false
   no_add_push event position is none = ap (takes_add events home) is ∙ none
@@ -241,7 +261,8 @@ module _ (cluster : Cluster) (turns : List WholeTurn) (lawful : IsLawful cluster
       whose moved found true by = mine moved found (grind (arith, nat_tests)) moved.event refl
       whose moved found false other =
           Kept (served_elsewhere position moved found other moved.event refl)
-          (ap (takes_add events home) (event_of_moved cluster turns lawful home position moved found) ∙ (other_no_message cluster home moved.node events (before course position) moved.message moved.event other).no_add)
+          (ap (takes_add events home) (event_of_moved cluster turns lawful home position moved found)
+              ∙ (other_no_message cluster home moved.node events (before course position) moved.message moved.event other).no_add)
           (ap owed_adds (past_other cluster turns lawful home position moved found other))
 
       on : (option : Option Moved) → at course position ≡ option → AddStep position
@@ -255,7 +276,8 @@ module _ (cluster : Cluster) (turns : List WholeTurn) (lawful : IsLawful cluster
   adds_matched position = matched AddTaken push_add pop_add adds (ap (λ course. owed_adds (own home course)) (first_none course)) add_step position
 
   -- The oldest Add that the home owes is the one that it took at this position.
-  pub add_for : (position : ℕ) (moved : Moved) → at course position ≡ Some moved → (add : Msg) (later : List Msg) → owed_adds (own home (before course position)) ≡ add ∷ later
+  pub add_for : (position : ℕ) (moved : Moved) → at course position ≡ Some moved → (add : Msg) (later : List Msg)
+      → owed_adds (own home (before course position)) ≡ add ∷ later
       → (taking : ℕ) × Serves events (memory_of cluster) home position taking × AddTaken add taking
   add_for position moved found add later is =
       head_taken position add later (ap owed_adds (past_now cluster turns lawful home position moved found) ∙ is) (adds_matched position)
@@ -301,13 +323,16 @@ module _ (cluster : Cluster) (turns : List WholeTurn) (lawful : IsLawful cluster
       adds_now : adds position ≡ owed_adds (own home (before course position))
       adds_now = ap owed_adds (past_now cluster turns lawful home position moved found)
 
-      by_adds : (frame : FrameId) (index word : ℕ) (old addend : ℤ) → done ≡ item.Served frame index word old addend → (owed : List Msg) → adds position ≡ owed → OldStep position
+      by_adds : (frame : FrameId) (index word : ℕ) (old addend : ℤ) → done ≡ item.Served frame index word old addend → (owed : List Msg) → adds position ≡ owed
+          → OldStep position
       by_adds frame index word old addend served [] none =
-          let pushed = served_at_home position frame index word old addend (here cluster turns lawful home position moved (Did (item.Served frame index word old addend)) found by (is ∙ ap Did served)) in
+          let pushed = served_at_home position frame index word old addend
+              (here cluster turns lawful home position moved (Did (item.Served frame index word old addend)) found by (is ∙ ap Did served)) in
           Kept no_pop (pushed ∙ ap (serves_other home) (sym adds_now ∙ none) ∙ own_add)
           (next ∙ ap (λ it. olds position ++ told_by node done it) none ∙ ap (λ it. olds position ++ told_by node it []) served ∙ append-nil (olds position))
       by_adds frame index word old addend served (add ∷ later) some =
-          let pushed = served_at_home position frame index word old addend (here cluster turns lawful home position moved (Did (item.Served frame index word old addend)) found by (is ∙ ap Did served)) in
+          let pushed = served_at_home position frame index word old addend
+              (here cluster turns lawful home position moved (Did (item.Served frame index word old addend)) found by (is ∙ ap Did served)) in
           let taken = head_taken position add later some (adds_matched position) in
           Pushed (from_me node (add.sender) (body.Added old)) no_pop
           (pushed ∙ ap (serves_other home) (sym adds_now ∙ some) ∙ owed_other add later (add_other add (taken.0) (taken.2)))
@@ -322,7 +347,9 @@ module _ (cluster : Cluster) (turns : List WholeTurn) (lawful : IsLawful cluster
             addend = addend;
             done = here cluster turns lawful home position moved (Did (item.Served frame index word old addend)) found by (is ∙ ap Did served);
             oldest = sym adds_now ∙ some;
-            served = event_is ∙ ap (item_of cluster home (own home (before course position))) served ∙ ap (λ it. log.Acts (served_for home it) frame (log.Add word old addend)) (sym adds_now ∙ some);
+            served =
+                event_is ∙ ap (item_of cluster home (own home (before course position))) served
+                    ∙ ap (λ it. log.Acts (served_for home it) frame (log.Add word old addend)) (sym adds_now ∙ some);
             due_is = refl;
           })
 
@@ -333,7 +360,8 @@ module _ (cluster : Cluster) (turns : List WholeTurn) (lawful : IsLawful cluster
           Kept no_pop (ap (serves (memory_of cluster) home) event_is ∙ served_here cluster home home (own home (before course position)) done none)
           (next ∙ ap (λ it. olds position ++ it) (olds_left node done (adds position) none) ∙ append-nil (olds position))
 
-  old_sent : (position : ℕ) (moved : Moved) (message : Msg) → at course position ≡ Some moved → moved.node ≡ home → moved.event ≡ Sent message → OldStep position
+  old_sent : (position : ℕ) (moved : Moved) (message : Msg) → at course position ≡ Some moved → moved.node ≡ home → moved.event ≡ Sent message
+      → OldStep position
   unfolding owed_olds
   old_sent position moved message found by is = on (tells_in message.body) refl
     where
@@ -347,8 +375,12 @@ module _ (cluster : Cluster) (turns : List WholeTurn) (lawful : IsLawful cluster
       next = ap (owed_olds node) (past_next cluster turns lawful home position moved found by ∙ ap (λ event. event ∷ own home (first position course)) is)
 
       on : (b : Bool) → tells_in message.body ≡ b → OldStep position
-      on true tells = Popped (popped ∙ ap (λ it. it && eqb home home) tells ∙ same_number home) (next ∙ ap (λ b. cond b (walking.rest_of (olds position)) (olds position)) tells)
-      on false none = Kept (popped ∙ ap (λ it. it && eqb home home) none) (no_add_pop _ position event_is refl) (next ∙ ap (λ b. cond b (walking.rest_of (olds position)) (olds position)) none)
+      on true tells =
+          Popped (popped ∙ ap (λ it. it && eqb home home) tells ∙ same_number home)
+              (next ∙ ap (λ b. cond b (walking.rest_of (olds position)) (olds position)) tells)
+      on false none =
+          Kept (popped ∙ ap (λ it. it && eqb home home) none) (no_add_pop _ position event_is refl)
+              (next ∙ ap (λ b. cond b (walking.rest_of (olds position)) (olds position)) none)
 
   old_step : (position : ℕ) → Matched OldOf (olds position) (queue pop_add pop_old position) → OldStep position
   unfolding owed_olds
@@ -369,7 +401,8 @@ module _ (cluster : Cluster) (turns : List WholeTurn) (lawful : IsLawful cluster
       whose : (moved : Moved) → at course position ≡ Some moved → (b : Bool) → eqb moved.node home ≡ b → OldStep position
       whose moved found true by = mine moved found (grind (arith, nat_tests)) moved.event refl
       whose moved found false other =
-          Kept (ap (gives_added home) (event_of_moved cluster turns lawful home position moved found) ∙ (other_no_message cluster home moved.node events (before course position) moved.message moved.event other).no_added)
+          Kept (ap (gives_added home) (event_of_moved cluster turns lawful home position moved found)
+              ∙ (other_no_message cluster home moved.node events (before course position) moved.message moved.event other).no_added)
           (served_elsewhere position moved found other moved.event refl)
           (ap (owed_olds node) (past_other cluster turns lawful home position moved found other))
 
@@ -386,5 +419,6 @@ module _ (cluster : Cluster) (turns : List WholeTurn) (lawful : IsLawful cluster
   old_for position message old happens is =
       let may = added_allowed cluster turns lawful home position message old happens is in
       let all = matched OldOf pop_add pop_old olds (ap (λ course. owed_olds node (own home course)) (first_none course)) old_step position in
-      let same : olds position ≡ from_me node message.receiver (body.Added old) ∷ may.later = ap (owed_olds node) (past_now cluster turns lawful home position (happens.moved) (happens.is)) ∙ may.oldest in
+      let same : olds position ≡ from_me node message.receiver (body.Added old) ∷ may.later =
+          ap (owed_olds node) (past_now cluster turns lawful home position (happens.moved) (happens.is)) ∙ may.oldest in
       head_of OldOf pop_add pop_old olds position (olds position) (from_me node message.receiver (body.Added old)) (may.later) all same

@@ -40,18 +40,23 @@ pub record Somewhere (course : Course) (number : ℕ) (such : Event → Bool) (s
   pub by : moved.node ≡ number
   pub such_is : such moved.event ≡ true
 
-pub some_later : (number : ℕ) (such : Event → Bool) (later rest : Course) → list_any such (own number later) ≡ true → Somewhere (later ++ rest) number such (length rest)
+pub some_later : (number : ℕ) (such : Event → Bool) (later rest : Course) → list_any such (own number later) ≡ true
+    → Somewhere (later ++ rest) number such (length rest)
 some_later number such [] rest any = absurd (cc)
 some_later number such (first ∷ later) rest any = on (eqb first.node number) refl any (some_later number such later rest)
   where
     more : Somewhere (later ++ rest) number such (length rest) → Somewhere (first ∷ (later ++ rest)) number such (length rest)
-    more it = record { position = it.position; moved = it.moved; behind = it.behind; is = at_behind (first ∷ []) (later ++ rest) (it.position) (within (later ++ rest) (it.position) (it.moved) (it.is)) ∙ it.is; by = it.by; such_is = it.such_is }
+    more it =
+        record { position = it.position; moved = it.moved; behind = it.behind; is = at_behind (first ∷ []) (later ++ rest) (it.position)
+            (within (later ++ rest) (it.position) (it.moved) (it.is)) ∙ it.is; by = it.by; such_is = it.such_is }
 
-    now : (b : Bool) → such first.event ≡ b → eqb first.node number ≡ true → b || list_any such (own number later) ≡ true → (list_any such (own number later) ≡ true → Somewhere (later ++ rest) number such (length rest))
+    now : (b : Bool) → such first.event ≡ b → eqb first.node number ≡ true → b || list_any such (own number later) ≡ true
+        → (list_any such (own number later) ≡ true → Somewhere (later ++ rest) number such (length rest))
         → Somewhere (first ∷ (later ++ rest)) number such (length rest)
     now true is mine any before =
         let count = length_sum later rest in
-        record { position = length (later ++ rest); moved = first; behind = omega (arith, count); is = at_last first (later ++ rest); by = grind (arith, nat_tests); such_is = is }
+        record { position = length (later ++ rest); moved = first; behind = omega (arith, count); is = at_last first (later ++ rest);
+            by = grind (arith, nat_tests); such_is = is }
       where
         length_sum : (front back : Course) → length back ≤ length (front ++ back)
         length_sum [] back = omega (arith)
@@ -59,17 +64,20 @@ some_later number such (first ∷ later) rest any = on (eqb first.node number) r
     now false is mine any before = more (before any)
 
     on : (b : Bool) → eqb first.node number ≡ b → list_any such (cond b (first.event ∷ own number later) (own number later)) ≡ true
-        → (list_any such (own number later) ≡ true → Somewhere (later ++ rest) number such (length rest)) → Somewhere (first ∷ (later ++ rest)) number such (length rest)
+        → (list_any such (own number later) ≡ true → Somewhere (later ++ rest) number such (length rest))
+        → Somewhere (first ∷ (later ++ rest)) number such (length rest)
     on true mine any before = now (such first.event) refl mine any before
     on false other any before = more (before any)
 
 -- ---- what begins and ends a wait
 
-pub any_waits : (wait : Wait) (newer : Past) (event : Event) (older : Past) → list_any (ends wait) newer ≡ false → ends wait event ≡ false → begins wait event ≡ true → awaits wait (newer ++ event ∷ older) ≡ true
+pub any_waits : (wait : Wait) (newer : Past) (event : Event) (older : Past) → list_any (ends wait) newer ≡ false → ends wait event ≡ false
+    → begins wait event ≡ true → awaits wait (newer ++ event ∷ older) ≡ true
 any_waits wait [] event older none not is = rw (not, is) refl
 any_waits wait (first ∷ newer) event older none not is = on (ends wait first) refl none (any_waits wait newer event older)
   where
-    any_or : (b : Bool) → list_any (begins wait) (since (ends wait) (newer ++ event ∷ older)) ≡ true → b || list_any (begins wait) (since (ends wait) (newer ++ event ∷ older)) ≡ true
+    any_or : (b : Bool) → list_any (begins wait) (since (ends wait) (newer ++ event ∷ older)) ≡ true
+        → b || list_any (begins wait) (since (ends wait) (newer ++ event ∷ older)) ≡ true
     any_or true any = refl
     any_or false any = any
 
@@ -188,14 +196,16 @@ module _ (cluster : Cluster) (turns : List WholeTurn) (lawful : IsLawful cluster
     pub is : Happens course number position (Took message)
     pub tells : answers wait message ≡ true
 
-  pub ended_by : (number : ℕ) (wait : Wait) (position : ℕ) (event : Event) → Happens course number position event → ends wait event ≡ true → Answer number wait position
+  pub ended_by : (number : ℕ) (wait : Wait) (position : ℕ) (event : Event) → Happens course number position event → ends wait event ≡ true
+      → Answer number wait position
   ended_by number wait position (Did done) happens is = absurd (cc)
   ended_by number wait position (Sent message) happens is = absurd (cc)
   ended_by number wait position (Took message) happens is = record { message = message; is = happens; tells = is }
   ended_by number wait position (Ended end) happens is = absurd (cc)
 
   -- where a node does not wait, what it asked was answered since
-  pub answer_between : (number : ℕ) (wait : Wait) (position : ℕ) (moved : Moved) → at course position ≡ Some moved → awaits wait (own number (before course position)) ≡ false
+  pub answer_between : (number : ℕ) (wait : Wait) (position : ℕ) (moved : Moved) → at course position ≡ Some moved
+      → awaits wait (own number (before course position)) ≡ false
       → (request : ℕ) → Request number wait request → request < position → (answer : ℕ) × (request < answer) × (answer < position) × Answer number wait answer
   answer_between number wait position moved found quiet request asked less = on (list_any (ends wait) (it.0)) refl
     where
@@ -212,7 +222,8 @@ module _ (cluster : Cluster) (turns : List WholeTurn) (lawful : IsLawful cluster
       on false none =
           let parts = past_parts number front (it.0) (Sent (asked.message)) (own number (before front request)) request (it.1) in
           let waits : awaits wait (own number front) ≡ true =
-          ap (awaits wait) parts ∙ any_waits wait (it.0) (Sent (asked.message)) (own number (before front request)) none (no_end wait (asked.message)) (asked.asks) in
+          ap (awaits wait) parts ∙ any_waits wait (it.0) (Sent (asked.message)) (own number (before front request)) none (no_end wait (asked.message))
+              (asked.asks) in
           absurd (cc)
       on true some =
           let rest = it.1.moved ∷ before front request in
@@ -220,11 +231,13 @@ module _ (cluster : Cluster) (turns : List WholeTurn) (lawful : IsLawful cluster
           let any : list_any (ends wait) (own number (it.1.later)) ≡ true = ap (list_any (ends wait)) (it.1.newer_is) ∙ some in
           let somewhere = some_later number (ends wait) (it.1.later) rest any in
           let there : at front (somewhere.position) ≡ Some (somewhere.moved) = ap (λ all. at all (somewhere.position)) (it.1.parts) ∙ somewhere.is in
-          let happened = happened_before course position moved found number (somewhere.position) (somewhere.moved.event) (record { moved = somewhere.moved; is = there; by = somewhere.by; event_is = refl }) in
+          let happened = happened_before course position moved found number (somewhere.position) (somewhere.moved.event)
+              (record { moved = somewhere.moved; is = there; by = somewhere.by; event_is = refl }) in
           let inside = within front (somewhere.position) (somewhere.moved) there in
           let all = length_before course position moved found in
           let start = somewhere.behind in
-          (somewhere.position, omega (arith, start, count), omega (arith, inside, all), ended_by number wait (somewhere.position) (somewhere.moved.event) happened (somewhere.such_is))
+          (somewhere.position, omega (arith, start, count), omega (arith, inside, all),
+              ended_by number wait (somewhere.position) (somewhere.moved.event) happened (somewhere.such_is))
 
   -- a node asks where it does not wait for such an answer
   pub quiet_request : (number : ℕ) (wait : Wait) (position : ℕ) → Request number wait position → awaits wait (own number (before course position)) ≡ false
@@ -273,7 +286,8 @@ module _ (cluster : Cluster) (turns : List WholeTurn) (lawful : IsLawful cluster
   abbrev Due : ℕ → Wait → ℕ → Type 0
   Due number wait position = (post : ℕ) × Request number wait post × (post < position) × Told number wait post position
 
-  happens_of : (position number : ℕ) (place : Option PostAt) (event : Event) → Found cluster course position number place event → Happens course number position event
+  happens_of : (position number : ℕ) (place : Option PostAt) (event : Event) → Found cluster course position number place event
+      → Happens course number position event
   happens_of position number place event it = happens cluster course position number place event it
 
   -- what a taken message was posted at, as the place says
@@ -289,16 +303,20 @@ module _ (cluster : Cluster) (turns : List WholeTurn) (lawful : IsLawful cluster
         it = taking_found cluster turns lawful number position (happens.moved.message) message found;
       }
 
-  poster : (number post position : ℕ) (message : Msg) → (it : Taking cluster turns lawful number post position message) → Happens course (it.sender) post (Sent message)
+  poster : (number post position : ℕ) (message : Msg) → (it : Taking cluster turns lawful number post position message)
+      → Happens course (it.sender) post (Sent message)
   poster number post position message it = happens_of post (it.sender) (Some (it.place)) (Sent message) (it.posted)
 
   -- a Page or an Ack
-  reply_due : (number position : ℕ) (answer : Msg) (came : Came number position answer) (post taking : ℕ) (message : Msg) (asked : Taking cluster turns lawful (came.it.sender) post taking message)
-      → replies_in answer.body ≡ true → Answers events (came.it.sender) (came.post) taking → answer.receiver ≡ message.sender → (message.sender ≡ number) × (asked.sender ≡ number) × (post < position) × RepliedAt number post position
+  reply_due : (number position : ℕ) (answer : Msg) (came : Came number position answer) (post taking : ℕ) (message : Msg)
+      (asked : Taking cluster turns lawful (came.it.sender) post taking message)
+      → replies_in answer.body ≡ true → Answers events (came.it.sender) (came.post) taking → answer.receiver ≡ message.sender
+      → (message.sender ≡ number) × (asked.sender ≡ number) × (post < position) × RepliedAt number post position
   reply_due number position answer came post taking message asked replies answering to =
       let home = came.it.sender in
       let sender_is : message.sender ≡ number = sym to ∙ came.it.to in
-      let asked_by : asked.sender ≡ number = sym (sent_by cluster turns lawful (asked.sender) post message (poster home post taking message asked)) ∙ sender_is in
+      let asked_by : asked.sender ≡ number =
+          sym (sent_by cluster turns lawful (asked.sender) post message (poster home post taking message asked)) ∙ sender_is in
       let earlier = owed.head-before (λ at. takes_request events home (events at)) (λ at. gives_reply home (events at)) (came.post) taking answering in
       let first = asked.before in
       let second = came.it.before in (
@@ -331,7 +349,8 @@ module _ (cluster : Cluster) (turns : List WholeTurn) (lawful : IsLawful cluster
       reply_note (body.Add frame index word addend) home at_post is = absurd (cc)
       reply_note (body.Added old) home at_post is = absurd (cc)
 
-  told_page : (number position its_page : ℕ) (words : List ℤ) (answer : Msg) (came : Came number position answer) → answer.body ≡ body.Page its_page words → Due number (ForPage its_page) position
+  told_page : (number position its_page : ℕ) (words : List ℤ) (answer : Msg) (came : Came number position answer) → answer.body ≡ body.Page its_page words
+      → Due number (ForPage its_page) position
   told_page number position its_page words answer came says = on (due.2)
     where
       home : ℕ
@@ -357,7 +376,8 @@ module _ (cluster : Cluster) (turns : List WholeTurn) (lawful : IsLawful cluster
       on (AckFor post parts message asked reconciles is) =
           let body_is : body.Ack ≡ body.Page its_page words = sym (ap (λ it. it.body) is) ∙ says in absurd (cc)
 
-  told_ack : (number position its_home : ℕ) (answer : Msg) (came : Came number position answer) → answer.body ≡ body.Ack → answer.sender ≡ its_home → Due number (ForAck its_home) position
+  told_ack : (number position its_home : ℕ) (answer : Msg) (came : Came number position answer) → answer.body ≡ body.Ack → answer.sender ≡ its_home
+      → Due number (ForAck its_home) position
   told_ack number position its_home answer came says by_home = on (due.2)
     where
       home : ℕ
@@ -395,9 +415,11 @@ module _ (cluster : Cluster) (turns : List WholeTurn) (lawful : IsLawful cluster
       let adds = add_for cluster turns lawful home (told.0) (it.done.moved) (it.done.is) (it.add) (it.later) (it.oldest) in
       let asked = adds.2.taken in
       let sender_is : asked.sender ≡ number =
-      sym (sent_by cluster turns lawful (asked.sender) (adds.2.post) (it.add) (poster home (adds.2.post) (adds.0) (it.add) asked)) ∙ sym receiver_is ∙ came.it.to in
+      sym (sent_by cluster turns lawful (asked.sender) (adds.2.post) (it.add) (poster home (adds.2.post) (adds.0) (it.add) asked)) ∙ sym receiver_is
+          ∙ came.it.to in
       let earlier = owed.head-before (λ at. serves (memory_of cluster) home (events at)) (λ at. gives_added home (events at)) (came.post) (told.0) (told.1) in
-      let before_that = owed.head-before (λ at. takes_add events home (events at)) (λ at. serves (memory_of cluster) home (events at)) (told.0) (adds.0) (adds.1) in
+      let before_that =
+          owed.head-before (λ at. takes_add events home (events at)) (λ at. serves (memory_of cluster) home (events at)) (told.0) (adds.0) (adds.1) in
       let first = asked.before in
       let second = came.it.before in (
         adds.2.post,
@@ -414,7 +436,9 @@ module _ (cluster : Cluster) (turns : List WholeTurn) (lawful : IsLawful cluster
           taking = adds.0;
           old = old;
           takes = came.it.event;
-          posted = posted_event cluster turns lawful number (came.post) position answer (came.it) ∙ ap (λ said. log.Post home number (note_of cluster home (before course (came.post)) said)) says;
+          posted =
+              posted_event cluster turns lawful number (came.post) position answer (came.it)
+                  ∙ ap (λ said. log.Post home number (note_of cluster home (before course (came.post)) said)) says;
           tells = told.1;
           serves = adds.1;
           took = asked.event;
@@ -424,10 +448,12 @@ module _ (cluster : Cluster) (turns : List WholeTurn) (lawful : IsLawful cluster
   -- each answer that is taken is for a request of its kind
   pub told_by : (number : ℕ) (wait : Wait) (position : ℕ) → Answer number wait position → Due number wait position
   told_by number (ForPage page) position it =
-      let said = paging page (it.message.body) (it.tells) in told_page number position page (said.0) (it.message) (came number position (it.message) (it.is)) (said.1)
+      let said = paging page (it.message.body) (it.tells) in
+      told_page number position page (said.0) (it.message) (came number position (it.message) (it.is)) (said.1)
   told_by number (ForAck home) position it =
       let both = both_true (acks_in (it.message.body)) (eqb (it.message.sender) home) (it.tells) in
-      told_ack number position home (it.message) (came number position (it.message) (it.is)) (acking (it.message.body) (both.0)) (equal (it.message.sender) home (both.1))
+      told_ack number position home (it.message) (came number position (it.message) (it.is)) (acking (it.message.body) (both.0))
+          (equal (it.message.sender) home (both.1))
   told_by number ForAdded position it =
       let said = telling (it.message.body) (it.tells) in told_added number position (said.0) (it.message) (came number position (it.message) (it.is)) (said.1)
 
@@ -439,7 +465,8 @@ module _ (cluster : Cluster) (turns : List WholeTurn) (lawful : IsLawful cluster
       let both : log.Took home post ≡ log.Took other post = sym one ∙ ap events same ∙ two in
       let home_same : home ≡ other = cc in (same, home_same)
 
-  gave_reply : (home number reply : ℕ) (note : log.Note) → events reply ≡ log.Post home number note → is_reply note ≡ true → gives_reply home (events reply) ≡ true
+  gave_reply : (home number reply : ℕ) (note : log.Note) → events reply ≡ log.Post home number note → is_reply note ≡ true
+      → gives_reply home (events reply) ≡ true
   gave_reply home number reply note posted is = ap (gives_reply home) posted ∙ rw (itself home, is) refl
 
   replied_once : (number post one other : ℕ) → RepliedAt number post one → RepliedAt number post other → one ≡ other
@@ -448,10 +475,13 @@ module _ (cluster : Cluster) (turns : List WholeTurn) (lawful : IsLawful cluster
       let push = λ (at : ℕ). takes_request events (first.home) (events at) in
       let pop = λ (at : ℕ). gives_reply (first.home) (events at) in
       let answers_second : Answers events (first.home) (second.reply) (first.taking) =
-      subst (λ it. Answers events (first.home) (second.reply) it) (sym (same.0)) (subst (λ it. Answers events it (second.reply) (second.taking)) (sym (same.1)) (second.answers)) in
+      subst (λ it. Answers events (first.home) (second.reply) it) (sym (same.0))
+          (subst (λ it. Answers events it (second.reply) (second.taking)) (sym (same.1)) (second.answers)) in
       let popped_second : gives_reply (first.home) (events (second.reply)) ≡ true =
-      subst (λ it. gives_reply it (events (second.reply)) ≡ true) (sym (same.1)) (gave_reply (second.home) number (second.reply) (second.note) (second.posted) (second.replies)) in
-      let reply_same = owed.once push pop (first.reply) (second.reply) (first.taking) (gave_reply (first.home) number (first.reply) (first.note) (first.posted) (first.replies)) popped_second (first.answers) answers_second in
+      subst (λ it. gives_reply it (events (second.reply)) ≡ true) (sym (same.1))
+          (gave_reply (second.home) number (second.reply) (second.note) (second.posted) (second.replies)) in
+      let reply_same = owed.once push pop (first.reply) (second.reply) (first.taking)
+          (gave_reply (first.home) number (first.reply) (first.note) (first.posted) (first.replies)) popped_second (first.answers) answers_second in
       (delivery cluster turns lawful).once one other number number (first.reply) (first.takes) (second.takes ∙ ap (log.Took number) (sym reply_same))
 
   pub done_once : (number post one other : ℕ) → DoneAt number post one → DoneAt number post other → one ≡ other
@@ -461,12 +491,15 @@ module _ (cluster : Cluster) (turns : List WholeTurn) (lawful : IsLawful cluster
       let does = λ (at : ℕ). serves (memory_of cluster) (first.home) (events at) in
       let tells = λ (at : ℕ). gives_added (first.home) (events at) in
       let serves_second : Serves events (memory_of cluster) (first.home) (second.served) (first.taking) =
-      subst (λ it. Serves events (memory_of cluster) (first.home) (second.served) it) (sym (same.0)) (subst (λ it. Serves events (memory_of cluster) it (second.served) (second.taking)) (sym (same.1)) (second.serves)) in
-      let tells_second : Tells events (memory_of cluster) (first.home) (second.reply) (second.served) = subst (λ it. Tells events (memory_of cluster) it (second.reply) (second.served)) (sym (same.1)) (second.tells) in
+      subst (λ it. Serves events (memory_of cluster) (first.home) (second.served) it) (sym (same.0))
+          (subst (λ it. Serves events (memory_of cluster) it (second.served) (second.taking)) (sym (same.1)) (second.serves)) in
+      let tells_second : Tells events (memory_of cluster) (first.home) (second.reply) (second.served) =
+          subst (λ it. Tells events (memory_of cluster) it (second.reply) (second.served)) (sym (same.1)) (second.tells) in
       let served_first = owed.head-pushed does tells (first.reply) (first.served) (first.tells) in
       let served_second = owed.head-pushed does tells (second.reply) (second.served) tells_second in
       let served_same = owed.once takes does (first.served) (second.served) (first.taking) served_first served_second (first.serves) serves_second in
-      let told_second : gives_added (first.home) (events (second.reply)) ≡ true = ap (gives_added (first.home)) (second.posted) ∙ ap (λ it. eqb it (first.home)) (sym (same.1)) ∙ itself (first.home) in
+      let told_second : gives_added (first.home) (events (second.reply)) ≡ true =
+          ap (gives_added (first.home)) (second.posted) ∙ ap (λ it. eqb it (first.home)) (sym (same.1)) ∙ itself (first.home) in
       let told_first : gives_added (first.home) (events (first.reply)) ≡ true = ap (gives_added (first.home)) (first.posted) ∙ itself (first.home) in
       let reply_same = owed.once does tells (first.reply) (second.reply) (first.served) told_first told_second (first.tells)
       (subst (λ it. Tells events (memory_of cluster) (first.home) (second.reply) it) (sym served_same) tells_second) in
@@ -480,16 +513,19 @@ module _ (cluster : Cluster) (turns : List WholeTurn) (lawful : IsLawful cluster
   -- ---- each request is answered
 
   -- behind an answer of its kind a request has been told
-  answered_then : (bound number : ℕ) (wait : Wait) (answer request : ℕ) → answer < bound → Request number wait request → request < answer → Answer number wait answer
+  answered_then : (bound number : ℕ) (wait : Wait) (answer request : ℕ) → answer < bound → Request number wait request → request < answer
+      → Answer number wait answer
       → (told : ℕ) × (told ≤ answer) × Told number wait request told
   answered_then zero number wait answer request small asked less taken = absurd (omega (arith, small))
   answered_then (suc bound) number wait answer request small asked less taken = on (told_by number wait answer taken) (answered_then bound number wait)
     where
-      quiet_there : (post : ℕ) → (it : Request number wait post) → (earlier : ℕ) → Request number wait earlier → earlier < post → (between : ℕ) × (earlier < between) × (between < post) × Answer number wait between
+      quiet_there : (post : ℕ) → (it : Request number wait post) → (earlier : ℕ) → Request number wait earlier → earlier < post
+          → (between : ℕ) × (earlier < between) × (between < post) × Answer number wait between
       quiet_there post it earlier asked less = answer_between number wait post (it.is.moved) (it.is.is) (quiet_request number wait post it) earlier asked less
 
       on : Due number wait answer
-          → ((answer request : ℕ) → answer < bound → Request number wait request → request < answer → Answer number wait answer → (told : ℕ) × (told ≤ answer) × Told number wait request told)
+          → ((answer request : ℕ) → answer < bound → Request number wait request → request < answer → Answer number wait answer
+              → (told : ℕ) × (told ≤ answer) × Told number wait request told)
           → (told : ℕ) × (told ≤ answer) × Told number wait request told
       on (post, its, before_that, told) before = by_order (compare post request)
         where
@@ -506,7 +542,8 @@ module _ (cluster : Cluster) (turns : List WholeTurn) (lawful : IsLawful cluster
               absurd (omega (arith, same, found.1, between.2, less))
 
   -- Where a node does not wait, each of its requests has been told.
-  pub told_where_quiet : (number : ℕ) (wait : Wait) (position : ℕ) (moved : Moved) → at course position ≡ Some moved → awaits wait (own number (before course position)) ≡ false
+  pub told_where_quiet : (number : ℕ) (wait : Wait) (position : ℕ) (moved : Moved) → at course position ≡ Some moved
+      → awaits wait (own number (before course position)) ≡ false
       → (request : ℕ) → Request number wait request → request < position → (told : ℕ) × (told < position) × Told number wait request told
   told_where_quiet number wait position moved found quiet request asked less =
       let between = answer_between number wait position moved found quiet request asked less in
@@ -514,7 +551,8 @@ module _ (cluster : Cluster) (turns : List WholeTurn) (lawful : IsLawful cluster
       (it.0, omega (arith, it.1, between.2), it.2)
 
   -- Where an answer of its kind was taken since, too.
-  pub told_behind_answer : (number : ℕ) (wait : Wait) (answer request : ℕ) → Request number wait request → request < answer → Answer number wait answer → (told : ℕ) × (told ≤ answer) × Told number wait request told
+  pub told_behind_answer : (number : ℕ) (wait : Wait) (answer request : ℕ) → Request number wait request → request < answer → Answer number wait answer
+      → (told : ℕ) × (told ≤ answer) × Told number wait request told
   told_behind_answer number wait answer request asked less taken = answered_then (suc answer) number wait answer request (omega (arith)) asked less taken
 
   pub replied_by : (number post told now : ℕ) → RepliedAt number post told → told < now → Replied events number post now
@@ -549,7 +587,8 @@ module _ (cluster : Cluster) (turns : List WholeTurn) (lawful : IsLawful cluster
   }
 
   -- what a node posted has its answer where the node waits for nothing
-  pub answered : (number position post : ℕ) (moved : Moved) (message : Msg) → at course position ≡ Some moved → ((wait : Wait) → awaits wait (own number (before course position)) ≡ false) → Happens course number post (Sent message)
+  pub answered : (number position post : ℕ) (moved : Moved) (message : Msg) → at course position ≡ Some moved
+      → ((wait : Wait) → awaits wait (own number (before course position)) ≡ false) → Happens course number post (Sent message)
       → post < position → Answered events (memory_of cluster) number post position (note_of cluster number (before course post) message.body)
   answered number position post moved message found quiet happens less = on (message.body) refl
     where

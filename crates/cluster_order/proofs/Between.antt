@@ -10,7 +10,8 @@ use Rattle.cluster_order.proofs.Growing.{within, at_behind, before_behind, at_la
 -- ---- the front of a course
 
 own_more_on : (number : ℕ) (first : Moved) (front back : Course) (b : Bool) → own number (front ++ back) ≡ own number front ++ own number back
-    → cond b (first.event ∷ own number (front ++ back)) (own number (front ++ back)) ≡ cond b (first.event ∷ own number front) (own number front) ++ own number back
+    → cond b (first.event ∷ own number (front ++ back)) (own number (front ++ back))
+        ≡ cond b (first.event ∷ own number front) (own number front) ++ own number back
 own_more_on number first front back true same = ap (λ it. first.event ∷ it) same
 own_more_on number first front back false same = same
 
@@ -29,7 +30,8 @@ abbrev pub NoneFrom : Course → ℕ → (Event → Bool) → ℕ → Type 0
 NoneFrom course number such start =
     (position : ℕ) (moved : Moved) → start ≤ position → at course position ≡ Some moved → moved.node ≡ number → such moved.event ≡ false
 
-pub none_later : (number : ℕ) (such : Event → Bool) (later course : Course) → list_any such (own number later) ≡ false → NoneFrom (later ++ course) number such (length course)
+pub none_later : (number : ℕ) (such : Event → Bool) (later course : Course) → list_any such (own number later) ≡ false
+    → NoneFrom (later ++ course) number such (length course)
 none_later number such [] course none = λ position moved start found by. let less = within course position moved found in absurd (omega (arith, start, less))
 none_later number such (first ∷ later) course none = λ position moved start found by.
     on position moved start found by (eqb position (length (later ++ course))) refl found (none_later number such later course)
@@ -40,7 +42,8 @@ none_later number such (first ∷ later) course none = λ position moved start f
     on position moved start found by true is here rest =
         let same : first ≡ moved = cc in
         let mine : eqb first.node number ≡ true = let first_by : first.node ≡ number = ap (λ it. it.node) same ∙ by in grind (arith, nat_tests) in
-        let any : such first.event || list_any such (own number later) ≡ false = subst (λ it. list_any such (cond it (first.event ∷ own number later) (own number later)) ≡ false) mine none in
+        let any : such first.event || list_any such (own number later) ≡ false =
+            subst (λ it. list_any such (cond it (first.event ∷ own number later) (own number later)) ≡ false) mine none in
         let not : such first.event ≡ false = grind (rules) in
         subst (λ it. such it.event ≡ false) same not
     on position moved start found by false is here rest = rest (skip (eqb first.node number) none) position moved start here by
@@ -49,18 +52,22 @@ none_later number such (first ∷ later) course none = λ position moved start f
         skip true any = grind (rules)
         skip false any = any
 
-pub later_none : (number : ℕ) (such : Event → Bool) (later course : Course) → NoneFrom (later ++ course) number such (length course) → list_any such (own number later) ≡ false
+pub later_none : (number : ℕ) (such : Event → Bool) (later course : Course) → NoneFrom (later ++ course) number such (length course)
+    → list_any such (own number later) ≡ false
 later_none number such [] course none = refl
 later_none number such (first ∷ later) course none = on (eqb first.node number) refl (later_none number such later course)
   where
     rest_none : NoneFrom (later ++ course) number such (length course)
-    rest_none = λ position moved start found by. none position moved start (at_behind (first ∷ []) (later ++ course) position (within (later ++ course) position moved found) ∙ found) by
+    rest_none =
+        λ position moved start found by. none position moved start
+            (at_behind (first ∷ []) (later ++ course) position (within (later ++ course) position moved found) ∙ found) by
 
     on : (b : Bool) → eqb first.node number ≡ b → (NoneFrom (later ++ course) number such (length course) → list_any such (own number later) ≡ false)
         → list_any such (cond b (first.event ∷ own number later) (own number later)) ≡ false
     on true is rest =
         let count = length-append later course in
-        let here : such first.event ≡ false = none (length (later ++ course)) first (omega (arith, count)) (at_last first (later ++ course)) (grind (arith, nat_tests)) in
+        let here : such first.event ≡ false =
+            none (length (later ++ course)) first (omega (arith, count)) (at_last first (later ++ course)) (grind (arith, nat_tests)) in
         let others : list_any such (own number later) ≡ false = rest rest_none in
         rw (here, others) refl
     on false is rest = rest rest_none
@@ -78,14 +85,17 @@ pub record Stands (number : ℕ) (course : Course) (newer : Past) (event : Event
   pub older_is : own number (before course position) ≡ older
 
 -- from the past to the position
-pub stands : (number : ℕ) (course : Course) (newer : Past) (event : Event) (older : Past) → own number course ≡ newer ++ event ∷ older → (position : ℕ) × Stands number course newer event older position
+pub stands : (number : ℕ) (course : Course) (newer : Past) (event : Event) (older : Past) → own number course ≡ newer ++ event ∷ older
+    → (position : ℕ) × Stands number course newer event older position
 stands number [] [] event older is = absurd (cc)
 stands number [] (first ∷ newer) event older is = absurd (cc)
 stands number (moved ∷ course) newer event older is = on (eqb moved.node number) refl newer is (stands number course)
   where
-    more : (newer first_newer : Past) → own number (moved ∷ []) ++ newer ≡ first_newer → (position : ℕ) × Stands number course newer event older position → (position : ℕ) × Stands number (moved ∷ course) first_newer event older position
+    more : (newer first_newer : Past) → own number (moved ∷ []) ++ newer ≡ first_newer → (position : ℕ) × Stands number course newer event older position
+        → (position : ℕ) × Stands number (moved ∷ course) first_newer event older position
     more newer first_newer joined found =
-        let less : found.0 < length course = let all = ap length (found.1.parts) in let sum = length-append (found.1.later) (found.1.moved ∷ before course (found.0)) in let count = found.1.count in omega (arith, all, sum, count) in
+        let less : found.0 < length course = let all = ap length (found.1.parts) in let sum =
+            length-append (found.1.later) (found.1.moved ∷ before course (found.0)) in let count = found.1.count in omega (arith, all, sum, count) in
         let same : before (moved ∷ course) (found.0) ≡ before course (found.0) = before_behind (moved ∷ []) course (found.0) less in (
           found.0,
           record {
@@ -101,7 +111,8 @@ stands number (moved ∷ course) newer event older is = on (eqb moved.node numbe
         )
 
     on : (b : Bool) → eqb moved.node number ≡ b → (newer : Past) → cond b (moved.event ∷ own number course) (own number course) ≡ newer ++ event ∷ older
-        → ((newer : Past) (event : Event) (older : Past) → own number course ≡ newer ++ event ∷ older → (position : ℕ) × Stands number course newer event older position)
+        → ((newer : Past) (event : Event) (older : Past) → own number course ≡ newer ++ event ∷ older
+            → (position : ℕ) × Stands number course newer event older position)
         → (position : ℕ) × Stands number (moved ∷ course) newer event older position
     on true is [] parts rest =
         let event_same : moved.event ≡ event = cc in
@@ -142,17 +153,21 @@ stands_at number course position event happens =
       },
     )
 
-module _ (number : ℕ) (course : Course) (newer : Past) (event : Event) (older : Past) (position : ℕ) (it : Stands number course newer event older position) where
+module _ (number : ℕ) (course : Course) (newer : Past) (event : Event) (older : Past) (position : ℕ)
+    (it : Stands number course newer event older position) where
   -- the parts of the past
   pub past_parts : own number course ≡ newer ++ event ∷ older
   past_parts =
-      ap (own number) (it.parts) ∙ own_more number (it.later) (it.moved ∷ before course position) ∙ ap (λ back. own number (it.later) ++ back) (own_first number (it.moved) (before course position) (it.by))
-      ∙ ap (λ front. front ++ it.moved.event ∷ own number (before course position)) (it.newer_is) ∙ ap (λ one. newer ++ one ∷ own number (before course position)) (it.event_is)
+      ap (own number) (it.parts) ∙ own_more number (it.later) (it.moved ∷ before course position)
+          ∙ ap (λ back. own number (it.later) ++ back) (own_first number (it.moved) (before course position) (it.by))
+      ∙ ap (λ front. front ++ it.moved.event ∷ own number (before course position)) (it.newer_is)
+      ∙ ap (λ one. newer ++ one ∷ own number (before course position)) (it.event_is)
       ∙ ap (λ back. newer ++ event ∷ back) (it.older_is)
 
   pub is_before : position < length course
   is_before =
-      let all = ap length (it.parts) in let sum = length-append (it.later) (it.moved ∷ before course position) in let count = it.count in omega (arith, all, sum, count)
+      let all = ap length (it.parts) in
+      let sum = length-append (it.later) (it.moved ∷ before course position) in let count = it.count in omega (arith, all, sum, count)
 
   pub is_there : at course position ≡ Some (it.moved)
   is_there =
@@ -178,4 +193,5 @@ module _ (number : ℕ) (course : Course) (newer : Past) (event : Event) (older 
       let rest = it.moved ∷ before course position in
       let count : length rest ≡ suc position = ap suc (it.count) in
       subst (λ past. list_any such past ≡ false) (it.newer_is)
-      (later_none number such (it.later) rest (subst (NoneFrom (it.later ++ rest) number such) (sym count) (subst (λ whole. NoneFrom whole number such (suc position)) (it.parts) none)))
+      (later_none number such (it.later) rest
+          (subst (NoneFrom (it.later ++ rest) number such) (sym count) (subst (λ whole. NoneFrom whole number such (suc position)) (it.parts) none)))

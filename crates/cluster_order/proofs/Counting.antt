@@ -44,7 +44,8 @@ abbrev Ranked : (ℕ → Bool) → ℕ → List ℕ → Type 0
 Ranked push rank [] = Unit {0}
 Ranked push rank (first ∷ rest) = (count push first ≡ rank) × Ranked push (suc rank) rest
 
-ranked_push : (push : ℕ → Bool) (rank now : ℕ) (list : List ℕ) → Ranked push rank list → rank + length list ≡ count push now → Ranked push rank (list ++ now ∷ [])
+ranked_push : (push : ℕ → Bool) (rank now : ℕ) (list : List ℕ) → Ranked push rank list → rank + length list ≡ count push now
+    → Ranked push rank (list ++ now ∷ [])
 ranked_push push rank now [] ranked total = (omega (arith, total), tt)
 ranked_push push rank now (first ∷ list) ranked total = (ranked.0, ranked_push push (suc rank) now list (ranked.1) (omega (arith, total)))
 
@@ -60,7 +61,8 @@ total_push : (rank now pushed : ℕ) (list : List ℕ) → rank + length list �
 total_push rank now pushed list total = let sum = length-append list (now ∷ []) in omega (arith, sum, total)
 
 -- What is popped was owed, and nothing is pushed where something is popped.
-module _ (push pop : ℕ → Bool) (apart : (at : ℕ) → pop at ≡ true → push at ≡ false) (owed : (at : ℕ) → pop at ≡ true → (oldest : ℕ) × Head push pop at oldest) where
+module _ (push pop : ℕ → Bool) (apart : (at : ℕ) → pop at ≡ true → push at ≡ false)
+    (owed : (at : ℕ) → pop at ≡ true → (oldest : ℕ) × Head push pop at oldest) where
   abbrev line : ℕ → List ℕ
   line now = queue push pop now
 
@@ -82,7 +84,8 @@ module _ (push pop : ℕ → Bool) (apart : (at : ℕ) → pop at ≡ true → p
                 (head.1.is) (before.1),
           )
       on false kept true pushed before =
-          rw (kept, pushed) (ranked_push push (count pop now) now (line now) (before.0) (before.1), total_push (count pop now) now (count push now) (line now) (before.1))
+          rw (kept, pushed) (ranked_push push (count pop now) now (line now) (before.0) (before.1),
+              total_push (count pop now) now (count push now) (line now) (before.1))
       on false kept false none before = rw (kept, none) before
 
   -- as many were popped before it is popped as were pushed before it was pushed

@@ -18,16 +18,19 @@ Follow course number position [] = Unit {0}
 Follow course number position (item ∷ rest) = Happens course number position (Did item) × Follow course number (suc position) rest
 
 -- what the node did at the length of a course, which grew since
-here : (number : ℕ) (item : Item) (course more : Course) → Grown (record { node = number; event = Did item; message = None } ∷ course) more → Happens more number (length course) (Did item)
+here : (number : ℕ) (item : Item) (course more : Course) → Grown (record { node = number; event = Did item; message = None } ∷ course) more
+    → Happens more number (length course) (Did item)
 here number item course more grown =
     let moved : Moved = record { node = number; event = Did item; message = None } in
     record { moved = moved; is = at_grown (moved ∷ course) more grown (length course) (omega (arith)) ∙ at_last moved course; by = refl; event_is = refl }
 
-pub follow_items : (number : ℕ) (items : List Item) (course more : Course) → Grown (with_items number items course) more → Follow more number (length course) items
+pub follow_items : (number : ℕ) (items : List Item) (course more : Course) → Grown (with_items number items course) more
+    → Follow more number (length course) items
 follow_items number [] course more grown = tt
 follow_items number (item ∷ items) course more grown =
     let moved : Moved = record { node = number; event = Did item; message = None } in (
-      here number item course more (grown_twice (moved ∷ course) (with_items number items (moved ∷ course)) more (grown_items number items (moved ∷ course)) grown),
+      here number item course more
+          (grown_twice (moved ∷ course) (with_items number items (moved ∷ course)) more (grown_items number items (moved ∷ course)) grown),
       follow_items number items (moved ∷ course) more grown,
     )
 
@@ -43,7 +46,8 @@ pub record Doing (cluster : Cluster) (number : ℕ) (course : Course) (position 
 abbrev DoneBy : Cluster → ℕ → Course → ℕ → Moved → Type 0
 DoneBy cluster number more position moved = (moved.node ≡ number) × (item : Item) × (moved.event ≡ Did item) × Doing cluster number more position item
 
-in_items : (cluster : Cluster) (number : ℕ) (posts : List Msg) (items : List Item) (course more : Course) → MayDoAll (node_at cluster number) posts (own number course) items
+in_items : (cluster : Cluster) (number : ℕ) (posts : List Msg) (items : List Item) (course more : Course)
+    → MayDoAll (node_at cluster number) posts (own number course) items
     → Grown (with_items number items course) more → (position : ℕ) (moved : Moved) → at (with_items number items course) position ≡ Some moved
     → (at course position ≡ Some moved) ⊎ DoneBy cluster number more position moved
 in_items cluster number posts [] course more may grown position moved found = inl found
@@ -59,7 +63,8 @@ in_items cluster number posts (item ∷ items) course more may grown position mo
     first_grown : Grown (first ∷ course) more
     first_grown = grown_twice (first ∷ course) (with_items number items (first ∷ course)) more (grown_items number items (first ∷ course)) grown
 
-    by_place : (b : Bool) → eqb position (length course) ≡ b → cond b (Some first) (at course position) ≡ Some moved → (at course position ≡ Some moved) ⊎ DoneBy cluster number more position moved
+    by_place : (b : Bool) → eqb position (length course) ≡ b → cond b (Some first) (at course position) ≡ Some moved
+        → (at course position ≡ Some moved) ⊎ DoneBy cluster number more position moved
     by_place true is found_here =
         let same : first ≡ moved = cc in
         let place : position ≡ length course = grind (arith, nat_tests) in
@@ -68,19 +73,23 @@ in_items cluster number posts (item ∷ items) course more may grown position mo
         let doing : Doing cluster number more (length course) item = record {
           rest = items;
           posts = posts;
-          may = subst (λ past. IsOwed (node_at cluster number) past item ⊎ (IsFree past × MayDo (node_at cluster number) past item items posts)) (sym past_is) (may.0);
+          may =
+              subst (λ past. IsOwed (node_at cluster number) past item ⊎ (IsFree past × MayDo (node_at cluster number) past item items posts))
+                  (sym past_is) (may.0);
           follow = follow_items number items (first ∷ course) more grown;
         } in
         inr (ap (λ it. it.node) (sym same), item, ap (λ it. it.event) (sym same), subst (λ it. Doing cluster number more it item) (sym place) doing)
     by_place false is found_here = inl found_here
 
-    on : (at (first ∷ course) position ≡ Some moved) ⊎ DoneBy cluster number more position moved → (at course position ≡ Some moved) ⊎ DoneBy cluster number more position moved
+    on : (at (first ∷ course) position ≡ Some moved) ⊎ DoneBy cluster number more position moved
+        → (at course position ≡ Some moved) ⊎ DoneBy cluster number more position moved
     on (inl found_here) = by_place (eqb position (length course)) refl found_here
     on (inr done) = inr done
 
 -- ---- an item stands before what else its turn holds
 
-skipped : (first moved : Moved) (course : Course) (position : ℕ) → (first ≡ moved → ⊥) → at (first ∷ course) position ≡ Some moved → at course position ≡ Some moved
+skipped : (first moved : Moved) (course : Course) (position : ℕ) → (first ≡ moved → ⊥) → at (first ∷ course) position ≡ Some moved
+    → at course position ≡ Some moved
 skipped first moved course position other found = on (eqb position (length course)) found
   where
     on : (b : Bool) → cond b (Some first) (at course position) ≡ Some moved → at course position ≡ Some moved
@@ -95,7 +104,8 @@ before_posts number place (message ∷ messages) course position moved item did 
     skipped first moved course position (λ same. let is : Sent message ≡ Did item = ap (λ it. it.event) same ∙ did in absurd (cc))
     (before_posts number (record place { index = place.index + 1 }) messages (first ∷ course) position moved item did found)
 
-before_taking : (number : ℕ) (place : Option PostAt) (message : Option Msg) (course : Course) (position : ℕ) (moved : Moved) (item : Item) → moved.event ≡ Did item
+before_taking : (number : ℕ) (place : Option PostAt) (message : Option Msg) (course : Course) (position : ℕ) (moved : Moved) (item : Item)
+    → moved.event ≡ Did item
     → at (with_taking number place message course) position ≡ Some moved → at course position ≡ Some moved
 before_taking number place None course position moved item did found = found
 before_taking number place (Some message) course position moved item did found =
@@ -120,7 +130,8 @@ next_may cluster older turn next = on (next.allows.step)
     on (inl none) = inl (ap (λ deeds. deeds.items) none)
     on (inr moves) = inr (subst (λ past. MayDoAll (node_at cluster turn.node) turn.posts past turn.items) (sym (own_course turn.node older)) (moves.items))
 
-followed_in : (cluster : Cluster) (turns : List WholeTurn) → IsLawful cluster turns → (more : Course) → Grown (course_of turns) more → (position : ℕ) (moved : Moved) (item : Item)
+followed_in : (cluster : Cluster) (turns : List WholeTurn) → IsLawful cluster turns → (more : Course) → Grown (course_of turns) more
+    → (position : ℕ) (moved : Moved) (item : Item)
     → moved.event ≡ Did item → at (course_of turns) position ≡ Some moved → Doing cluster moved.node more position item
 unfolding course_of
 followed_in cluster [] lawful more grown position moved item did found = absurd (cc)
@@ -151,14 +162,16 @@ followed_in cluster (turn ∷ older) lawful more grown position moved item did f
     items_grown : Grown items more
     items_grown =
         grown_twice items posts more (grown_posts turn.node place turn.posts items)
-        (grown_twice posts taking more (grown_taking turn.node turn.took taken posts) (grown_twice taking whole more (grown_end turn.node turn.end taking) grown))
+        (grown_twice posts taking more (grown_taking turn.node turn.took taken posts)
+            (grown_twice taking whole more (grown_end turn.node turn.end taking) grown))
 
     in_course : at items position ≡ Some moved
     in_course =
         before_posts turn.node place turn.posts items position moved item did
         (before_taking turn.node turn.took taken posts position moved item did (before_end turn.node turn.end taking position moved item did found))
 
-    mine : (moved.node ≡ turn.node) × (one : Item) × (moved.event ≡ Did one) × Doing cluster turn.node more position one → Doing cluster moved.node more position item
+    mine : (moved.node ≡ turn.node) × (one : Item) × (moved.event ≡ Did one) × Doing cluster turn.node more position one
+        → Doing cluster moved.node more position item
     mine done =
         let both : Did (done.1) ≡ Did item = sym (done.2) ∙ did in
         let same : done.1 ≡ item = cc in
@@ -173,7 +186,8 @@ followed_in cluster (turn ∷ older) lawful more grown position moved item did f
     ]
 
 -- Each item of lawful turns is owed, or may be done before the items that follow it.
-pub followed : (cluster : Cluster) (turns : List WholeTurn) → IsLawful cluster turns → (number position : ℕ) (item : Item) → Happens (course_of turns) number position (Did item)
+pub followed : (cluster : Cluster) (turns : List WholeTurn) → IsLawful cluster turns → (number position : ℕ) (item : Item)
+    → Happens (course_of turns) number position (Did item)
     → Doing cluster number (course_of turns) position item
 followed cluster turns lawful number position item happens =
     subst (λ it. Doing cluster it (course_of turns) position item) (happens.by)

@@ -28,7 +28,8 @@ first_before position (moved ∷ course) less = on (eqb position (length course)
     on false other rest = let smaller : position < length course = grind (arith, nat_tests) in rw is (rest smaller)
 
 -- and with that
-pub first_next : (position : ℕ) (course : Course) (moved : Moved) → at course position ≡ Some moved → first (suc position) course ≡ moved ∷ before course position
+pub first_next : (position : ℕ) (course : Course) (moved : Moved) → at course position ≡ Some moved
+    → first (suc position) course ≡ moved ∷ before course position
 first_next position [] moved found = absurd (cc)
 first_next position (latest ∷ course) moved found = on (eqb position (length course)) refl found (first_next position course moved)
   where
@@ -48,7 +49,8 @@ pub nothing_past : (position : ℕ) (course : Course) → at course position ≡
 nothing_past position [] none = omega (arith)
 nothing_past position (latest ∷ course) none = on (eqb position (length course)) refl none (nothing_past position course)
   where
-    on : (b : Bool) → eqb position (length course) ≡ b → cond b (Some latest) (at course position) ≡ None → (at course position ≡ None → length course ≤ position)
+    on : (b : Bool) → eqb position (length course) ≡ b → cond b (Some latest) (at course position) ≡ None
+        → (at course position ≡ None → length course ≤ position)
         → length (latest ∷ course) ≤ position
     on true same here rest = absurd (cc)
     on false other here rest = let less = rest here in let not : length course ≢ position = λ is. grind (arith, nat_tests) in omega (arith, less, not)

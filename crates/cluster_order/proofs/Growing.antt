@@ -55,7 +55,8 @@ pub within : (course : Course) (position : ℕ) (moved : Moved) → at course po
 within [] position moved found = absurd (cc)
 within (first ∷ course) position moved found = on (eqb position (length course)) refl found (within course position moved)
   where
-    on : (b : Bool) → eqb position (length course) ≡ b → cond b (Some first) (at course position) ≡ Some moved → (at course position ≡ Some moved → position < length course)
+    on : (b : Bool) → eqb position (length course) ≡ b → cond b (Some first) (at course position) ≡ Some moved
+        → (at course position ≡ Some moved → position < length course)
         → position < length (first ∷ course)
     on true is found rest = let same : position ≡ length course = grind (arith, nat_tests) in omega (arith, same)
     on false is found rest = let less = rest found in omega (arith, less)

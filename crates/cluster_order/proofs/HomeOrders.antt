@@ -71,7 +71,8 @@ module _ (cluster : Cluster) (turns : List WholeTurn) (lawful : IsLawful cluster
   pub moment_within : (node access moment : ℕ) → IsMoment (node_at cluster node) course word access moment → moment < now
   moment_within node access moment (inl it) = receipt_within (it.sending) moment (it.received)
   moment_within node access moment (inr (inl it)) = source_within (it.arrival) moment (it.source)
-  moment_within node access moment (inr (inr it)) = let less = happens_within node access (it.event) (it.is) in let same = it.at_once in omega (arith, less, same)
+  moment_within node access moment (inr (inr it)) =
+      let less = happens_within node access (it.event) (it.is) in let same = it.at_once in omega (arith, less, same)
 
   -- ---- an access of the list
 
@@ -82,10 +83,12 @@ module _ (cluster : Cluster) (turns : List WholeTurn) (lawful : IsLawful cluster
   owner_of one it = (access_of one it).owner
 
   abbrev entry_of : (one : Listed) → IsListed cluster course word one → Entry events now word
-  entry_of one it = record { node = owner_of one it; at = one.position; inside = happens_within (one.node) (one.position) (it.event) (it.is); is = (access_of one it).is }
+  entry_of one it =
+      record { node = owner_of one it; at = one.position; inside = happens_within (one.node) (one.position) (it.event) (it.is); is = (access_of one it).is }
 
   -- one that has a moment has it over positions too, before the end
-  has_moment : (one : Listed) (it : IsListed cluster course word one) (moment : ℕ) → one.moment ≡ Some moment → Moment events (memory_of cluster) (owner_of one it) word (one.position) moment ×
+  has_moment : (one : Listed) (it : IsListed cluster course word one) (moment : ℕ) → one.moment ≡ Some moment
+      → Moment events (memory_of cluster) (owner_of one it) word (one.position) moment ×
       (moment < now)
   has_moment one it moment is =
       let there = (it.moments moment).1 is in (
@@ -94,9 +97,11 @@ module _ (cluster : Cluster) (turns : List WholeTurn) (lawful : IsLawful cluster
       )
 
   -- one that has none has none there
-  has_no_moment : (one : Listed) (it : IsListed cluster course word one) → one.moment ≡ None → HasNone events (memory_of cluster) now (owner_of one it) word (one.position)
+  has_no_moment : (one : Listed) (it : IsListed cluster course word one) → one.moment ≡ None
+      → HasNone events (memory_of cluster) now (owner_of one it) word (one.position)
   has_no_moment one it none = λ moment less there.
-      let some = (it.moments moment).0 (moment_there cluster turns lawful (owner_of one it) (one.node) word (one.position) (it.event) (it.is) ((access_of one it).is) moment there) in
+      let some = (it.moments moment).0 (moment_there cluster turns lawful (owner_of one it) (one.node) word (one.position) (it.event) (it.is)
+          ((access_of one it).is) moment there) in
       let both : None ≡ Some moment = sym none ∙ some in
       absurd (cc)
 
@@ -107,13 +112,15 @@ module _ (cluster : Cluster) (turns : List WholeTurn) (lawful : IsLawful cluster
       on : (b : Bool) → touches word (it.event) ≡ b → b || adds word (it.event) ≡ true → owner_of one it ≡ one.node
       on true is any = (access_of one it).of_touch is
       on false is any =
-          let add : IsMoment (node_at cluster (one.node)) course word (one.position) (one.position) = inr (inr (record { event = it.event; is = it.is; adds_word = any; at_once = refl })) in
+          let add : IsMoment (node_at cluster (one.node)) course word (one.position) (one.position) =
+              inr (inr (record { event = it.event; is = it.is; adds_word = any; at_once = refl })) in
           let both : None ≡ Some (one.position) = sym none ∙ (it.moments (one.position)).0 add in
           absurd (cc)
 
   -- ---- the order
 
-  earlier_on : (first second : Listed) (one : IsListed cluster course word first) (other : IsListed cluster course word second) → (m n : Option ℕ) → first.moment ≡ m → second.moment ≡ n
+  earlier_on : (first second : Listed) (one : IsListed cluster course word first) (other : IsListed cluster course word second) → (m n : Option ℕ)
+      → first.moment ≡ m → second.moment ≡ n
       → EarlierBy m n first second
       → Earlier (owner_of first one) (first.position) (owner_of second other) (second.position)
   earlier_on first second one other (Some m) (Some n) is is' order =
@@ -128,7 +135,8 @@ module _ (cluster : Cluster) (turns : List WholeTurn) (lawful : IsLawful cluster
       inr (record {
         first_is = has_no_moment first one is;
         second_is = has_no_moment second other is';
-        order = subst (λ it. (it < owner_of second other) ⊎ ((it ≡ owner_of second other) × (first.position < second.position))) (sym (own_of_none first one is))
+        order =
+            subst (λ it. (it < owner_of second other) ⊎ ((it ≡ owner_of second other) × (first.position < second.position))) (sym (own_of_none first one is))
             (subst (λ it. (first.node < it) ⊎ ((first.node ≡ it) × (first.position < second.position))) (sym (own_of_none second other is')) order);
       })
 
@@ -160,9 +168,11 @@ module _ (cluster : Cluster) (turns : List WholeTurn) (lawful : IsLawful cluster
   Linked (first ∷ []) = Unit {0}
   Linked (first ∷ (second ∷ rest)) = Earlier (first.node) (first.at) (second.node) (second.at) × Linked (second ∷ rest)
 
-  before_at : (first second later : Entry events now word) → second.at ≡ later.at → Earlier (first.node) (first.at) (second.node) (second.at) → Earlier (first.node) (first.at) (later.node) (later.at)
+  before_at : (first second later : Entry events now word) → second.at ≡ later.at → Earlier (first.node) (first.at) (second.node) (second.at)
+      → Earlier (first.node) (first.at) (later.node) (later.at)
   before_at first second later same before =
-      let node_same = one_owner events (later.at) word (second.node) (later.node) (subst (λ i. IsAccess events (second.node) word i) same (second.is)) (later.is) in
+      let node_same =
+          one_owner events (later.at) word (second.node) (later.node) (subst (λ i. IsAccess events (second.node) word i) same (second.is)) (later.is) in
       subst (λ it. Earlier (first.node) (first.at) it (later.at)) node_same (subst (λ it. Earlier (first.node) (first.at) (second.node) it) same before)
 
   sorted_of : (list : List (Entry events now word)) → Linked list → Sorted events (memory_of cluster) now word list
@@ -170,10 +180,12 @@ module _ (cluster : Cluster) (turns : List WholeTurn) (lawful : IsLawful cluster
   sorted_of (first ∷ []) linked = (λ later has. absurd has, tt)
   sorted_of (first ∷ (second ∷ rest)) linked = let sorted = sorted_of (second ∷ rest) (linked.1) in (λ later has. on later has sorted, sorted)
     where
-      on : (later : Entry events now word) → Has (later.at) (second ∷ rest) → Sorted events (memory_of cluster) now word (second ∷ rest) → Earlier (first.node) (first.at) (later.node) (later.at)
+      on : (later : Entry events now word) → Has (later.at) (second ∷ rest) → Sorted events (memory_of cluster) now word (second ∷ rest)
+          → Earlier (first.node) (first.at) (later.node) (later.at)
       on later (inl same) sorted = before_at first second later same (linked.0)
       on later (inr has) sorted =
-          lists.trans events (memory_of cluster) caching now word (first.node) (first.at) (second.node) (second.at) (later.node) (later.at) (linked.0) (sorted.0 later has)
+          lists.trans events (memory_of cluster) caching now word (first.node) (first.at) (second.node) (second.at) (later.node) (later.at) (linked.0)
+              (sorted.0 later has)
 
   -- the positions of entries
   abbrev pub positions_of : List (Entry events now word) → List ℕ
@@ -186,7 +198,8 @@ module _ (cluster : Cluster) (turns : List WholeTurn) (lawful : IsLawful cluster
 
   once_of : (list : List (Entry events now word)) → Sorted events (memory_of cluster) now word list → EachOnce (positions_of list)
   once_of [] sorted = tt
-  once_of (first ∷ list) sorted = (λ among. not_before_itself (first.node) (first.at) (sorted.0 first (has_position (first.at) list among)), once_of list (sorted.1))
+  once_of (first ∷ list) sorted =
+      (λ among. not_before_itself (first.node) (first.at) (sorted.0 first (has_position (first.at) list among)), once_of list (sorted.1))
 
   -- ---- the list of an order
 
@@ -234,7 +247,8 @@ module _ (cluster : Cluster) (turns : List WholeTurn) (lawful : IsLawful cluster
       of_some : (moment : ℕ) → Some first ≡ Some moment → IsMoment (node_at cluster (there.node)) course word at moment
       of_some moment some =
           let same : first ≡ moment = cc in
-          moment_there cluster turns lawful owner (there.node) word at (there.event) (there.is) access moment (subst (λ it. Moment events (memory_of cluster) owner word at it) same is)
+          moment_there cluster turns lawful owner (there.node) word at (there.event) (there.is) access moment
+              (subst (λ it. Moment events (memory_of cluster) owner word at it) same is)
   listed_by owner at inside access there (inr none) = (
     record { position = at; node = there.node; moment = None },
     refl,
@@ -243,7 +257,8 @@ module _ (cluster : Cluster) (turns : List WholeTurn) (lawful : IsLawful cluster
     where
       no_moment : (moment : ℕ) → IsMoment (node_at cluster (there.node)) course word at moment → None ≡ Some moment
       no_moment moment it =
-          absurd (none moment (moment_within (there.node) at moment it) (moment_at cluster turns lawful owner (there.node) word at (there.event) (there.is) access moment it))
+          absurd (none moment (moment_within (there.node) at moment it)
+              (moment_at cluster turns lawful owner (there.node) word at (there.event) (there.is) access moment it))
 
       of_none : (moment : ℕ) → None ≡ Some moment → IsMoment (node_at cluster (there.node)) course word at moment
       of_none moment some = absurd (cc)
@@ -251,7 +266,8 @@ module _ (cluster : Cluster) (turns : List WholeTurn) (lawful : IsLawful cluster
   -- Each access over positions is one of the course, with its moment or without one.
   pub listed_there : (owner at : ℕ) → at < now → IsAccess events owner word at → (one : Listed) × (one.position ≡ at) × IsListed cluster course word one
   listed_there owner at inside access =
-      listed_by owner at inside access (access_there cluster turns lawful owner word at access) (last.decide_moment events (memory_of cluster) caching now owner word at inside access)
+      listed_by owner at inside access (access_there cluster turns lawful owner word at access)
+          (last.decide_moment events (memory_of cluster) caching now owner word at inside access)
 
   -- ---- the law
 
@@ -268,7 +284,8 @@ module _ (cluster : Cluster) (turns : List WholeTurn) (lawful : IsLawful cluster
       let sorted = sorted_of list (linked_of order (it.listed) (it.in_order)) in
       let same = same_positions order (it.listed) in
       record {
-        home = record { list = list; all = λ owner at inside access. has_position at list (subst (IsAmong at) (sym same) (among owner at inside access)); sorted = sorted };
+        home = record { list =
+            list; all = λ owner at inside access. has_position at list (subst (IsAmong at) (sym same) (among owner at inside access)); sorted = sorted };
         same = same;
         all = among;
         once = subst EachOnce same (once_of list sorted);

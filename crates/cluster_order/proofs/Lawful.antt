@@ -50,10 +50,12 @@ pub record IsReply (node : Node) (message : Msg) : Type 0 where
   pub replies : replies_in message.body ≡ true
 
 replied : (node : Node) (sender : ℕ) (said : Body) (past : Past) (message : Msg) → Among message (reply node sender said past) → IsReply node message
-replied node sender (body.Fetch page) past message (inl same) = record { sender = ap (λ it. it.sender) (sym same); replies = ap (λ it. replies_in it.body) (sym same) }
+replied node sender (body.Fetch page) past message (inl same) =
+    record { sender = ap (λ it. it.sender) (sym same); replies = ap (λ it. replies_in it.body) (sym same) }
 replied node sender (body.Fetch page) past message (inr among) = absurd among
 replied node sender (body.Page page words) past message among = absurd among
-replied node sender (body.Reconcile parts) past message (inl same) = record { sender = ap (λ it. it.sender) (sym same); replies = ap (λ it. replies_in it.body) (sym same) }
+replied node sender (body.Reconcile parts) past message (inl same) =
+    record { sender = ap (λ it. it.sender) (sym same); replies = ap (λ it. replies_in it.body) (sym same) }
 replied node sender (body.Reconcile parts) past message (inr among) = absurd among
 replied node sender body.Ack past message among = absurd among
 replied node sender body.Ask past message among = absurd among
@@ -77,7 +79,8 @@ owed_is_reply node (Sent sent ∷ past) message among = owed_is_reply node past 
 owed_is_reply node (Took taken ∷ past) message among =
     on (among_append message (owed_home_replies node past) (reply node taken.sender taken.body past) among) (owed_is_reply node past message)
   where
-    on : Among message (owed_home_replies node past) ⊎ Among message (reply node taken.sender taken.body past) → (Among message (owed_home_replies node past) → IsReply node message) → IsReply node message
+    on : Among message (owed_home_replies node past) ⊎ Among message (reply node taken.sender taken.body past)
+        → (Among message (owed_home_replies node past) → IsReply node message) → IsReply node message
     on (inl before) rest = rest before
     on (inr now) rest = replied node taken.sender taken.body past message now
 
@@ -138,60 +141,88 @@ module _ (cluster : Cluster) (turns : List WholeTurn) (lawful : IsLawful cluster
   past_at number position = own number (before (course_of turns) position)
 
   -- an act
-  pub act_allowed : (number position : ℕ) (frame : FrameId) (index : ℕ) (act : LoggedAct) → Happens (course_of turns) number position (Did (item.Act frame index act)) → IsFree (past_at number position) × MayAct (node number) (past_at number position) frame index act
-  act_allowed number position frame index act happens = let it = allowed cluster turns lawful number position (Did (item.Act frame index act)) happens in act_allowed_on (it.rest) (it.posts) (it.may)
+  pub act_allowed : (number position : ℕ) (frame : FrameId) (index : ℕ) (act : LoggedAct) → Happens (course_of turns) number position
+      (Did (item.Act frame index act)) → IsFree (past_at number position) × MayAct (node number) (past_at number position) frame index act
+  act_allowed number position frame index act happens =
+      let it = allowed cluster turns lawful number position (Did (item.Act frame index act)) happens in act_allowed_on (it.rest) (it.posts) (it.may)
     where
-      act_allowed_on : (rest : List Item) (posts : List Msg) → IsOwed (node number) (past_at number position) (item.Act frame index act) ⊎ (IsFree (past_at number position) × MayDo (node number) (past_at number position) (item.Act frame index act) rest posts) → IsFree (past_at number position) × MayAct (node number) (past_at number position) frame index act
+      act_allowed_on : (rest : List Item) (posts : List Msg) → IsOwed (node number) (past_at number position) (item.Act frame index act)
+          ⊎ (IsFree (past_at number position) × MayDo (node number) (past_at number position) (item.Act frame index act) rest posts)
+          → IsFree (past_at number position) × MayAct (node number) (past_at number position) frame index act
       act_allowed_on rest posts (inl owed) = absurd owed
       act_allowed_on rest posts (inr both) = both
 
   -- a tick
-  pub tick_allowed : (number position : ℕ) (frame : FrameId) → Happens (course_of turns) number position (Did (item.Tick frame)) → IsFree (past_at number position) × MayTick (node number) (past_at number position) frame
-  tick_allowed number position frame happens = let it = allowed cluster turns lawful number position (Did (item.Tick frame)) happens in tick_allowed_on (it.rest) (it.posts) (it.may)
+  pub tick_allowed : (number position : ℕ) (frame : FrameId) → Happens (course_of turns) number position (Did (item.Tick frame))
+      → IsFree (past_at number position) × MayTick (node number) (past_at number position) frame
+  tick_allowed number position frame happens =
+      let it = allowed cluster turns lawful number position (Did (item.Tick frame)) happens in tick_allowed_on (it.rest) (it.posts) (it.may)
     where
-      tick_allowed_on : (rest : List Item) (posts : List Msg) → IsOwed (node number) (past_at number position) (item.Tick frame) ⊎ (IsFree (past_at number position) × MayDo (node number) (past_at number position) (item.Tick frame) rest posts) → IsFree (past_at number position) × MayTick (node number) (past_at number position) frame
+      tick_allowed_on : (rest : List Item) (posts : List Msg) → IsOwed (node number) (past_at number position) (item.Tick frame)
+          ⊎ (IsFree (past_at number position) × MayDo (node number) (past_at number position) (item.Tick frame) rest posts)
+          → IsFree (past_at number position) × MayTick (node number) (past_at number position) frame
       tick_allowed_on rest posts (inl owed) = absurd owed
       tick_allowed_on rest posts (inr both) = both
 
   -- a Drop
-  pub drop_allowed : (number position : ℕ) (page : ℕ) → Happens (course_of turns) number position (Did (item.Drop page)) → IsFree (past_at number position) × (rest : List Item) × (posts : List Msg) × MayDrop (node number) (past_at number position) page rest posts
-  drop_allowed number position page happens = let it = allowed cluster turns lawful number position (Did (item.Drop page)) happens in drop_allowed_on (it.rest) (it.posts) (it.may)
+  pub drop_allowed : (number position : ℕ) (page : ℕ) → Happens (course_of turns) number position (Did (item.Drop page))
+      → IsFree (past_at number position) × (rest : List Item) × (posts : List Msg) × MayDrop (node number) (past_at number position) page rest posts
+  drop_allowed number position page happens =
+      let it = allowed cluster turns lawful number position (Did (item.Drop page)) happens in drop_allowed_on (it.rest) (it.posts) (it.may)
     where
-      drop_allowed_on : (rest : List Item) (posts : List Msg) → IsOwed (node number) (past_at number position) (item.Drop page) ⊎ (IsFree (past_at number position) × MayDo (node number) (past_at number position) (item.Drop page) rest posts) → IsFree (past_at number position) × (rest : List Item) × (posts : List Msg) × MayDrop (node number) (past_at number position) page rest posts
+      drop_allowed_on : (rest : List Item) (posts : List Msg) → IsOwed (node number) (past_at number position) (item.Drop page)
+          ⊎ (IsFree (past_at number position) × MayDo (node number) (past_at number position) (item.Drop page) rest posts)
+          → IsFree (past_at number position) × (rest : List Item) × (posts : List Msg) × MayDrop (node number) (past_at number position) page rest posts
       drop_allowed_on rest posts (inl owed) = absurd owed
       drop_allowed_on rest posts (inr both) = (both.0, rest, posts, both.1)
 
   -- a TakeUp
-  pub take_up_allowed : (number position : ℕ) (frame : FrameId) → Happens (course_of turns) number position (Did (item.TakeUp frame)) → IsFree (past_at number position) × (rest : List Item) × MayTakeUp (node number) (past_at number position) frame rest
-  take_up_allowed number position frame happens = let it = allowed cluster turns lawful number position (Did (item.TakeUp frame)) happens in take_up_allowed_on (it.rest) (it.posts) (it.may)
+  pub take_up_allowed : (number position : ℕ) (frame : FrameId) → Happens (course_of turns) number position (Did (item.TakeUp frame))
+      → IsFree (past_at number position) × (rest : List Item) × MayTakeUp (node number) (past_at number position) frame rest
+  take_up_allowed number position frame happens =
+      let it = allowed cluster turns lawful number position (Did (item.TakeUp frame)) happens in take_up_allowed_on (it.rest) (it.posts) (it.may)
     where
-      take_up_allowed_on : (rest : List Item) (posts : List Msg) → IsOwed (node number) (past_at number position) (item.TakeUp frame) ⊎ (IsFree (past_at number position) × MayDo (node number) (past_at number position) (item.TakeUp frame) rest posts) → IsFree (past_at number position) × (rest : List Item) × MayTakeUp (node number) (past_at number position) frame rest
+      take_up_allowed_on : (rest : List Item) (posts : List Msg) → IsOwed (node number) (past_at number position) (item.TakeUp frame)
+          ⊎ (IsFree (past_at number position) × MayDo (node number) (past_at number position) (item.TakeUp frame) rest posts)
+          → IsFree (past_at number position) × (rest : List Item) × MayTakeUp (node number) (past_at number position) frame rest
       take_up_allowed_on rest posts (inl owed) = absurd owed
       take_up_allowed_on rest posts (inr both) = (both.0, rest, both.1)
 
   -- an OwnFetch
-  pub load_allowed : (number position : ℕ) (page : ℕ) (words : List ℤ) → Happens (course_of turns) number position (Did (item.OwnFetch page words)) → IsFree (past_at number position) × MayLoad (node number) (past_at number position) page words
-  load_allowed number position page words happens = let it = allowed cluster turns lawful number position (Did (item.OwnFetch page words)) happens in load_allowed_on (it.rest) (it.posts) (it.may)
+  pub load_allowed : (number position : ℕ) (page : ℕ) (words : List ℤ) → Happens (course_of turns) number position (Did (item.OwnFetch page words))
+      → IsFree (past_at number position) × MayLoad (node number) (past_at number position) page words
+  load_allowed number position page words happens =
+      let it = allowed cluster turns lawful number position (Did (item.OwnFetch page words)) happens in load_allowed_on (it.rest) (it.posts) (it.may)
     where
-      load_allowed_on : (rest : List Item) (posts : List Msg) → IsOwed (node number) (past_at number position) (item.OwnFetch page words) ⊎ (IsFree (past_at number position) × MayDo (node number) (past_at number position) (item.OwnFetch page words) rest posts) → IsFree (past_at number position) × MayLoad (node number) (past_at number position) page words
+      load_allowed_on : (rest : List Item) (posts : List Msg) → IsOwed (node number) (past_at number position) (item.OwnFetch page words)
+          ⊎ (IsFree (past_at number position) × MayDo (node number) (past_at number position) (item.OwnFetch page words) rest posts)
+          → IsFree (past_at number position) × MayLoad (node number) (past_at number position) page words
       load_allowed_on rest posts (inl owed) = absurd owed
       load_allowed_on rest posts (inr both) = both
 
   -- an OwnReconcile
-  pub own_part_allowed : (number position : ℕ) (part : Part) → Happens (course_of turns) number position (Did (item.OwnReconcile part)) → IsFree (past_at number position) × IsSending (node number) (past_at number position) number part
-  own_part_allowed number position part happens = let it = allowed cluster turns lawful number position (Did (item.OwnReconcile part)) happens in own_part_allowed_on (it.rest) (it.posts) (it.may)
+  pub own_part_allowed : (number position : ℕ) (part : Part) → Happens (course_of turns) number position (Did (item.OwnReconcile part))
+      → IsFree (past_at number position) × IsSending (node number) (past_at number position) number part
+  own_part_allowed number position part happens =
+      let it = allowed cluster turns lawful number position (Did (item.OwnReconcile part)) happens in own_part_allowed_on (it.rest) (it.posts) (it.may)
     where
-      own_part_allowed_on : (rest : List Item) (posts : List Msg) → IsOwed (node number) (past_at number position) (item.OwnReconcile part) ⊎ (IsFree (past_at number position) × MayDo (node number) (past_at number position) (item.OwnReconcile part) rest posts) → IsFree (past_at number position) × IsSending (node number) (past_at number position) number part
+      own_part_allowed_on : (rest : List Item) (posts : List Msg) → IsOwed (node number) (past_at number position) (item.OwnReconcile part)
+          ⊎ (IsFree (past_at number position) × MayDo (node number) (past_at number position) (item.OwnReconcile part) rest posts)
+          → IsFree (past_at number position) × IsSending (node number) (past_at number position) number part
       own_part_allowed_on rest posts (inl owed) = absurd owed
       own_part_allowed_on rest posts (inr both) = both
 
   -- an add that is owed, or an own one
-  pub served_allowed : (number position : ℕ) (frame : FrameId) (index word : ℕ) (old addend : ℤ) → Happens (course_of turns) number position (Did (item.Served frame index word old addend))
-      → Serves (node number) (past_at number position) frame index word old addend ⊎ (IsFree (past_at number position) × MayAddHere (node number) (past_at number position) frame index word old addend)
-  served_allowed number position frame index word old addend happens = (allowed cluster turns lawful number position (Did (item.Served frame index word old addend)) happens).may
+  pub served_allowed : (number position : ℕ) (frame : FrameId) (index word : ℕ) (old addend : ℤ)
+      → Happens (course_of turns) number position (Did (item.Served frame index word old addend))
+      → Serves (node number) (past_at number position) frame index word old addend
+          ⊎ (IsFree (past_at number position) × MayAddHere (node number) (past_at number position) frame index word old addend)
+  served_allowed number position frame index word old addend happens =
+      (allowed cluster turns lawful number position (Did (item.Served frame index word old addend)) happens).may
 
   -- what is sent is a reply that is owed, or may be posted, from its sender
-  pub sent_allowed : (number position : ℕ) (message : Msg) → Happens (course_of turns) number position (Sent message) → MaySend (node number) (past_at number position) message
+  pub sent_allowed : (number position : ℕ) (message : Msg) → Happens (course_of turns) number position (Sent message)
+      → MaySend (node number) (past_at number position) message
   sent_allowed number position message happens = allowed cluster turns lawful number position (Sent message) happens
 
   pub sent_by : (number position : ℕ) (message : Msg) → Happens (course_of turns) number position (Sent message) → message.sender ≡ number
@@ -202,11 +233,13 @@ module _ (cluster : Cluster) (turns : List WholeTurn) (lawful : IsLawful cluster
       on (inr sends) = sends.sender
 
   -- what is no Page and no Ack may be posted
-  pub post_allowed : (number position : ℕ) (message : Msg) → Happens (course_of turns) number position (Sent message) → replies_in message.body ≡ false → MayPost (node number) (past_at number position) message.receiver message.body
+  pub post_allowed : (number position : ℕ) (message : Msg) → Happens (course_of turns) number position (Sent message) → replies_in message.body ≡ false
+      → MayPost (node number) (past_at number position) message.receiver message.body
   post_allowed number position message happens no_reply = on (sent_allowed number position message happens)
     where
       on : MaySend (node number) (past_at number position) message → MayPost (node number) (past_at number position) message.receiver message.body
-      on (inl due) = let is = (owed_is_reply (node number) (past_at number position) message (subst (λ it. Among message it) (sym (due.1)) (inl refl))).replies in absurd (cc)
+      on (inl due) = let is =
+          (owed_is_reply (node number) (past_at number position) message (subst (λ it. Among message it) (sym (due.1)) (inl refl))).replies in absurd (cc)
       on (inr sends) = sends.may
 
   -- a Page or an Ack is owed
@@ -227,67 +260,83 @@ module _ (cluster : Cluster) (turns : List WholeTurn) (lawful : IsLawful cluster
       none (body.Add frame index word addend) is may = absurd (cc)
       none (body.Added old) is may = absurd (cc)
 
-      on : MaySend (node number) (past_at number position) message → (later : List Msg) × (owed_home_replies (node number) (past_at number position) ≡ message ∷ later)
+      on : MaySend (node number) (past_at number position) message
+          → (later : List Msg) × (owed_home_replies (node number) (past_at number position) ≡ message ∷ later)
       on (inl due) = due
       on (inr sends) = absurd (none message.body is sends.may)
 
   -- a Fetch
-  pub fetch_allowed : (number position : ℕ) (message : Msg) (page : ℕ) → Happens (course_of turns) number position (Sent message) → message.body ≡ body.Fetch page → MayFetch (node number) (past_at number position) message.receiver page
+  pub fetch_allowed : (number position : ℕ) (message : Msg) (page : ℕ) → Happens (course_of turns) number position (Sent message)
+      → message.body ≡ body.Fetch page → MayFetch (node number) (past_at number position) message.receiver page
   fetch_allowed number position message page happens is =
       subst (λ said. MayPost (node number) (past_at number position) message.receiver said) is (post_allowed number position message happens (ap replies_in is))
 
   -- a Reconcile
-  pub reconcile_allowed : (number position : ℕ) (message : Msg) (parts : List Part) → Happens (course_of turns) number position (Sent message) → message.body ≡ body.Reconcile parts → MayReconcile (node number) (past_at number position) message.receiver parts
+  pub reconcile_allowed : (number position : ℕ) (message : Msg) (parts : List Part) → Happens (course_of turns) number position (Sent message)
+      → message.body ≡ body.Reconcile parts → MayReconcile (node number) (past_at number position) message.receiver parts
   reconcile_allowed number position message parts happens is =
       subst (λ said. MayPost (node number) (past_at number position) message.receiver said) is (post_allowed number position message happens (ap replies_in is))
 
   -- a Grant
-  pub grant_allowed : (number position : ℕ) (message : Msg) (closure : Closure) → Happens (course_of turns) number position (Sent message) → message.body ≡ body.Grant closure → MayGrant (node number) (past_at number position) message.receiver closure
+  pub grant_allowed : (number position : ℕ) (message : Msg) (closure : Closure) → Happens (course_of turns) number position (Sent message)
+      → message.body ≡ body.Grant closure → MayGrant (node number) (past_at number position) message.receiver closure
   grant_allowed number position message closure happens is =
       subst (λ said. MayPost (node number) (past_at number position) message.receiver said) is (post_allowed number position message happens (ap replies_in is))
 
   -- a Done
-  pub done_allowed : (number position : ℕ) (message : Msg) (join : JoinId) (index : ℕ) (value : ℤ) → Happens (course_of turns) number position (Sent message) → message.body ≡ body.Done join index value → MayDone (node number) (past_at number position) message.receiver join index value
+  pub done_allowed : (number position : ℕ) (message : Msg) (join : JoinId) (index : ℕ) (value : ℤ) → Happens (course_of turns) number position (Sent message)
+      → message.body ≡ body.Done join index value → MayDone (node number) (past_at number position) message.receiver join index value
   done_allowed number position message join index value happens is =
       subst (λ said. MayPost (node number) (past_at number position) message.receiver said) is (post_allowed number position message happens (ap replies_in is))
 
   -- a Park
-  pub park_allowed : (number position : ℕ) (message : Msg) (join : JoinId) (closure : Closure) → Happens (course_of turns) number position (Sent message) → message.body ≡ body.Park join closure → MayPark (node number) (past_at number position) message.receiver join closure
+  pub park_allowed : (number position : ℕ) (message : Msg) (join : JoinId) (closure : Closure) → Happens (course_of turns) number position (Sent message)
+      → message.body ≡ body.Park join closure → MayPark (node number) (past_at number position) message.receiver join closure
   park_allowed number position message join closure happens is =
       subst (λ said. MayPost (node number) (past_at number position) message.receiver said) is (post_allowed number position message happens (ap replies_in is))
 
   -- an Add
-  pub add_allowed : (number position : ℕ) (message : Msg) (frame : FrameId) (index word : ℕ) (addend : ℤ) → Happens (course_of turns) number position (Sent message) → message.body ≡ body.Add frame index word addend → MayPostAdd (node number) (past_at number position) message.receiver frame index word addend
+  pub add_allowed : (number position : ℕ) (message : Msg) (frame : FrameId) (index word : ℕ) (addend : ℤ)
+      → Happens (course_of turns) number position (Sent message) → message.body ≡ body.Add frame index word addend
+      → MayPostAdd (node number) (past_at number position) message.receiver frame index word addend
   add_allowed number position message frame index word addend happens is =
       subst (λ said. MayPost (node number) (past_at number position) message.receiver said) is (post_allowed number position message happens (ap replies_in is))
 
   -- an Added
-  pub added_allowed : (number position : ℕ) (message : Msg) (old : ℤ) → Happens (course_of turns) number position (Sent message) → message.body ≡ body.Added old → Tells (node number) (past_at number position) message.receiver old
+  pub added_allowed : (number position : ℕ) (message : Msg) (old : ℤ) → Happens (course_of turns) number position (Sent message) → message.body ≡ body.Added old
+      → Tells (node number) (past_at number position) message.receiver old
   added_allowed number position message old happens is =
       subst (λ said. MayPost (node number) (past_at number position) message.receiver said) is (post_allowed number position message happens (ap replies_in is))
 
   -- an Add that a node owes was taken by it
-  pub owed_taken : (number position : ℕ) (moved : Moved) → at (course_of turns) position ≡ Some moved → (message : Msg) → Among message (owed_adds (past_at number position))
+  pub owed_taken : (number position : ℕ) (moved : Moved) → at (course_of turns) position ≡ Some moved → (message : Msg)
+      → Among message (owed_adds (past_at number position))
       → (post taking : ℕ) × Taking cluster turns lawful number post taking message
   owed_taken number position moved found message among =
       let came = owed_add_came (past_at number position) message among in
       let it = stands number (before (course_of turns) position) (came.0) (Took message) (came.1) (came.2) in
-      let there = happened_before (course_of turns) position moved found number (it.0) (Took message) (happens_there number (before (course_of turns) position) (came.0) (Took message) (came.1) (it.0) (it.1)) in (
+      let there = happened_before (course_of turns) position moved found number (it.0) (Took message)
+          (happens_there number (before (course_of turns) position) (came.0) (Took message) (came.1) (it.0) (it.1)) in (
         taken_from (before (course_of turns) (it.0)) (there.moved.message),
         it.0,
-        taking_found cluster turns lawful number (it.0) (there.moved.message) message (record { moved = there.moved; is = there.is; by = there.by; place_is = refl; event_is = there.event_is }),
+        taking_found cluster turns lawful number (it.0) (there.moved.message) message
+            (record { moved = there.moved; is = there.is; by = there.by; place_is = refl; event_is = there.event_is }),
       )
 
   -- the home of the word of an add does it
-  pub home_served : (number position : ℕ) (frame : FrameId) (index word : ℕ) (old addend : ℤ) → Happens (course_of turns) number position (Did (item.Served frame index word old addend))
+  pub home_served : (number position : ℕ) (frame : FrameId) (index word : ℕ) (old addend : ℤ)
+      → Happens (course_of turns) number position (Did (item.Served frame index word old addend))
       → home_of (node 0) (page_of (node 0) word) ≡ number
   home_served number position frame index word old addend happens = on (served_allowed number position frame index word old addend happens)
     where
-      on : Serves (node number) (past_at number position) frame index word old addend ⊎ (IsFree (past_at number position) × MayAddHere (node number) (past_at number position) frame index word old addend)
+      on : Serves (node number) (past_at number position) frame index word old addend
+          ⊎ (IsFree (past_at number position) × MayAddHere (node number) (past_at number position) frame index word old addend)
           → home_of (node 0) (page_of (node 0) word) ≡ number
       on (inr own_add) = sym (own_add.1.add.at_home)
       on (inl serves) =
-          let taken = owed_taken number position (happens.moved) (happens.is) (serves.add) (subst (λ it. Among (serves.add) it) (sym serves.oldest) (inl refl)) in
+          let taken =
+              owed_taken number position (happens.moved) (happens.is) (serves.add) (subst (λ it. Among (serves.add) it) (sym serves.oldest) (inl refl)) in
           let posted = taken.2.posted in
-          let may = add_allowed (taken.2.sender) (taken.0) (serves.add) frame index word addend (record { moved = posted.moved; is = posted.is; by = posted.by; event_is = posted.event_is }) (serves.asked) in
+          let may = add_allowed (taken.2.sender) (taken.0) (serves.add) frame index word addend
+              (record { moved = posted.moved; is = posted.is; by = posted.by; event_is = posted.event_is }) (serves.asked) in
           sym (may.add.at_home) ∙ taken.2.to

@@ -40,7 +40,8 @@ allowed_back : (node : Node) (newer older : Past) → AllAllowed node (newer ++ 
 allowed_back node [] older all = all
 allowed_back node (event ∷ newer) older all = allowed_back node newer older (all.1)
 
-pub all_allowed : (cluster : Cluster) (turns : List WholeTurn) → IsLawful cluster turns → (number position : ℕ) (moved : Moved) → at (course_of turns) position ≡ Some moved
+pub all_allowed : (cluster : Cluster) (turns : List WholeTurn) → IsLawful cluster turns → (number position : ℕ) (moved : Moved)
+    → at (course_of turns) position ≡ Some moved
     → AllAllowed (node_at cluster number) (own number (before (course_of turns) position))
 all_allowed cluster turns lawful number position moved found =
     let split = at_splits (course_of turns) position moved found in
@@ -51,7 +52,8 @@ all_allowed cluster turns lawful number position moved found =
     (subst (AllAllowed (node_at cluster number)) (sym (own_course number turns) ∙ parts) (lawful_past cluster turns number lawful))
 
 -- what is no Page and no Ack may be posted
-may_post : (node : Node) (past : Past) (message : Msg) (said : Body) → message.body ≡ said → replies_in said ≡ false → MaySend node past message → MayPost node past message.receiver said
+may_post : (node : Node) (past : Past) (message : Msg) (said : Body) → message.body ≡ said → replies_in said ≡ false → MaySend node past message
+    → MayPost node past message.receiver said
 may_post node past message said says no_reply (inl due) =
     let is = (owed_is_reply node past message (subst (λ it. Among message it) (sym (due.1)) (inl refl))).replies in
     let not : replies_in message.body ≡ false = ap replies_in says ∙ no_reply in absurd (cc)
@@ -63,14 +65,16 @@ may_post node past message said says no_reply (inr sends) = subst (λ it. MayPos
 abbrev pub WantsFirst : List Life → Type 0
 WantsFirst stack = (frame : FrameId) × (acts : ℕ) × AddsFirst frame acts stack
 
-granted_first : (join : Option JoinId) (above : List Life) (child parent : Life) → WantsFirst (above ++ (child ∷ (parent ∷ []))) → WantsFirst (above ++ (record child { link = link_to join } ∷ []))
+granted_first : (join : Option JoinId) (above : List Life) (child parent : Life) → WantsFirst (above ++ (child ∷ (parent ∷ [])))
+    → WantsFirst (above ++ (record child { link = link_to join } ∷ []))
 granted_first join above child parent first = (first.0, first.1, kept_first (first.0) (first.1) join above child parent (first.2))
 
 -- the highest frame on top
 first_of_highest : (stack : List Life) (life : Life) → first_of (live stack) ≡ Some life → WantsAdd life → WantsFirst (live stack)
 first_of_highest stack life is wants = let rest = first_is (live stack) life is in subst WantsFirst (sym (rest.1)) (life.id, life.acts, (refl, refl, wants))
 
-took_first : (node : Node) (said : Body) (past : Past) (frames : Frames) → tells_in said ≡ false → WantsFirst frames.stack → WantsFirst ((frames_took node said past frames).stack)
+took_first : (node : Node) (said : Body) (past : Past) (frames : Frames) → tells_in said ≡ false → WantsFirst frames.stack
+    → WantsFirst ((frames_took node said past frames).stack)
 took_first node (body.Fetch page) past frames not first = first
 took_first node (body.Page page words) past frames not first = first
 took_first node (body.Reconcile parts) past frames not first = first
@@ -97,7 +101,8 @@ not_syncing stack life first alone syncs =
     let both = sym syncs ∙ wants in
     absurd (cc)
 
-sent_first : (node : Node) (past : Past) (message : Msg) (said : Body) → message.body ≡ said → MaySend node past message → adds_in said || awaits ForAdded past ≡ true
+sent_first : (node : Node) (past : Past) (message : Msg) (said : Body) → message.body ≡ said → MaySend node past message
+    → adds_in said || awaits ForAdded past ≡ true
     → (awaits ForAdded past ≡ true → WantsFirst (stack_of node past)) → WantsFirst (stack_sent said (stack_of node past))
 sent_first node past message (body.Fetch page) says may waits before =
     let quiet = (may_post node past message (body.Fetch page) says refl may).quiet ForAdded in absurd (cc)
@@ -121,7 +126,8 @@ sent_first node past message (body.Add frame index word addend) says may waits b
     first_of_highest (stack_of node past) (add.life) (add.acts.is) (word, addend, add.wanted)
 sent_first node past message (body.Added old) says may waits before = before waits
 
-item_first : (node : Node) (past : Past) (done : Item) (rest : List Item) (posts : List Msg) → IsOwed node past done ⊎ (IsFree past × MayDo node past done rest posts) → awaits ForAdded past ≡ true
+item_first : (node : Node) (past : Past) (done : Item) (rest : List Item) (posts : List Msg)
+    → IsOwed node past done ⊎ (IsFree past × MayDo node past done rest posts) → awaits ForAdded past ≡ true
     → WantsFirst (stack_of node past) → WantsFirst (stack_behind node (Did done) past)
 item_first node past done rest posts (inr own_item) waits first = let quiet = (own_item.0).quiet ForAdded in absurd (cc)
 item_first node past (item.Served frame index word old addend) rest posts (inl serves) waits first =
@@ -133,13 +139,15 @@ item_first node past (item.TakeUp frame) rest posts (inl owed) waits first = abs
 item_first node past (item.OwnFetch page words) rest posts (inl owed) waits first = absurd owed
 item_first node past (item.OwnReconcile part) rest posts (inl owed) waits first = absurd owed
 
-event_first : (node : Node) (past : Past) (event : Event) → IsAllowed node past event → awaits ForAdded (event ∷ past) ≡ true → (awaits ForAdded past ≡ true → WantsFirst (stack_of node past))
+event_first : (node : Node) (past : Past) (event : Event) → IsAllowed node past event → awaits ForAdded (event ∷ past) ≡ true
+    → (awaits ForAdded past ≡ true → WantsFirst (stack_of node past))
     → WantsFirst (stack_behind node event past)
 event_first node past (Did done) may waits before = item_first node past done (may.rest) (may.posts) (may.may) waits (before waits)
 event_first node past (Sent message) may waits before = sent_first node past message message.body refl may waits before
 event_first node past (Took message) may waits before = on (tells_in message.body) refl waits
   where
-    on : (b : Bool) → tells_in message.body ≡ b → list_any (begins ForAdded) (cond b [] (Took message ∷ since (ends ForAdded) past)) ≡ true → WantsFirst (stack_behind node (Took message) past)
+    on : (b : Bool) → tells_in message.body ≡ b → list_any (begins ForAdded) (cond b [] (Took message ∷ since (ends ForAdded) past)) ≡ true
+        → WantsFirst (stack_behind node (Took message) past)
     on true is none = absurd (cc)
     on false is some = took_first node message.body (Took message ∷ past) (frames_of node past) is (before some)
 event_first node past (Ended end) may waits before = before waits
@@ -184,7 +192,8 @@ module _ (cluster : Cluster) (turns : List WholeTurn) (lawful : IsLawful cluster
       let told = told_where_quiet cluster turns lawful number ForAdded position moved found quiet post request less in
       done_by cluster turns lawful number post (told.0) position (told.2) (told.1)
 
-  pub leave : (number position post home receiver : ℕ) (frame : FrameId) (word : ℕ) (addend : ℤ) (note : log.Note) → events post ≡ log.Post number home (log.AddTo frame word addend) → post < position
+  pub leave : (number position post home receiver : ℕ) (frame : FrameId) (word : ℕ) (addend : ℤ) (note : log.Note)
+      → events post ≡ log.Post number home (log.AddTo frame word addend) → post < position
       → events position ≡ log.Post number receiver note → IsLeave note → AddDone events (memory_of cluster) number post position
   leave number position post home receiver frame word addend (log.Done parent child) posted less is leaves =
       let it = posted_is cluster course position number receiver (log.Done parent child) is in
@@ -200,7 +209,8 @@ module _ (cluster : Cluster) (turns : List WholeTurn) (lawful : IsLawful cluster
       let says = park_is cluster number (before course position) parked (it.1.body) (it.4) in
       let may = park_allowed cluster turns lawful number position (it.1) (says.0) (says.1) sent (says.2) in
       added_there number position post home frame word addend (sent.moved) (sent.is) posted less
-      (no_wait (node number) (past number position) (λ first. not_syncing (stack_of (node number) (past number position)) (may.life) first (may.at_join.alone) (may.at_join.wanted))
+      (no_wait (node number) (past number position)
+          (λ first. not_syncing (stack_of (node number) (past number position)) (may.life) first (may.at_join.alone) (may.at_join.wanted))
       (all_allowed cluster turns lawful number position (sent.moved) (sent.is)))
   leave number position post home receiver frame word addend (log.Fetch page) posted less is leaves = absurd leaves
   leave number position post home receiver frame word addend (log.Page page words) posted less is leaves = absurd leaves

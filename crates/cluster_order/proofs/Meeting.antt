@@ -1,5 +1,5 @@
 -- The moment of an access by the rules of the cluster is the one by the rules over positions.
-use Rattle.std.proofs.Common.{◌≡◌, inl, inr, ℕ, ℤ, suc, ◌<◌, ◌≤◌, List, Some, Bool, true, false, ◌↔◌, refl, sym, ◌∙◌, ap, subst, arith}
+use Rattle.std.proofs.Common.{◌≡◌, inl, inr, ℕ, ℤ, suc, ◌<◌, ◌≤◌, List, Some, Bool, true, false, refl, sym, ◌∙◌, ap, subst, arith}
 use Rattle.page_messages.specs.declared.closure.FrameId.{FrameId}
 use Rattle.cluster_rules.specs.Turns.{WholeTurn, Event}
 use Rattle.cluster_rules.specs.Node.{page_of}
@@ -53,7 +53,8 @@ module _ (course : Course) (number : ℕ) (such : Event → Bool) (P : ℕ → T
   up_to_none start end holds none = λ i moved behind less here by. between_none start (suc end) holds none i moved behind (omega (arith, less)) here by
 
 -- an access has one owner
-acts_in : (events : ℕ → log.Event) (at word node : ℕ) → IsAccess events node word at → (frame : FrameId) × (done : log.Act) × (events at ≡ log.Acts node frame done)
+acts_in : (events : ℕ → log.Event) (at word node : ℕ) → IsAccess events node word at
+    → (frame : FrameId) × (done : log.Act) × (events at ≡ log.Acts node frame done)
 acts_in events at word node (inl (inl write)) = (write.1.frame, log.Write word (write.0), write.1.is)
 acts_in events at word node (inl (inr read)) = (read.1.frame, log.Read word (read.0), read.1.is)
 acts_in events at word node (inr add) = (add.1.frame, log.Add word (add.0) (add.1.addend), add.1.is)
@@ -94,7 +95,8 @@ module _ (cluster : Cluster) (turns : List WholeTurn) (lawful : IsLawful cluster
     Here = (event : Event) × Happens course node access event × (touches word event ≡ true)
 
     -- the page of an access is in the cache since its last arrival
-    resident_of : (arrival : ℕ) → Here → IsLast course node (arrives (its_page word)) access arrival → (words : ℕ → ℤ) × Resident events node (its_page word) access arrival words
+    resident_of : (arrival : ℕ) → Here → IsLast course node (arrives (its_page word)) access arrival
+        → (words : ℕ → ℤ) × Resident events node (its_page word) access arrival words
     resident_of arrival here last = on (compare arrival (found.0))
       where
         touch : moments.IsTouch events node word access
@@ -107,7 +109,9 @@ module _ (cluster : Cluster) (turns : List WholeTurn) (lawful : IsLawful cluster
         came = (found.1, found.2.arrives)
 
         none : NoneBetween (IsArrival events node (its_page word)) arrival (suc access)
-        none = none_up_to course node (arrives (its_page word)) (IsArrival events node (its_page word)) arrival access (λ i. arrival_there cluster turns lawful node (its_page word) i) (last.none)
+        none =
+            none_up_to course node (arrives (its_page word)) (IsArrival events node (its_page word)) arrival access
+                (λ i. arrival_there cluster turns lawful node (its_page word) i) (last.none)
 
         it : IsArrival events node (its_page word) arrival
         it = arrival_at cluster turns lawful node (its_page word) arrival (last.event) (last.is) (last.such_is)
@@ -116,8 +120,10 @@ module _ (cluster : Cluster) (turns : List WholeTurn) (lawful : IsLawful cluster
         smaller : arrival < access
         smaller = elim (compare arrival access) [
           | Less3 less ↦ less
-          | Same3 same ↦ (let one = same_happening course node node access (last.event) (here.0) (subst (λ i. Happens course node i (last.event)) same (last.is)) (here.1) in
-              let not : arrives (its_page word) (last.event) ≡ false = ap (arrives (its_page word)) (one.1) ∙ no_arrival word (its_page word) (here.0) (here.2) in
+          | Same3 same ↦ (let one =
+              same_happening course node node access (last.event) (here.0) (subst (λ i. Happens course node i (last.event)) same (last.is)) (here.1) in
+              let not : arrives (its_page word) (last.event) ≡ false =
+                  ap (arrives (its_page word)) (one.1) ∙ no_arrival word (its_page word) (here.0) (here.2) in
               let is = last.such_is in
               absurd (cc))
           | More3 more ↦ (let within = last.within in absurd (omega (arith, more, within)))
@@ -128,7 +134,8 @@ module _ (cluster : Cluster) (turns : List WholeTurn) (lawful : IsLawful cluster
         on (Same3 same) = subst (λ i. (words : ℕ → ℤ) × Resident events node (its_page word) access i words) (sym same) (found.1, found.2)
         on (More3 more) = absurd (found.2.last arrival more smaller it)
 
-    last_arrival : (arrival : ℕ) (words : ℕ → ℤ) → Here → Resident events node (its_page word) access arrival words → IsLast course node (arrives (its_page word)) access arrival
+    last_arrival : (arrival : ℕ) (words : ℕ → ℤ) → Here → Resident events node (its_page word) access arrival words
+        → IsLast course node (arrives (its_page word)) access arrival
     last_arrival arrival words here resident =
         let came = arrival_there cluster turns lawful node (its_page word) arrival (words, resident.arrives) in
         let before = resident.before in
@@ -144,7 +151,8 @@ module _ (cluster : Cluster) (turns : List WholeTurn) (lawful : IsLawful cluster
         earlier = between_none course node (arrives (its_page word)) (IsArrival events node (its_page word)) arrival access
             (λ i event happens is. arrival_at cluster turns lawful node (its_page word) i event happens is) (resident.last)
 
-        none : (i : ℕ) (moved : Moved) → arrival < i → at course i ≡ Some moved → moved.node ≡ node → Order3 i access → i ≤ access → arrives (its_page word) moved.event ≡ false
+        none : (i : ℕ) (moved : Moved) → arrival < i → at course i ≡ Some moved → moved.node ≡ node → Order3 i access → i ≤ access
+            → arrives (its_page word) moved.event ≡ false
         none i moved behind found by (Less3 smaller) less = earlier i moved behind smaller found by
         none i moved behind found by (Same3 same) less =
             let one = same_happening course node node access moved.event (here.0)
@@ -152,12 +160,14 @@ module _ (cluster : Cluster) (turns : List WholeTurn) (lawful : IsLawful cluster
             ap (arrives (its_page word)) (one.1) ∙ no_arrival word (its_page word) (here.0) (here.2)
         none i moved behind found by (More3 more) less = absurd (omega (arith, more, less))
 
-    its_touch : (arrival : ℕ) (words : ℕ → ℤ) → Here → Resident events node (its_page word) access arrival words → IsTouch (node_at cluster node) course word access arrival
+    its_touch : (arrival : ℕ) (words : ℕ → ℤ) → Here → Resident events node (its_page word) access arrival words
+        → IsTouch (node_at cluster node) course word access arrival
     its_touch arrival words here resident = record { event = here.0; is = here.1; touches_word = here.2; arrived = last_arrival arrival words here resident }
 
     -- ---- the last write and the first sending behind it
 
-    last_write : (arrival write : ℕ) → IsLast course node (writes word) access write → arrival < write → (value : ℤ) × LastWrite events node word arrival (suc access) write value
+    last_write : (arrival write : ℕ) → IsLast course node (writes word) access write → arrival < write
+        → (value : ℤ) × LastWrite events node word arrival (suc access) write value
     last_write arrival write last behind =
         let it = write_at cluster turns lawful node word write (last.event) (last.is) (last.such_is) in
         let within = last.within in (
@@ -179,14 +189,18 @@ module _ (cluster : Cluster) (turns : List WholeTurn) (lawful : IsLawful cluster
           is = it.1;
           such_is = it.2;
           within = omega (arith, before);
-          none = up_to_none course node (writes word) (IsWrite events node word) write access (λ i event happens is. write_at cluster turns lawful node word i event happens is) (last.none);
+          none =
+              up_to_none course node (writes word) (IsWrite events node word) write access
+                  (λ i event happens is. write_at cluster turns lawful node word i event happens is) (last.none);
         }
 
     first_sending : (write sending : ℕ) → IsFirst course node (sends (its_page word)) write sending → FirstSending events node (its_page word) write sending
     first_sending write sending first = record {
       after = first.behind;
       sends = sends_at cluster turns lawful node (its_page word) sending (first.event) (first.is) (first.such_is);
-      none = none_between course node (sends (its_page word)) (Sends events node (its_page word)) write sending (λ i. sends_there cluster turns lawful node (its_page word) i) (first.none);
+      none =
+          none_between course node (sends (its_page word)) (Sends events node (its_page word)) write sending
+              (λ i. sends_there cluster turns lawful node (its_page word) i) (first.none);
     }
 
     sending_first : (write sending : ℕ) → FirstSending events node (its_page word) write sending → IsFirst course node (sends (its_page word)) write sending
@@ -229,7 +243,9 @@ module _ (cluster : Cluster) (turns : List WholeTurn) (lawful : IsLawful cluster
           arrival = it.arrival;
           words = resident.0;
           resident = resident.1;
-          none = none_up_to course node (writes word) (IsWrite events node word) (it.arrival) access (λ i. write_there cluster turns lawful node word i) (it.unwritten);
+          none =
+              none_up_to course node (writes word) (IsWrite events node word) (it.arrival) access (λ i. write_there cluster turns lawful node word i)
+                  (it.unwritten);
           source = source_at cluster turns lawful node (its_page word) (it.arrival) moment (arrived.event) (arrived.is) (arrived.such_is) (it.source);
         })
 
@@ -249,7 +265,9 @@ module _ (cluster : Cluster) (turns : List WholeTurn) (lawful : IsLawful cluster
     stay_moment moment here (inr it) = inr (inl (record {
       arrival = it.arrival;
       touch = its_touch (it.arrival) (it.words) here (it.resident);
-      unwritten = up_to_none course node (writes word) (IsWrite events node word) (it.arrival) access (λ i event happens is. write_at cluster turns lawful node word i event happens is) (it.none);
+      unwritten =
+          up_to_none course node (writes word) (IsWrite events node word) (it.arrival) access
+              (λ i event happens is. write_at cluster turns lawful node word i event happens is) (it.none);
       source = source_there cluster turns lawful node (its_page word) (it.arrival) moment (it.source);
     }))
 
@@ -262,11 +280,13 @@ module _ (cluster : Cluster) (turns : List WholeTurn) (lawful : IsLawful cluster
     own_access other there touched =
         one_owner events access word node owner (inl (touch_at cluster turns lawful node word access other there touched)) is
 
-    touched_moment : (moment : ℕ) (other : Event) → Happens course node access other → touches word other ≡ true → Stay events (memory_of cluster) node word access moment
+    touched_moment : (moment : ℕ) (other : Event) → Happens course node access other → touches word other ≡ true
+        → Stay events (memory_of cluster) node word access moment
         → Moment events (memory_of cluster) owner word access moment
     touched_moment moment other there touched stay =
         let mine = own_access other there touched in
-        subst (λ it. Moment events (memory_of cluster) it word access moment) mine (inl (touch_at cluster turns lawful node word access other there touched, stay))
+        subst (λ it. Moment events (memory_of cluster) it word access moment) mine
+            (inl (touch_at cluster turns lawful node word access other there touched, stay))
 
     pub moment_at : (moment : ℕ) → IsMoment (node_at cluster node) course word access moment → Moment events (memory_of cluster) owner word access moment
     moment_at moment (inl it) = touched_moment moment (it.touch.event) (it.touch.is) (it.touch.touches_word) (sent_stay node word access moment it)
@@ -280,13 +300,10 @@ module _ (cluster : Cluster) (turns : List WholeTurn) (lawful : IsLawful cluster
     moment_there moment (inl (touch, stay)) =
         let it = touch_there cluster turns lawful owner word access touch in
         let same = same_happening course owner node access (it.0) event (it.1) happens in
-        let here : (other : Event) × Happens course node access other × (touches word other ≡ true) = (it.0, subst (λ one. Happens course one access (it.0)) (same.0) (it.1), it.2) in
+        let here : (other : Event) × Happens course node access other × (touches word other ≡ true) =
+            (it.0, subst (λ one. Happens course one access (it.0)) (same.0) (it.1), it.2) in
         stay_moment node word access moment here (subst (λ one. Stay events (memory_of cluster) one word access moment) (same.0) stay)
     moment_there moment (inr (add, at_once)) =
         let it = add_there cluster turns lawful owner word access add in
         let same = same_happening course (it.0) node access (it.1) event (it.2) happens in
         inr (inr (record { event = it.1; is = subst (λ one. Happens course one access (it.1)) (same.0) (it.2); adds_word = it.3; at_once = at_once }))
-
-    -- Both definitions give the access the same moments.
-    pub moments_agree : (moment : ℕ) → IsMoment (node_at cluster node) course word access moment ↔ Moment events (memory_of cluster) owner word access moment
-    moments_agree moment = (moment_at moment, moment_there moment)

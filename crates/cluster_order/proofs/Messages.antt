@@ -35,7 +35,8 @@ module _ (course : Course) (position : ℕ) (moved : Moved) (found : at course p
       let count = length_before in let split = at_splits course position moved found in
       sym (ap (λ it. before it earlier) front_of ∙ before_behind (split.later ++ moved ∷ []) (before course position) earlier (omega (arith, less, count)))
 
-  pub happens_before : (number earlier : ℕ) (event : Event) → earlier < position → Happens course number earlier event → Happens (before course position) number earlier event
+  pub happens_before : (number earlier : ℕ) (event : Event) → earlier < position → Happens course number earlier event
+      → Happens (before course position) number earlier event
   happens_before number earlier event less it = record { moved = it.moved; is = at_before earlier less ∙ it.is; by = it.by; event_is = it.event_is }
 
   pub happened_before : (number earlier : ℕ) (event : Event) → Happens (before course position) number earlier event → Happens course number earlier event
@@ -44,7 +45,8 @@ module _ (course : Course) (position : ℕ) (moved : Moved) (found : at course p
       record { moved = it.moved; is = sym (at_before earlier (omega (arith, inside, count))) ∙ it.is; by = it.by; event_is = it.event_is }
 
   -- what stands nowhere behind an earlier position, in the past of a node, stands nowhere between
-  pub none_between : (number : ℕ) (such : Event → Bool) (P : ℕ → Type 0) (start : ℕ) → ((i : ℕ) → P i → (event : Event) × Happens course number i event × (such event ≡ true))
+  pub none_between : (number : ℕ) (such : Event → Bool) (P : ℕ → Type 0) (start : ℕ)
+      → ((i : ℕ) → P i → (event : Event) × Happens course number i event × (such event ≡ true))
       → NoneFrom (before course position) number such (suc start) → NoneBetween P start position
   none_between number such P start stands none = λ i behind less holds.
       let it = stands i holds in
@@ -52,12 +54,14 @@ module _ (course : Course) (position : ℕ) (moved : Moved) (found : at course p
       let is : such (it.1.moved.event) ≡ true = ap such (it.1.event_is) ∙ it.2 in
       absurd (cc)
 
-  pub none_from : (number : ℕ) (such : Event → Bool) (P : ℕ → Type 0) (start : ℕ) → ((i : ℕ) (event : Event) → Happens course number i event → such event ≡ true → P i)
+  pub none_from : (number : ℕ) (such : Event → Bool) (P : ℕ → Type 0) (start : ℕ)
+      → ((i : ℕ) (event : Event) → Happens course number i event → such event ≡ true → P i)
       → NoneBetween P start position → NoneFrom (before course position) number such (suc start)
   none_from number such P start holds none = λ i moved behind here by.
       let count = length_before in let inside = within (before course position) i moved here in
       let less : i < position = omega (arith, inside, count) in
-      on (such moved.event) refl (λ is. none i (omega (arith, behind)) less (holds i moved.event (record { moved = moved; is = sym (at_before i less) ∙ here; by = by; event_is = refl }) is))
+      on (such moved.event) refl (λ is. none i (omega (arith, behind)) less
+          (holds i moved.event (record { moved = moved; is = sym (at_before i less) ∙ here; by = by; event_is = refl }) is))
     where
       on : {b : Bool} (c : Bool) → b ≡ c → (b ≡ true → ⊥) → b ≡ false
       on true is no_such = absurd (no_such is)
@@ -99,7 +103,8 @@ module _ (cluster : Cluster) (turns : List WholeTurn) (lawful : IsLawful cluster
       let same : place ≡ Some (it.place) = sym (found.place_is) ∙ it.place_is in
       let post = post_position earlier (it.place) in
       let less : post < position =
-      let inside = within earlier post _ (it.posted.is) in let count = length_before (course_of turns) position (found.moved) (found.is) in omega (arith, inside, count) in
+      let inside = within earlier post _ (it.posted.is) in
+      let count = length_before (course_of turns) position (found.moved) (found.is) in omega (arith, inside, count) in
       subst (λ at_place. Taking receiver (taken_from earlier at_place) position message) (sym same) (record {
         sender = it.posted.sender;
         place = it.place;
@@ -117,7 +122,8 @@ module _ (cluster : Cluster) (turns : List WholeTurn) (lawful : IsLawful cluster
       })
 
   -- an event in which a node takes what was posted at a position
-  pub taking_at : (receiver post position : ℕ) → events_of cluster (course_of turns) position ≡ log.Took receiver post → (message : Msg) × Taking receiver post position message
+  pub taking_at : (receiver post position : ℕ) → events_of cluster (course_of turns) position ≡ log.Took receiver post
+      → (message : Msg) × Taking receiver post position message
   taking_at receiver post position is =
       let found = taken_is cluster (course_of turns) position receiver post is in
       (found.1, subst (λ it. Taking receiver it position (found.1)) (found.3) (taking_found receiver position (found.0) (found.1) (found.2)))
@@ -132,7 +138,8 @@ module _ (cluster : Cluster) (turns : List WholeTurn) (lawful : IsLawful cluster
       ∙ ap (λ to. log.Post (it.sender) to (note_of cluster (it.sender) (before (course_of turns) post) message.body)) (it.to)
 
   -- what stands at one position is one thing
-  pub same_message : (first second : Msg) (number other post : ℕ) (place place' : Option PostAt) → Found cluster (course_of turns) post number place (Sent first) → Found cluster (course_of turns) post other place' (Sent second)
+  pub same_message : (first second : Msg) (number other post : ℕ) (place place' : Option PostAt)
+      → Found cluster (course_of turns) post number place (Sent first) → Found cluster (course_of turns) post other place' (Sent second)
       → (first ≡ second) × (number ≡ other) × (place ≡ place')
   same_message first second number other post place place' one two =
       let some : Some (one.moved) ≡ Some (two.moved) = sym (one.is) ∙ two.is in
@@ -145,7 +152,8 @@ module _ (cluster : Cluster) (turns : List WholeTurn) (lawful : IsLawful cluster
   delivery = record {
     posted = λ position receiver post is.
         let it = taking_at receiver post position is in
-        (it.1.sender, note_of cluster (it.1.sender) (before (course_of turns) post) (it.0.body), posted_event receiver post position (it.0) (it.1), it.1.before);
+        (it.1.sender, note_of cluster (it.1.sender) (before (course_of turns) post) (it.0.body), posted_event receiver post position (it.0) (it.1),
+            it.1.before);
     once = λ position other receiver another post is is'.
         let one = taking_at receiver post position is in
         let two = taking_at another post other is' in

@@ -62,10 +62,12 @@ module _ (cluster : Cluster) (turns : List WholeTurn) (lawful : IsLawful cluster
     pub is : Happens course number position (Did (item.Act frame index (act.Spawn child procedure arguments)))
     pub name : child ≡ record { node = number; number = next_frame (node number) (past number position) }
 
-  pub spawned_there : (number position : ℕ) (frame child : FrameId) → events position ≡ log.Acts number frame (log.Spawn child) → SpawnsAt number position frame child
+  pub spawned_there : (number position : ℕ) (frame child : FrameId) → events position ≡ log.Acts number frame (log.Spawn child)
+      → SpawnsAt number position frame child
   spawned_there number position frame child is = on (acted_is cluster course position number frame (log.Spawn child) is)
     where
-      on : Acted cluster course position number frame (log.Spawn child) ⊎ Served cluster course position number frame (log.Spawn child) → SpawnsAt number position frame child
+      on : Acted cluster course position number frame (log.Spawn child) ⊎ Served cluster course position number frame (log.Spawn child)
+          → SpawnsAt number position frame child
       on (inl it) =
           let says = spawn_is child (it.act) (it.act_is) in
           let happens = subst (λ done. Happens course number position (Did (item.Act frame (it.index) done))) (says.2) (it.is) in
@@ -85,7 +87,8 @@ module _ (cluster : Cluster) (turns : List WholeTurn) (lawful : IsLawful cluster
           absurd (omega (arith, some, none))
 
   -- a later Spawn gives another name
-  later_name : (number earlier later : ℕ) (frame other child : FrameId) → earlier < later → SpawnsAt number earlier frame child → SpawnsAt number later other child → ⊥
+  later_name : (number earlier later : ℕ) (frame other child : FrameId) → earlier < later → SpawnsAt number earlier frame child
+      → SpawnsAt number later other child → ⊥
   later_name number earlier later frame other child less one two =
       let event = Did (item.Act frame (one.index) (act.Spawn child (one.procedure) (one.arguments))) in
       let front = before course later in
@@ -101,7 +104,8 @@ module _ (cluster : Cluster) (turns : List WholeTurn) (lawful : IsLawful cluster
 
   -- no frame is spawned twice
   pub fresh : (child : FrameId) (position again : ℕ) → Spawned events child position → Spawned events child again → position ≡ again
-  fresh child position again first second = on (spawned_there (first.0) position (first.1) child (first.2)) (spawned_there (second.0) again (second.1) child (second.2)) (compare position again)
+  fresh child position again first second =
+      on (spawned_there (first.0) position (first.1) child (first.2)) (spawned_there (second.0) again (second.1) child (second.2)) (compare position again)
     where
       on : SpawnsAt (first.0) position (first.1) child → SpawnsAt (second.0) again (second.1) child → Order3 position again → position ≡ again
       on one two (Same3 same) = same

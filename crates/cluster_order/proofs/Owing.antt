@@ -57,7 +57,8 @@ adds_in_body (body.Park join closure) = false
 adds_in_body (body.Add frame index word addend) = true
 adds_in_body (body.Added old) = false
 
-pub request_same : (cluster : Cluster) (number receiver : ℕ) (course : Course) (said : Body) → is_request (log.Post number receiver (note_of cluster number course said)) ≡ asks_home_in said
+pub request_same : (cluster : Cluster) (number receiver : ℕ) (course : Course) (said : Body)
+    → is_request (log.Post number receiver (note_of cluster number course said)) ≡ asks_home_in said
 request_same cluster number receiver course (body.Fetch page) = refl
 request_same cluster number receiver course (body.Page page words) = refl
 request_same cluster number receiver course (body.Reconcile parts) = refl
@@ -70,7 +71,8 @@ request_same cluster number receiver course (body.Park join closure) = refl
 request_same cluster number receiver course (body.Add frame index word addend) = refl
 request_same cluster number receiver course (body.Added old) = refl
 
-pub add_same : (cluster : Cluster) (number receiver : ℕ) (course : Course) (said : Body) → is_add (log.Post number receiver (note_of cluster number course said)) ≡ adds_in_body said
+pub add_same : (cluster : Cluster) (number receiver : ℕ) (course : Course) (said : Body)
+    → is_add (log.Post number receiver (note_of cluster number course said)) ≡ adds_in_body said
 add_same cluster number receiver course (body.Fetch page) = refl
 add_same cluster number receiver course (body.Page page words) = refl
 add_same cluster number receiver course (body.Reconcile parts) = refl
@@ -96,7 +98,8 @@ reply_same cluster number receiver course (body.Park join closure) = refl
 reply_same cluster number receiver course (body.Add frame index word addend) = refl
 reply_same cluster number receiver course (body.Added old) = refl
 
-pub tells_same : (cluster : Cluster) (home number receiver : ℕ) (course : Course) (said : Body) → gives_added home (log.Post number receiver (note_of cluster number course said)) ≡ tells_in said && eqb number home
+pub tells_same : (cluster : Cluster) (home number receiver : ℕ) (course : Course) (said : Body)
+    → gives_added home (log.Post number receiver (note_of cluster number course said)) ≡ tells_in said && eqb number home
 tells_same cluster home number receiver course (body.Fetch page) = refl
 tells_same cluster home number receiver course (body.Page page words) = refl
 tells_same cluster home number receiver course (body.Reconcile parts) = refl
@@ -116,29 +119,35 @@ pub record NoMessage (home : ℕ) (events : ℕ → log.Event) (event : log.Even
   pub no_add : takes_add events home event ≡ false
   pub no_added : gives_added home event ≡ false
 
-pub item_no_message : (cluster : Cluster) (home number : ℕ) (events : ℕ → log.Event) (past : Past) (done : Item) → NoMessage home events (item_of cluster number past done)
+pub item_no_message : (cluster : Cluster) (home number : ℕ) (events : ℕ → log.Event) (past : Past) (done : Item)
+    → NoMessage home events (item_of cluster number past done)
 item_no_message cluster home number events past (item.Act frame index act) = record { no_request = refl; no_reply = refl; no_add = refl; no_added = refl }
 item_no_message cluster home number events past (item.Tick frame) = record { no_request = refl; no_reply = refl; no_add = refl; no_added = refl }
 item_no_message cluster home number events past (item.Drop page) = record { no_request = refl; no_reply = refl; no_add = refl; no_added = refl }
 item_no_message cluster home number events past (item.TakeUp frame) = record { no_request = refl; no_reply = refl; no_add = refl; no_added = refl }
 item_no_message cluster home number events past (item.OwnFetch page words) = record { no_request = refl; no_reply = refl; no_add = refl; no_added = refl }
 item_no_message cluster home number events past (item.OwnReconcile part) = record { no_request = refl; no_reply = refl; no_add = refl; no_added = refl }
-item_no_message cluster home number events past (item.Served frame index word old addend) = record { no_request = refl; no_reply = refl; no_add = refl; no_added = refl }
+item_no_message cluster home number events past (item.Served frame index word old addend) =
+    record { no_request = refl; no_reply = refl; no_add = refl; no_added = refl }
 
-pub other_no_message : (cluster : Cluster) (home number : ℕ) (events : ℕ → log.Event) (course : Course) (place : Option PostAt) (event : Event) → eqb number home ≡ false
+pub other_no_message : (cluster : Cluster) (home number : ℕ) (events : ℕ → log.Event) (course : Course) (place : Option PostAt) (event : Event)
+    → eqb number home ≡ false
     → NoMessage home events (happens_to cluster course number place event)
 other_no_message cluster home number events course place (Did done) other = item_no_message cluster home number events (own number course) done
 other_no_message cluster home number events course place (Sent message) other =
-    record { no_request = refl; no_reply = rw other refl; no_add = refl; no_added = tells_same cluster home number message.receiver course message.body ∙ on (tells_in message.body) }
+    record { no_request = refl; no_reply =
+        rw other refl; no_add = refl; no_added = tells_same cluster home number message.receiver course message.body ∙ on (tells_in message.body) }
   where
     on : (b : Bool) → b && eqb number home ≡ false
     on true = other
     on false = refl
-other_no_message cluster home number events course place (Took message) other = record { no_request = rw other refl; no_reply = refl; no_add = rw other refl; no_added = refl }
+other_no_message cluster home number events course place (Took message) other =
+    record { no_request = rw other refl; no_reply = refl; no_add = rw other refl; no_added = refl }
 other_no_message cluster home number events course place (Ended end) other = record { no_request = refl; no_reply = refl; no_add = refl; no_added = refl }
 
 -- what serves an add
-pub served_here : (cluster : Cluster) (home number : ℕ) (past : Past) (done : Item) → ((frame : FrameId) (index word : ℕ) (old addend : ℤ) → done ≡ item.Served frame index word old addend → ⊥)
+pub served_here : (cluster : Cluster) (home number : ℕ) (past : Past) (done : Item)
+    → ((frame : FrameId) (index word : ℕ) (old addend : ℤ) → done ≡ item.Served frame index word old addend → ⊥)
     → serves (memory_of cluster) home (item_of cluster number past done) ≡ false
 served_here cluster home number past (item.Act frame index (act.Read word value)) none = refl
 served_here cluster home number past (item.Act frame index (act.Write word value)) none = refl
@@ -165,13 +174,16 @@ module _ (cluster : Cluster) (turns : List WholeTurn) (lawful : IsLawful cluster
   abbrev events : ℕ → log.Event
   events = ev cluster turns lawful
 
-  pub event_of_moved : (position : ℕ) (moved : Moved) → at course position ≡ Some moved → events position ≡ happens_to cluster (before course position) moved.node moved.message moved.event
-  event_of_moved position moved found = event_there cluster turns lawful moved.node position moved.event (record { moved = moved; is = found; by = refl; event_is = refl })
+  pub event_of_moved : (position : ℕ) (moved : Moved) → at course position ≡ Some moved
+      → events position ≡ happens_to cluster (before course position) moved.node moved.message moved.event
+  event_of_moved position moved found =
+      event_there cluster turns lawful moved.node position moved.event (record { moved = moved; is = found; by = refl; event_is = refl })
 
   pub nothing_there : (position : ℕ) → at course position ≡ None → events position ≡ log.Nothing
   nothing_there position none = rw none refl
 
-  abbrev pub here : (position : ℕ) (moved : Moved) (event : Event) → at course position ≡ Some moved → moved.node ≡ home → moved.event ≡ event → Happens course home position event
+  abbrev pub here : (position : ℕ) (moved : Moved) (event : Event) → at course position ≡ Some moved → moved.node ≡ home → moved.event ≡ event
+      → Happens course home position event
   here position moved event found by is = record { moved = moved; is = found; by = by; event_is = is }
 
   -- the event, told by the home
@@ -186,23 +198,21 @@ module _ (cluster : Cluster) (turns : List WholeTurn) (lawful : IsLawful cluster
   pub past_now : (position : ℕ) (moved : Moved) → at course position ≡ Some moved → own home (first position course) ≡ own home (before course position)
   past_now position moved found = ap (own home) (first_at position course moved found)
 
-  pub past_other : (position : ℕ) (moved : Moved) → at course position ≡ Some moved → eqb moved.node home ≡ false → own home (first (suc position) course) ≡ own home (first position course)
+  pub past_other : (position : ℕ) (moved : Moved) → at course position ≡ Some moved → eqb moved.node home ≡ false
+      → own home (first (suc position) course) ≡ own home (first position course)
   past_other position moved found other =
       ap (own home) (first_next position course moved found) ∙ own_other home moved (before course position) other ∙ sym (past_now position moved found)
 
-  pub past_next : (position : ℕ) (moved : Moved) → at course position ≡ Some moved → moved.node ≡ home → own home (first (suc position) course) ≡ moved.event ∷ own home (first position course)
+  pub past_next : (position : ℕ) (moved : Moved) → at course position ≡ Some moved → moved.node ≡ home
+      → own home (first (suc position) course) ≡ moved.event ∷ own home (first position course)
   past_next position moved found by =
-      ap (own home) (first_next position course moved found) ∙ own_first home moved (before course position) by ∙ ap (λ it. moved.event ∷ it) (sym (past_now position moved found))
+      ap (own home) (first_next position course moved found) ∙ own_first home moved (before course position) by
+          ∙ ap (λ it. moved.event ∷ it) (sym (past_now position moved found))
 
   pub taken_message : (position : ℕ) (moved : Moved) (message : Msg) → at course position ≡ Some moved → moved.node ≡ home → moved.event ≡ Took message
       → Taking cluster turns lawful home (taken_from (before course position) moved.message) position message
   taken_message position moved message found by is =
       taking_found cluster turns lawful home position moved.message message (record { moved = moved; is = found; by = by; place_is = refl; event_is = is })
-
-  posted_there : (position : ℕ) (moved : Moved) (message : Msg) (found : at course position ≡ Some moved) (by : moved.node ≡ home) (is : moved.event ≡ Took message)
-      → (sender : ℕ) × (receiver : ℕ) × (events (taken_from (before course position) moved.message) ≡ log.Post sender receiver (note_of cluster sender (before course (taken_from (before course position) moved.message)) message.body))
-  posted_there position moved message found by is =
-      let it = taken_message position moved message found by is in (it.sender, home, posted_event cluster turns lawful home (taken_from (before course position) moved.message) position message it)
 
   -- ---- Pages and Acks
 
@@ -229,7 +239,8 @@ module _ (cluster : Cluster) (turns : List WholeTurn) (lawful : IsLawful cluster
   reply_kept position none same = Kept (none.no_reply) (none.no_request) same
 
   -- the home takes a message
-  reply_took : (position : ℕ) (moved : Moved) (message : Msg) → at course position ≡ Some moved → moved.node ≡ home → moved.event ≡ Took message → ReplyStep position
+  reply_took : (position : ℕ) (moved : Moved) (message : Msg) → at course position ≡ Some moved → moved.node ≡ home → moved.event ≡ Took message
+      → ReplyStep position
   unfolding owed_home_replies
   reply_took position moved message found by is =
       on (message.body) refl
@@ -244,7 +255,9 @@ module _ (cluster : Cluster) (turns : List WholeTurn) (lawful : IsLawful cluster
       event_is = event_here position moved (Took message) found by is
 
       asked : push_reply position ≡ asks_home_in message.body
-      asked = rw (event_is, posted_event cluster turns lawful home post position message it, same_number home) (request_same cluster (it.sender) home (before course post) message.body)
+      asked =
+          rw (event_is, posted_event cluster turns lawful home post position message it, same_number home)
+              (request_same cluster (it.sender) home (before course post) message.body)
 
       no_reply : pop_reply position ≡ false
       no_reply = rw event_is refl
@@ -252,16 +265,19 @@ module _ (cluster : Cluster) (turns : List WholeTurn) (lawful : IsLawful cluster
       grown : owed (suc position) ≡ owed position ++ reply node message.sender message.body (own home (first position course))
       grown = ap (owed_home_replies node) (past_next position moved found by ∙ ap (λ event. event ∷ own home (first position course)) is)
 
-      kept : (said : Body) → message.body ≡ said → asks_home_in said ≡ false → reply node message.sender said (own home (first position course)) ≡ [] → ReplyStep position
+      kept : (said : Body) → message.body ≡ said → asks_home_in said ≡ false → reply node message.sender said (own home (first position course)) ≡ []
+          → ReplyStep position
       kept said says not_asked none = Kept no_reply (asked ∙ ap asks_home_in says ∙ not_asked)
-          (grown ∙ ap (λ said. owed position ++ reply node message.sender said (own home (first position course))) says ∙ ap (λ it. owed position ++ it) none ∙ append-nil (owed position))
+          (grown ∙ ap (λ said. owed position ++ reply node message.sender said (own home (first position course))) says ∙ ap (λ it. owed position ++ it) none
+              ∙ append-nil (owed position))
 
       on : (said : Body) → message.body ≡ said → ReplyStep position
       on (body.Fetch page) says =
           let due = from_me node message.sender (body.Page page (stored_page node page (own home (first position course)))) in
           Pushed due no_reply (asked ∙ ap asks_home_in says)
           (grown ∙ ap (λ said. owed position ++ reply node message.sender said (own home (first position course))) says)
-          (PageFor post page message it says (ap (λ past. from_me node message.sender (body.Page page (stored_page node page past))) (past_now position moved found)))
+          (PageFor post page message it says (ap (λ past. from_me node message.sender (body.Page page (stored_page node page past)))
+              (past_now position moved found)))
       on (body.Page page words) says = kept (body.Page page words) says refl refl
       on (body.Reconcile parts) says =
           Pushed (from_me node message.sender body.Ack) no_reply (asked ∙ ap asks_home_in says)
@@ -277,7 +293,8 @@ module _ (cluster : Cluster) (turns : List WholeTurn) (lawful : IsLawful cluster
       on (body.Added old) says = kept (body.Added old) says refl refl
 
   -- the home posts a message
-  reply_sent : (position : ℕ) (moved : Moved) (message : Msg) → at course position ≡ Some moved → moved.node ≡ home → moved.event ≡ Sent message → ReplyStep position
+  reply_sent : (position : ℕ) (moved : Moved) (message : Msg) → at course position ≡ Some moved → moved.node ≡ home → moved.event ≡ Sent message
+      → ReplyStep position
   unfolding owed_home_replies
   reply_sent position moved message found by is = on (replies_in message.body) refl
     where
@@ -303,18 +320,21 @@ module _ (cluster : Cluster) (turns : List WholeTurn) (lawful : IsLawful cluster
 
       mine : (moved : Moved) → at course position ≡ Some moved → moved.node ≡ home → (event : Event) → moved.event ≡ event → ReplyStep position
       mine moved found by (Did done) is =
-          reply_kept position (subst (NoMessage home events) (sym (event_here position moved (Did done) found by is)) (item_no_message cluster home home events (own home (before course position)) done))
+          reply_kept position (subst (NoMessage home events) (sym (event_here position moved (Did done) found by is))
+              (item_no_message cluster home home events (own home (before course position)) done))
           (ap (owed_home_replies node) (past_next position moved found by ∙ ap (λ event. event ∷ own home (first position course)) is))
       mine moved found by (Sent message) is = reply_sent position moved message found by is
       mine moved found by (Took message) is = reply_took position moved message found by is
       mine moved found by (Ended end) is =
-          reply_kept position (subst (NoMessage home events) (sym (event_here position moved (Ended end) found by is)) (record { no_request = refl; no_reply = refl; no_add = refl; no_added = refl }))
+          reply_kept position (subst (NoMessage home events) (sym (event_here position moved (Ended end) found by is))
+              (record { no_request = refl; no_reply = refl; no_add = refl; no_added = refl }))
           (ap (owed_home_replies node) (past_next position moved found by ∙ ap (λ event. event ∷ own home (first position course)) is))
 
       whose : (moved : Moved) → at course position ≡ Some moved → (b : Bool) → eqb moved.node home ≡ b → ReplyStep position
       whose moved found true by = mine moved found (grind (arith, nat_tests)) moved.event refl
       whose moved found false other =
-          reply_kept position (subst (NoMessage home events) (sym (event_of_moved position moved found)) (other_no_message cluster home moved.node events (before course position) moved.message moved.event other))
+          reply_kept position (subst (NoMessage home events) (sym (event_of_moved position moved found))
+              (other_no_message cluster home moved.node events (before course position) moved.message moved.event other))
           (ap (owed_home_replies node) (past_other position moved found other))
 
       on : (option : Option Moved) → at course position ≡ option → ReplyStep position
@@ -323,10 +343,12 @@ module _ (cluster : Cluster) (turns : List WholeTurn) (lawful : IsLawful cluster
 
   replies_matched : (position : ℕ) → Matched OwesFor (owed position) (queue push_reply pop_reply position)
   unfolding owed_home_replies
-  replies_matched position = matched OwesFor push_reply pop_reply owed (ap (λ course. owed_home_replies node (own home course)) (first_none course)) reply_step position
+  replies_matched position =
+      matched OwesFor push_reply pop_reply owed (ap (λ course. owed_home_replies node (own home course)) (first_none course)) reply_step position
 
   -- A Page or an Ack that is posted is the one for what was taken at this position.
-  pub reply_for : (position : ℕ) (message : Msg) → Happens course home position (Sent message) → replies_in message.body ≡ true → (taking : ℕ) × Answers events home position taking × OwesFor message taking
+  pub reply_for : (position : ℕ) (message : Msg) → Happens course home position (Sent message) → replies_in message.body ≡ true
+      → (taking : ℕ) × Answers events home position taking × OwesFor message taking
   reply_for position message happens replies =
       let due = reply_owed cluster turns lawful home position message happens replies in
       let same : owed position ≡ message ∷ due.0 = ap (owed_home_replies node) (past_now position (happens.moved) (happens.is)) ∙ due.1 in

@@ -19,7 +19,8 @@ EarlierPlace place here = (place.turn < here.turn) ⊎ ((place.turn ≡ here.tur
 
 -- a message stands at the position, with this place
 abbrev pub PostedAt : Course → PostAt → ℕ → Type 0
-PostedAt course place position = (moved : Moved) × (message : Msg) × (at course position ≡ Some moved) × (moved.event ≡ Sent message) × (moved.message ≡ Some place)
+PostedAt course place position =
+    (moved : Moved) × (message : Msg) × (at course position ≡ Some moved) × (moved.event ≡ Sent message) × (moved.message ≡ Some place)
 
 -- Each post has its place before this one, and is found by it.
 abbrev Placed : Course → PostAt → Type 0
@@ -27,7 +28,8 @@ Placed course here = (place : PostAt) (position : ℕ) → PostedAt course place
 
 not_here : (place here : PostAt) → EarlierPlace place here → same_place here place ≡ false
 not_here place here (inl less) = let other : eqb (here.turn) (place.turn) ≡ false = grind (arith, nat_tests) in rw other refl
-not_here place here (inr both) = let other : eqb (here.index) (place.index) ≡ false = let less = both.1 in grind (arith, nat_tests) in on (eqb (here.turn) (place.turn)) other
+not_here place here (inr both) =
+    let other : eqb (here.index) (place.index) ≡ false = let less = both.1 in grind (arith, nat_tests) in on (eqb (here.turn) (place.turn)) other
   where
     on : (b : Bool) → eqb (here.index) (place.index) ≡ false → b && eqb (here.index) (place.index) ≡ false
     on true other = other
@@ -47,11 +49,13 @@ earlier_turn place here turn less (inr both) = let same = both.0 in inl (omega (
 -- ---- one more
 
 -- what is no post leaves the places as they are
-no_post : (course : Course) (here : PostAt) (first : Moved) → ((message : Msg) → first.event ≡ Sent message → ⊥) → ((place : PostAt) → posts_at place first ≡ false) → Placed course here
+no_post : (course : Course) (here : PostAt) (first : Moved) → ((message : Msg) → first.event ≡ Sent message → ⊥)
+    → ((place : PostAt) → posts_at place first ≡ false) → Placed course here
     → Placed (first ∷ course) here
 no_post course here first none passes placed = λ place position posted. on place position posted (eqb position (length course)) refl (posted.2)
   where
-    on : (place : PostAt) (position : ℕ) (posted : PostedAt (first ∷ course) place position) (b : Bool) → eqb position (length course) ≡ b → cond b (Some first) (at course position) ≡ Some (posted.0)
+    on : (place : PostAt) (position : ℕ) (posted : PostedAt (first ∷ course) place position) (b : Bool) → eqb position (length course) ≡ b
+        → cond b (Some first) (at course position) ≡ Some (posted.0)
         → EarlierPlace place here × (post_position (first ∷ course) place ≡ position)
     on place position posted true is found =
         let same : first ≡ posted.0 = cc in
@@ -67,7 +71,8 @@ one_post course here node message placed = λ place position posted. on place po
     first : Moved
     first = record { node = node; event = Sent message; message = Some here }
 
-    on : (place : PostAt) (position : ℕ) (posted : PostedAt (first ∷ course) place position) (b : Bool) → eqb position (length course) ≡ b → cond b (Some first) (at course position) ≡ Some (posted.0)
+    on : (place : PostAt) (position : ℕ) (posted : PostedAt (first ∷ course) place position) (b : Bool) → eqb position (length course) ≡ b
+        → cond b (Some first) (at course position) ≡ Some (posted.0)
         → EarlierPlace place (record here { index = here.index + 1 }) × (post_position (first ∷ course) place ≡ position)
     on place position posted true is found =
         let same : first ≡ posted.0 = cc in
@@ -89,13 +94,15 @@ placed_items node (item ∷ items) course here placed =
     placed_items node items (moved ∷ course) here (no_post course here moved (λ message is. absurd (cc)) (λ place. refl) placed)
 
 -- the place behind these posts is in the same turn
-placed_posts : (node : ℕ) (here : PostAt) (messages : List Msg) (course : Course) → Placed course here → (last : PostAt) × (last.turn ≡ here.turn) × Placed (with_posts node here messages course) last
+placed_posts : (node : ℕ) (here : PostAt) (messages : List Msg) (course : Course) → Placed course here
+    → (last : PostAt) × (last.turn ≡ here.turn) × Placed (with_posts node here messages course) last
 placed_posts node here [] course placed = (here, refl, placed)
 placed_posts node here (message ∷ messages) course placed =
     let moved : Moved = record { node = node; event = Sent message; message = Some here } in
     placed_posts node (record here { index = here.index + 1 }) messages (moved ∷ course) (one_post course here node message placed)
 
-placed_taking : (node : ℕ) (taken : Option PostAt) (message : Option Msg) (course : Course) (here : PostAt) → Placed course here → Placed (with_taking node taken message course) here
+placed_taking : (node : ℕ) (taken : Option PostAt) (message : Option Msg) (course : Course) (here : PostAt) → Placed course here
+    → Placed (with_taking node taken message course) here
 placed_taking node taken None course here placed = placed
 placed_taking node taken (Some message) course here placed =
     no_post course here (record { node = node; event = Took message; message = taken }) (λ said is. absurd (cc)) (λ place. refl) placed
@@ -120,7 +127,8 @@ placed_all (turn ∷ older) =
     let it = all place position posted in (earlier_turn place (behind.0) (length (turn ∷ older)) (omega (arith, same)) (it.0), it.1)
 
 -- A place is that of one post at most.
-pub posted_once : (turns : List WholeTurn) (place : PostAt) (one other : ℕ) → PostedAt (course_of turns) place one → PostedAt (course_of turns) place other → one ≡ other
+pub posted_once : (turns : List WholeTurn) (place : PostAt) (one other : ℕ) → PostedAt (course_of turns) place one → PostedAt (course_of turns) place other
+    → one ≡ other
 posted_once turns place one other first second = sym ((placed_all turns place one first).1) ∙ (placed_all turns place other second).1
 
 -- ---- takings
@@ -132,10 +140,12 @@ module _ (cluster : Cluster) (turns : List WholeTurn) (lawful : IsLawful cluster
       let found = taking_found cluster turns lawful (it.receiver.node) taking (Some (it.place)) (it.message)
       (record { moved = it.receiver; is = it.taken; by = refl; place_is = it.took_place; event_is = it.took }) in
       let from = taken_from (before (course_of turns) taking) (Some (it.place)) in
-      let some : Some (found.place) ≡ Some (it.place) = sym (found.taken.place_is) ∙ ap (λ one. one.message) (same_moved (found.taken.moved) (it.receiver) (sym (found.taken.is) ∙ it.taken))
+      let some : Some (found.place) ≡ Some (it.place) =
+          sym (found.taken.place_is) ∙ ap (λ one. one.message) (same_moved (found.taken.moved) (it.receiver) (sym (found.taken.is) ∙ it.taken))
       ∙ it.took_place in
       let place_is : found.place ≡ it.place = cc in
-      let first : PostedAt (course_of turns) (it.place) from = (found.posted.moved, it.message, found.posted.is, found.posted.event_is, found.posted.place_is ∙ ap Some place_is) in
+      let first : PostedAt (course_of turns) (it.place) from =
+          (found.posted.moved, it.message, found.posted.is, found.posted.event_is, found.posted.place_is ∙ ap Some place_is) in
       let second : PostedAt (course_of turns) (it.place) post = (it.sender, it.message, it.posted, it.sent, it.sent_place) in
       subst (λ one. Taking cluster turns lawful (it.receiver.node) one taking (it.message)) (posted_once turns (it.place) from post first second) found
     where

@@ -11,7 +11,8 @@ module _ {A : Type 0} (Rel : A → ℕ → Type 0) where
   Matched (item ∷ items) [] = ⊥
   Matched (item ∷ items) (position ∷ positions) = Rel item position × Matched items positions
 
-  pushed_on : (items : List A) (positions : List ℕ) (item : A) (position : ℕ) → Matched items positions → Rel item position → Matched (items ++ item ∷ []) (positions ++ position ∷ [])
+  pushed_on : (items : List A) (positions : List ℕ) (item : A) (position : ℕ) → Matched items positions → Rel item position
+      → Matched (items ++ item ∷ []) (positions ++ position ∷ [])
   pushed_on [] [] item position matched is = (is, tt)
   pushed_on [] (one ∷ positions) item position matched is = absurd matched
   pushed_on (one ∷ items) [] item position matched is = absurd matched
@@ -31,7 +32,8 @@ module _ {A : Type 0} (Rel : A → ℕ → Type 0) where
       Kept : pop position ≡ false → push position ≡ false → state (suc position) ≡ state position → Step position
 
     -- what may happen has kept the match
-    pub matched : state 0 ≡ [] → ((position : ℕ) → Matched (state position) (queue push pop position) → Step position) → (position : ℕ) → Matched (state position) (queue push pop position)
+    pub matched : state 0 ≡ [] → ((position : ℕ) → Matched (state position) (queue push pop position) → Step position) → (position : ℕ)
+        → Matched (state position) (queue push pop position)
     unfolding queue
     matched empty steps zero = subst (λ items. Matched items []) (sym empty) tt
     matched empty steps (suc position) = let before = matched empty steps position in on (steps position before) before
@@ -42,10 +44,13 @@ module _ {A : Type 0} (Rel : A → ℕ → Type 0) where
         on (Kept no_pop no_push same) before = rw (same, no_pop, no_push) before
 
     -- the first of the list is that of the queue
-    pub head_of : (position : ℕ) (items : List A) (item : A) (rest : List A) → Matched items (queue push pop position) → items ≡ item ∷ rest → (oldest : ℕ) × Head push pop position oldest × Rel item oldest
+    pub head_of : (position : ℕ) (items : List A) (item : A) (rest : List A) → Matched items (queue push pop position) → items ≡ item ∷ rest
+        → (oldest : ℕ) × Head push pop position oldest × Rel item oldest
     head_of position [] item rest matched is = absurd (cc)
     head_of position (first ∷ items) item rest matched is = on (queue push pop position) refl matched
       where
-        on : (positions : List ℕ) → queue push pop position ≡ positions → Matched (first ∷ items) positions → (oldest : ℕ) × Head push pop position oldest × Rel item oldest
+        on : (positions : List ℕ) → queue push pop position ≡ positions → Matched (first ∷ items) positions
+            → (oldest : ℕ) × Head push pop position oldest × Rel item oldest
         on [] same both = absurd both
-        on (oldest ∷ positions) same both = let one : first ≡ item = cc in (oldest, record { rest = positions; is = same }, subst (λ it. Rel it oldest) one (both.0))
+        on (oldest ∷ positions) same both =
+            let one : first ≡ item = cc in (oldest, record { rest = positions; is = same }, subst (λ it. Rel it oldest) one (both.0))

@@ -100,8 +100,10 @@ module _ (cluster : Cluster) (turns : List WholeTurn) (lawful : IsLawful cluster
 
   reply_event : (position : ℕ) (moved : Moved) → at course position ≡ Some moved → (event : Event) → moved.event ≡ event
       → gives_reply home (happens_to cluster (before course position) moved.node moved.message event) ≡ eqb moved.node home && answers_home event
-  reply_event position moved found (Did done) is = (item_no_message cluster home moved.node events (own moved.node (before course position)) done).no_reply ∙ sym (and_not (eqb moved.node home))
-  reply_event position moved found (Sent message) is = ap (λ it. eqb moved.node home && it) (reply_same cluster moved.node message.receiver (before course position) message.body)
+  reply_event position moved found (Did done) is =
+      (item_no_message cluster home moved.node events (own moved.node (before course position)) done).no_reply ∙ sym (and_not (eqb moved.node home))
+  reply_event position moved found (Sent message) is =
+      ap (λ it. eqb moved.node home && it) (reply_same cluster moved.node message.receiver (before course position) message.body)
   reply_event position moved found (Took message) is = sym (and_not (eqb moved.node home))
   reply_event position moved found (Ended end) is = sym (and_not (eqb moved.node home))
 
@@ -109,17 +111,20 @@ module _ (cluster : Cluster) (turns : List WholeTurn) (lawful : IsLawful cluster
   reply_test position moved found =
       ap (gives_reply home) (event_of_moved cluster turns lawful home position moved found) ∙ reply_event position moved found moved.event refl
 
-  took_event : (position : ℕ) (moved : Moved) (message : Msg) → at course position ≡ Some moved → moved.event ≡ Took message → (b : Bool) → eqb moved.node home ≡ b
+  took_event : (position : ℕ) (moved : Moved) (message : Msg) → at course position ≡ Some moved → moved.event ≡ Took message → (b : Bool)
+      → eqb moved.node home ≡ b
       → takes_request events home (log.Took moved.node (taken_from (before course position) moved.message)) ≡ b && asks_home (Took message)
   took_event position moved message found is false other = rw other refl
   took_event position moved message found is true mine =
       let post = taken_from (before course position) moved.message in
       let it = taken_message cluster turns lawful home position moved message found (equal moved.node home mine) is in
-      rw (mine, posted_event cluster turns lawful home post position message it) (request_same cluster (it.sender) home (before course post) message.body ∙ sym (asks_same message.body))
+      rw (mine, posted_event cluster turns lawful home post position message it)
+          (request_same cluster (it.sender) home (before course post) message.body ∙ sym (asks_same message.body))
 
   request_event : (position : ℕ) (moved : Moved) → at course position ≡ Some moved → (event : Event) → moved.event ≡ event
       → takes_request events home (happens_to cluster (before course position) moved.node moved.message event) ≡ eqb moved.node home && asks_home event
-  request_event position moved found (Did done) is = (item_no_message cluster home moved.node events (own moved.node (before course position)) done).no_request ∙ sym (and_not (eqb moved.node home))
+  request_event position moved found (Did done) is =
+      (item_no_message cluster home moved.node events (own moved.node (before course position)) done).no_request ∙ sym (and_not (eqb moved.node home))
   request_event position moved found (Sent message) is = sym (and_not (eqb moved.node home))
   request_event position moved found (Took message) is = took_event position moved message found is (eqb moved.node home) refl
   request_event position moved found (Ended end) is = sym (and_not (eqb moved.node home))
@@ -139,7 +144,8 @@ module _ (cluster : Cluster) (turns : List WholeTurn) (lawful : IsLawful cluster
           let both = both_true (eqb moved.node home) (such moved.event) (sym (is position moved found) ∙ holds) in
           (moved.event, record { moved = moved; is = found; by = equal moved.node home (both.0); event_is = refl }, both.1)
 
-  holds_there : (test : ℕ → Bool) (such : Event → Bool) → Tests test such → (position : ℕ) (event : Event) → Happens course home position event → such event ≡ true → test position ≡ true
+  holds_there : (test : ℕ → Bool) (such : Event → Bool) → Tests test such → (position : ℕ) (event : Event) → Happens course home position event
+      → such event ≡ true → test position ≡ true
   holds_there test such is position event happens holds =
       let mine : eqb (happens.moved.node) home ≡ true = ap (λ it. eqb it home) (happens.by) ∙ itself home in
       let it : such (happens.moved.event) ≡ true = ap such (happens.event_is) ∙ holds in
@@ -159,7 +165,8 @@ module _ (cluster : Cluster) (turns : List WholeTurn) (lawful : IsLawful cluster
   counted test such is nothing (suc position) = on (at course position) refl (counted test such is nothing position)
     where
       mine : (moved : Moved) → at course position ≡ Some moved → (b : Bool) → eqb moved.node home ≡ b → (c : Bool) → such moved.event ≡ c
-          → count test position ≡ count_by such (own home (first position course)) → count test (suc position) ≡ count_by such (own home (first (suc position) course))
+          → count test position ≡ count_by such (own home (first position course))
+          → count test (suc position) ≡ count_by such (own home (first (suc position) course))
       mine moved found false other c holds earlier =
           let none : test position ≡ false = is position moved found ∙ ap (λ b. b && such moved.event) other in
           let next = past_other cluster turns lawful home position moved found other in
@@ -181,13 +188,17 @@ module _ (cluster : Cluster) (turns : List WholeTurn) (lawful : IsLawful cluster
           rw (not, next) earlier
       on (Some moved) found earlier = mine moved found (eqb moved.node home) refl (such moved.event) refl earlier
 
-  replies_before : (position : ℕ) (event : Event) → Happens course home position event → count replied position ≡ count_by answers_home (own home (before course position))
+  replies_before : (position : ℕ) (event : Event) → Happens course home position event
+      → count replied position ≡ count_by answers_home (own home (before course position))
   replies_before position event happens =
-      counted replied answers_home reply_test no_reply_there position ∙ ap (λ it. count_by answers_home (own home it)) (first_at position course (happens.moved) (happens.is))
+      counted replied answers_home reply_test no_reply_there position
+          ∙ ap (λ it. count_by answers_home (own home it)) (first_at position course (happens.moved) (happens.is))
 
-  requests_before : (position : ℕ) (event : Event) → Happens course home position event → count requested position ≡ count_by asks_home (own home (before course position))
+  requests_before : (position : ℕ) (event : Event) → Happens course home position event
+      → count requested position ≡ count_by asks_home (own home (before course position))
   requests_before position event happens =
-      counted requested asks_home request_test no_request_there position ∙ ap (λ it. count_by asks_home (own home it)) (first_at position course (happens.moved) (happens.is))
+      counted requested asks_home request_test no_request_there position
+          ∙ ap (λ it. count_by asks_home (own home it)) (first_at position course (happens.moved) (happens.is))
 
   -- ---- answers
 
@@ -197,7 +208,8 @@ module _ (cluster : Cluster) (turns : List WholeTurn) (lawful : IsLawful cluster
   request_there : (position : ℕ) → requested position ≡ true → (event : Event) × Happens course home position event × (asks_home event ≡ true)
   request_there position is = tested requested asks_home request_test no_request_there position is
 
-  owed_there : (position : ℕ) (event : Event) → Happens course home position event → answers_home event ≡ true → (taking : ℕ) × Answers events home position taking
+  owed_there : (position : ℕ) (event : Event) → Happens course home position event → answers_home event ≡ true
+      → (taking : ℕ) × Answers events home position taking
   owed_there position event happens is =
       let it = answer_in event is in
       let due = reply_for cluster turns lawful home position (it.0) (subst (λ one. Happens course home position one) (it.1) happens) (it.2) in (due.0, due.1)
@@ -221,11 +233,13 @@ module _ (cluster : Cluster) (turns : List WholeTurn) (lawful : IsLawful cluster
       let pushed : requested (due.0) ≡ true = owed.head-pushed requested replied reply (due.0) (due.1) in
       let asked : requested taking ≡ true = holds_there requested asks_home request_test taking (it.taken) (it.taking_is) (it.asked) in
       let same : count requested (due.0) ≡ count requested taking =
-      sym (same_counts reply (due.0) (due.1)) ∙ replies_before reply (it.replied) (it.reply_is) ∙ it.same_place ∙ sym (requests_before taking (it.taken) (it.taking_is)) in
+      sym (same_counts reply (due.0) (due.1)) ∙ replies_before reply (it.replied) (it.reply_is) ∙ it.same_place
+          ∙ sym (requests_before taking (it.taken) (it.taking_is)) in
       subst (λ one. Answers events home reply one) (same_count requested (due.0) taking pushed asked same) (due.1)
 
   -- and the other way round.
-  pub answer_counted : (reply taking : ℕ) (event : Event) → Happens course home reply event → answers_home event ≡ true → Answers events home reply taking → IsAnswerTo course home reply taking
+  pub answer_counted : (reply taking : ℕ) (event : Event) → Happens course home reply event → answers_home event ≡ true → Answers events home reply taking
+      → IsAnswerTo course home reply taking
   answer_counted reply taking event happens is answers =
       let asked = request_there taking (owed.head-pushed requested replied reply taking answers) in
       record {

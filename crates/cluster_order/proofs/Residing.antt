@@ -34,16 +34,19 @@ module _ {B : Type 0} (number : ℕ) (by : Event → Option B) where
       on (Some value) is none = absurd (cc)
 
   -- the latest behind a place of a course that gives something stands at this position
-  pub given_from : (later rest : Course) (position : ℕ) (moved : Moved) (value : B) → at (later ++ rest) position ≡ Some moved → length rest ≤ position → moved.node ≡ number → by moved.event ≡ Some value
+  pub given_from : (later rest : Course) (position : ℕ) (moved : Moved) (value : B) → at (later ++ rest) position ≡ Some moved → length rest ≤ position
+      → moved.node ≡ number → by moved.event ≡ Some value
       → NoneFrom (later ++ rest) number gives (suc position) → given by (own number later) ≡ Some value
   given_from [] rest position moved value found start mine gave none = let inside = within rest position moved found in absurd (omega (arith, start, inside))
   given_from (first ∷ later) rest position moved value found start mine gave none =
       on (eqb position (length (later ++ rest))) refl found (λ here. given_from later rest position moved value here start mine gave (none_rest none))
     where
       none_rest : NoneFrom ((first ∷ later) ++ rest) number gives (suc position) → NoneFrom (later ++ rest) number gives (suc position)
-      none_rest none = λ i other behind here its. none i other behind (at_behind (first ∷ []) (later ++ rest) i (within (later ++ rest) i other here) ∙ here) its
+      none_rest none =
+          λ i other behind here its. none i other behind (at_behind (first ∷ []) (later ++ rest) i (within (later ++ rest) i other here) ∙ here) its
 
-      skip : (b : Bool) → eqb first.node number ≡ b → position < length (later ++ rest) → given by (own number later) ≡ Some value → given by (cond b (first.event ∷ own number later) (own number later)) ≡ Some value
+      skip : (b : Bool) → eqb first.node number ≡ b → position < length (later ++ rest) → given by (own number later) ≡ Some value
+          → given by (cond b (first.event ∷ own number later) (own number later)) ≡ Some value
       skip true is less before =
           let its : first.node ≡ number = grind (arith, nat_tests) in
           let not : gives first.event ≡ false = none (length (later ++ rest)) first (omega (arith, less)) (at_last first (later ++ rest)) its in
@@ -65,11 +68,13 @@ module _ {B : Type 0} (number : ℕ) (by : Event → Option B) where
 
 -- ---- residence
 
-since_front_none : {A : Type 0} (is : A → Bool) (newer : List A) (event : A) (older : List A) → list_any is newer ≡ false → is event ≡ false → since is (newer ++ event ∷ older) ≡ newer ++ event ∷ since is older
+since_front_none : {A : Type 0} (is : A → Bool) (newer : List A) (event : A) (older : List A) → list_any is newer ≡ false → is event ≡ false
+    → since is (newer ++ event ∷ older) ≡ newer ++ event ∷ since is older
 since_front_none is [] event older none not = rw not refl
 since_front_none is (first ∷ newer) event older none not = on (is first) refl none (λ rest. since_front_none is newer event older rest not)
   where
-    on : (b : Bool) → is first ≡ b → b || list_any is newer ≡ false → (list_any is newer ≡ false → since is (newer ++ event ∷ older) ≡ newer ++ event ∷ since is older)
+    on : (b : Bool) → is first ≡ b → b || list_any is newer ≡ false
+        → (list_any is newer ≡ false → since is (newer ++ event ∷ older) ≡ newer ++ event ∷ since is older)
         → cond b [] (first ∷ since is (newer ++ event ∷ older)) ≡ first ∷ (newer ++ event ∷ since is older)
     on true such none rest = absurd (cc)
     on false such none rest = ap (λ it. first ∷ it) (rest none)
@@ -92,10 +97,12 @@ arrival_is_no_drop g words event brought = on (drops g event) refl
 pub arrival_resident : (g : ℕ) (past : Past) (words : List ℤ) → Arrival g past words → is_resident g past ≡ true
 arrival_resident g past words arrival =
     let split : since (drops g) past ≡ arrival.newer ++ arrival.event ∷ since (drops g) (arrival.older) =
-    ap (since (drops g)) (arrival.parts) ∙ since_front_none (drops g) (arrival.newer) (arrival.event) (arrival.older) (arrival.kept) (arrival_is_no_drop g words (arrival.event) (arrival.brought)) in
+    ap (since (drops g)) (arrival.parts) ∙ since_front_none (drops g) (arrival.newer) (arrival.event) (arrival.older) (arrival.kept)
+        (arrival_is_no_drop g words (arrival.event) (arrival.brought)) in
     ap (list_any (arrives g)) split ∙ any_in (arrives g) (arrival.newer) (arrival.event) (since (drops g) (arrival.older)) (ap is_some (arrival.brought))
 
-module _ (cluster : Cluster) (turns : List WholeTurn) (lawful : IsLawful cluster turns) (position : ℕ) (moved : Moved) (found : at (course_of turns) position ≡ Some moved) where
+module _ (cluster : Cluster) (turns : List WholeTurn) (lawful : IsLawful cluster turns) (position : ℕ) (moved : Moved)
+    (found : at (course_of turns) position ≡ Some moved) where
   abbrev front : Course
   front = before (course_of turns) position
 
@@ -112,9 +119,13 @@ module _ (cluster : Cluster) (turns : List WholeTurn) (lawful : IsLawful cluster
       record {
         before = it.less;
         arrives = arrived_at cluster turns lawful p g arrival list (it.past.event) there (it.past.brought);
-        kept = none_between (course_of turns) position moved found p (drops g) (λ j. ev cluster turns lawful j ≡ log.Drop p g) arrival (λ i. drop_there cluster turns lawful p g i)
+        kept =
+            none_between (course_of turns) position moved found p (drops g) (λ j. ev cluster turns lawful j ≡ log.Drop p g) arrival
+                (λ i. drop_there cluster turns lawful p g i)
             (none_behind p front (it.past.newer) (it.past.event) (it.past.older) arrival (it.there) (drops g) (it.past.kept));
-        last = none_between (course_of turns) position moved found p (arrives g) (IsArrival (ev cluster turns lawful) p g) arrival (λ i. arrival_there cluster turns lawful p g i)
+        last =
+            none_between (course_of turns) position moved found p (arrives g) (IsArrival (ev cluster turns lawful) p g) arrival
+                (λ i. arrival_there cluster turns lawful p g i)
             (none_behind p front (it.past.newer) (it.past.event) (it.past.older) arrival (it.there) (arrives g) (it.past.last));
       }
 
@@ -124,10 +135,12 @@ module _ (cluster : Cluster) (turns : List WholeTurn) (lawful : IsLawful cluster
       let arrival = since.1 in
       let there = stands p front (arrival.newer) (arrival.event) (arrival.older) (arrival.parts) in
       let less : there.0 < position =
-      let inside = is_before p front (arrival.newer) (arrival.event) (arrival.older) (there.0) (there.1) in let count = length_before (course_of turns) position moved found in omega (arith, inside, count) in
+      let inside = is_before p front (arrival.newer) (arrival.event) (arrival.older) (there.0) (there.1) in
+      let count = length_before (course_of turns) position moved found in omega (arith, inside, count) in
       (since.0, there.0, record { past = arrival; there = there.1; less = less })
 
-  pub resided : (p g arrival : ℕ) (words : ℕ → ℤ) → Resident (ev cluster turns lawful) p g position arrival words → (list : List ℤ) × Since p g arrival list × (words ≡ words_of cluster list)
+  pub resided : (p g arrival : ℕ) (words : ℕ → ℤ) → Resident (ev cluster turns lawful) p g position arrival words
+      → (list : List ℤ) × Since p g arrival list × (words ≡ words_of cluster list)
   resided p g arrival words resident =
       let came = arrived_there cluster turns lawful p g arrival words (resident.arrives) in
       let list = came.0 in
@@ -143,9 +156,11 @@ module _ (cluster : Cluster) (turns : List WholeTurn) (lawful : IsLawful cluster
             parts = past_parts p front (there.0) event (own p (before front arrival)) arrival (there.1);
             brought = came.3;
             kept = none_newer p front (there.0) event (own p (before front arrival)) arrival (there.1) (drops g)
-                (none_from (course_of turns) position moved found p (drops g) (λ j. ev cluster turns lawful j ≡ log.Drop p g) arrival (λ i other happens is. drop_at cluster turns lawful p g i other happens is) (resident.kept));
+                (none_from (course_of turns) position moved found p (drops g) (λ j. ev cluster turns lawful j ≡ log.Drop p g) arrival
+                    (λ i other happens is. drop_at cluster turns lawful p g i other happens is) (resident.kept));
             last = none_newer p front (there.0) event (own p (before front arrival)) arrival (there.1) (arrives g)
-                (none_from (course_of turns) position moved found p (arrives g) (IsArrival (ev cluster turns lawful) p g) arrival (λ i other happens is. arrival_at cluster turns lawful p g i other happens is) (resident.last));
+                (none_from (course_of turns) position moved found p (arrives g) (IsArrival (ev cluster turns lawful) p g) arrival
+                    (λ i other happens is. arrival_at cluster turns lawful p g i other happens is) (resident.last));
           };
           there = there.1;
           less = resident.before;
@@ -158,14 +173,16 @@ module _ (cluster : Cluster) (turns : List WholeTurn) (lawful : IsLawful cluster
   pub staying : (p g arrival : ℕ) (list : List ℤ) (it : Since p g arrival list) → stay g (own p front) ≡ own p (it.there.later)
   staying p g arrival list it = stay_is g (own p front) list (it.past) ∙ sym (it.there.newer_is)
 
-  pub cached_last : (p w arrival write : ℕ) (value : ℤ) (list : List ℤ) → Since p (page_of (node_at cluster p) w) arrival list → LastWrite (ev cluster turns lawful) p w arrival position write value
+  pub cached_last : (p w arrival write : ℕ) (value : ℤ) (list : List ℤ) → Since p (page_of (node_at cluster p) w) arrival list
+      → LastWrite (ev cluster turns lawful) p w arrival position write value
       → cached (node_at cluster p) w (own p front) ≡ value
   cached_last p w arrival write value list it last =
       let wrote = wrote_there cluster turns lawful p w write value (last.writes) in
       let here = happens_before (course_of turns) position moved found p write _ (last.before) (wrote.2) in
       let rest = it.there.moved ∷ before front arrival in
       let count : length rest ≡ suc arrival = ap suc (it.there.count) in
-      let none = none_from (course_of turns) position moved found p (writes w) (IsWrite (ev cluster turns lawful) p w) write (λ i other happens is. write_at cluster turns lawful p w i other happens is) (last.none) in
+      let none = none_from (course_of turns) position moved found p (writes w) (IsWrite (ev cluster turns lawful) p w) write
+          (λ i other happens is. write_at cluster turns lawful p w i other happens is) (last.none) in
       let is : given (written w) (own p (it.there.later)) ≡ Some value =
       given_from p (written w) (it.there.later) rest write (here.moved) value
       (subst (λ whole. at whole write ≡ Some (here.moved)) (it.there.parts) (here.is))
@@ -175,12 +192,14 @@ module _ (cluster : Cluster) (turns : List WholeTurn) (lawful : IsLawful cluster
       (subst (λ whole. NoneFrom whole p (writes w) (suc write)) (it.there.parts) none) in
       rw (staying p (page_of (node_at cluster p) w) arrival list it, is) refl
 
-  pub cached_first : (p w arrival : ℕ) (list : List ℤ) → Since p (page_of (node_at cluster p) w) arrival list → NoWrite (ev cluster turns lawful) p w arrival position
+  pub cached_first : (p w arrival : ℕ) (list : List ℤ) → Since p (page_of (node_at cluster p) w) arrival list
+      → NoWrite (ev cluster turns lawful) p w arrival position
       → cached (node_at cluster p) w (own p front) ≡ words_of cluster list w
   cached_first p w arrival list it none_written =
       let rest = it.there.moved ∷ before front arrival in
       let count : length rest ≡ suc arrival = ap suc (it.there.count) in
-      let none = none_from (course_of turns) position moved found p (writes w) (IsWrite (ev cluster turns lawful) p w) arrival (λ i other happens is. write_at cluster turns lawful p w i other happens is) none_written in
+      let none = none_from (course_of turns) position moved found p (writes w) (IsWrite (ev cluster turns lawful) p w) arrival
+          (λ i other happens is. write_at cluster turns lawful p w i other happens is) none_written in
       let is : given (written w) (own p (it.there.later)) ≡ None =
       given_nowhere p (written w) (it.there.later) rest
       (subst (NoneFrom (it.there.later ++ rest) p (writes w)) (sym count) (subst (λ whole. NoneFrom whole p (writes w) (suc arrival)) (it.there.parts) none)) in

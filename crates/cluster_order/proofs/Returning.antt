@@ -22,14 +22,18 @@ abbrev pub AllBelow : ℕ → Course → Type 0
 AllBelow bound [] = Unit {0}
 AllBelow bound (moved ∷ course) = (moved.node < bound) × AllBelow bound course
 
-below_items : (bound number : ℕ) → number < bound → (items : List Item) (course : Course) → AllBelow bound course → AllBelow bound (with_items number items course)
+below_items : (bound number : ℕ) → number < bound → (items : List Item) (course : Course) → AllBelow bound course
+    → AllBelow bound (with_items number items course)
 below_items bound number less [] course all = all
-below_items bound number less (item ∷ items) course all = below_items bound number less items (record { node = number; event = Did item; message = None } ∷ course) (less, all)
+below_items bound number less (item ∷ items) course all =
+    below_items bound number less items (record { node = number; event = Did item; message = None } ∷ course) (less, all)
 
-below_posts : (bound number : ℕ) → number < bound → (place : PostAt) (messages : List Msg) (course : Course) → AllBelow bound course → AllBelow bound (with_posts number place messages course)
+below_posts : (bound number : ℕ) → number < bound → (place : PostAt) (messages : List Msg) (course : Course) → AllBelow bound course
+    → AllBelow bound (with_posts number place messages course)
 below_posts bound number less place [] course all = all
 below_posts bound number less place (message ∷ messages) course all =
-    below_posts bound number less (record place { index = place.index + 1 }) messages (record { node = number; event = Sent message; message = Some place } ∷ course) (less, all)
+    below_posts bound number less (record place { index = place.index + 1 }) messages
+        (record { node = number; event = Sent message; message = Some place } ∷ course) (less, all)
 
 below_taking : (bound number : ℕ) → number < bound → (place : Option PostAt) (message : Option Msg) (course : Course) → AllBelow bound course
     → AllBelow bound (with_taking number place message course)
@@ -64,7 +68,8 @@ below_at bound (latest ∷ course) position moved all found = on (eqb position (
     on false here rest = rest here
 
 -- A node that does something is one of the cluster.
-pub node_below : (cluster : Cluster) (turns : List WholeTurn) → IsLawful cluster turns → (position : ℕ) (moved : Moved) → at (course_of turns) position ≡ Some moved → moved.node < cluster.config.nodes
+pub node_below : (cluster : Cluster) (turns : List WholeTurn) → IsLawful cluster turns → (position : ℕ) (moved : Moved)
+    → at (course_of turns) position ≡ Some moved → moved.node < cluster.config.nodes
 node_below cluster turns lawful position moved found = below_at cluster.config.nodes (course_of turns) position moved (all_below cluster turns lawful) found
 
 -- ---- returned frames
@@ -77,7 +82,8 @@ any_at : {A : Type 0} (test : A → Bool) (front back : List A) (one : A) → te
 any_at test [] back one is = rw is refl
 any_at test (first ∷ front) back one is = rw (any_at test front back one is) (or_true (test first))
 
-any_number : (test : ℕ → Bool) (start count number : ℕ) → start ≤ number → number < start + count → test number ≡ true → list_any test (range_with_len start count) ≡ true
+any_number : (test : ℕ → Bool) (start count number : ℕ) → start ≤ number → number < start + count → test number ≡ true
+    → list_any test (range_with_len start count) ≡ true
 any_number test start zero number above below is = absurd (omega (arith, above, below))
 any_number test start (suc count) number above below is =
     on (eqb start number) refl (λ more. any_number test (start + 1) count number more (omega (arith, below)) is)
@@ -89,21 +95,26 @@ any_number test start (suc count) number above below is =
 
 -- It stands on the stack of a node, and has returned.
 pub stands_so : (cluster : Cluster) (number : ℕ) (course : Course) (front back : List Life) (life : Life) → number < cluster.config.nodes
-    → stack_of (node_at cluster number) (own number course) ≡ front ++ life ∷ back → is_some (returned life) ≡ true → stands_returned cluster life.id course ≡ true
+    → stack_of (node_at cluster number) (own number course) ≡ front ++ life ∷ back → is_some (returned life) ≡ true
+    → stands_returned cluster life.id course ≡ true
 stands_so cluster number course front back life less parts is =
     let here : is_returned life.id life ≡ true = rw (same_self life.id, is) refl in
-    any_number (λ number. list_any (is_returned life.id) (stack_of (node_at cluster number) (own number course))) 0 cluster.config.nodes number (omega (arith)) (omega (arith, less))
+    any_number (λ number. list_any (is_returned life.id) (stack_of (node_at cluster number) (own number course))) 0 cluster.config.nodes number (omega (arith))
+        (omega (arith, less))
     (ap (list_any (is_returned life.id)) parts ∙ any_at (is_returned life.id) front back life here)
 
-pub returned_so : (cluster : Cluster) (frame : FrameId) (course : Course) → stands_returned cluster frame course ≡ true → has_returned cluster frame course ≡ true
+pub returned_so : (cluster : Cluster) (frame : FrameId) (course : Course) → stands_returned cluster frame course ≡ true
+    → has_returned cluster frame course ≡ true
 returned_so cluster frame [] is = is
 returned_so cluster frame (moved ∷ course) is = rw is (or_true (has_returned cluster frame course))
 
-pub returned_more : (cluster : Cluster) (frame : FrameId) (moved : Moved) (course : Course) → has_returned cluster frame course ≡ true → has_returned cluster frame (moved ∷ course) ≡ true
+pub returned_more : (cluster : Cluster) (frame : FrameId) (moved : Moved) (course : Course) → has_returned cluster frame course ≡ true
+    → has_returned cluster frame (moved ∷ course) ≡ true
 returned_more cluster frame moved course is = rw is refl
 
 -- What has returned stays so.
-pub stays : (cluster : Cluster) (course : Course) (now : ℕ) (frame : FrameId) → returns_of cluster course now frame ≡ true → returns_of cluster course (suc now) frame ≡ true
+pub stays : (cluster : Cluster) (course : Course) (now : ℕ) (frame : FrameId) → returns_of cluster course now frame ≡ true
+    → returns_of cluster course (suc now) frame ≡ true
 stays cluster course now frame is = on (at course now) refl
   where
     on : (option : Option Moved) → at course now ≡ option → has_returned cluster frame (first (suc now) course) ≡ true

@@ -1,13 +1,13 @@
 -- The frames on a stack by their names, and those on top that have returned.
 use Rattle.std.proofs.Common.{◌≡◌, inl, inr, ℤ, List, [], ◌∷◌, ◌++◌, map, Option, Some, None, true, is_some, refl, ◌∙◌, ap, subst}
-use Rattle.cilk_meaning.specs.Wants.{Answer, Deposit}
+use Rattle.cilk_meaning.specs.Wants.{Deposit}
 use Rattle.page_messages.specs.declared.closure.FrameId.{FrameId}
 use Rattle.page_messages.specs.declared.closure.JoinId.{JoinId}
 use Rattle.page_messages.specs.declared.log.LoggedAct.{LoggedAct}
 use Rattle.page_messages.specs.declared.log.LoggedAct.TheVariants as act
-use Rattle.cluster_rules.specs.Walking.{first_of, last_of, with_first}
+use Rattle.cluster_rules.specs.Walking.{first_of, last_of}
 use Rattle.cluster_rules.specs.Node.{Node}
-use Rattle.cluster_rules.specs.Lives.{Life, returned, with_kept, live_from, live, answered, added, acted, after_act, link_to, without_bottom}
+use Rattle.cluster_rules.specs.Lives.{Life, returned, with_kept, live_from, live, added, after_act, link_to, without_bottom}
 use Rattle.cluster_rules.proofs.Marks.{bottom_gone}
 use Rattle.backer_order.specs.Edges.{Each}
 
@@ -34,12 +34,14 @@ pub record Shed (stack left : List Life) : Type 0 where
   pub returned : AllReturned above
   pub same : names left ≡ names below
 
-shed_on : (deposits : List Deposit) (life : Life) (below : List Life) (value : Option ℤ) → returned life ≡ value → ((given : List Deposit) → Shed below (live_from given below))
+shed_on : (deposits : List Deposit) (life : Life) (below : List Life) (value : Option ℤ) → returned life ≡ value
+    → ((given : List Deposit) → Shed below (live_from given below))
     → Shed (life ∷ below) (elim value [ None ↦ with_kept deposits life ∷ below | Some it ↦ live_from ((life.spawned.target, it) ∷ []) below ])
 shed_on deposits life below None is before = record { above = []; below = life ∷ below; parts = refl; returned = tt; same = refl }
 shed_on deposits life below (Some it) is before =
     let shed = before ((life.spawned.target, it) ∷ []) in
-    record { above = life ∷ shed.above; below = shed.below; parts = ap (λ it. life ∷ it) shed.parts; returned = (ap is_some is, shed.returned); same = shed.same }
+    record { above = life ∷ shed.above; below = shed.below; parts = ap (λ it. life ∷ it) shed.parts; returned = (ap is_some is, shed.returned);
+        same = shed.same }
 
 shed_from : (deposits : List Deposit) (stack : List Life) → Shed stack (live_from deposits stack)
 shed_from deposits [] = record { above = []; below = []; parts = refl; returned = tt; same = refl }
@@ -77,17 +79,6 @@ each_returned Holds (life ∷ lives) all holds frame (inr on) =
 
 -- ---- what changes no name
 
-pub acted_name : (done : LoggedAct) (life : Life) → (acted done life).id ≡ life.id
-acted_name (act.Read word value) life = refl
-acted_name (act.Write word value) life = refl
-acted_name (act.Print value) life = refl
-acted_name (act.Spawn child procedure arguments) life = refl
-acted_name act.Sync life = refl
-
-pub answered_names : (answer : Answer) (stack : List Life) → names (with_first (answered answer) stack) ≡ names stack
-answered_names answer [] = refl
-answered_names answer (life ∷ below) = refl
-
 pub added_names : (old : ℤ) (stack : List Life) → names (added old stack) ≡ names stack
 added_names old [] = refl
 added_names old (life ∷ below) = refl
@@ -97,13 +88,15 @@ abbrev pub spawned_in : LoggedAct → List FrameId
 spawned_in (act.Spawn child procedure arguments) = child ∷ []
 spawned_in _ = []
 
-pub act_names : (node : Node) (done : LoggedAct) (life : Life) (below : List Life) → names (after_act node done (life ∷ below)) ≡ spawned_in done ++ life.id ∷ names below
+pub act_names : (node : Node) (done : LoggedAct) (life : Life) (below : List Life)
+    → names (after_act node done (life ∷ below)) ≡ spawned_in done ++ life.id ∷ names below
 act_names node (act.Read word value) life below = refl
 act_names node (act.Write word value) life below = refl
 act_names node (act.Print value) life below = refl
 act_names node (act.Spawn child procedure arguments) life below = refl
 act_names node act.Sync life below = refl
 
-pub granted_names : (join : Option JoinId) (above : List Life) (child parent : Life) → names (without_bottom join (above ++ (child ∷ (parent ∷ [])))) ≡ names above ++ child.id ∷ []
+pub granted_names : (join : Option JoinId) (above : List Life) (child parent : Life)
+    → names (without_bottom join (above ++ (child ∷ (parent ∷ [])))) ≡ names above ++ child.id ∷ []
 granted_names join above child parent =
     ap names (bottom_gone join above child parent) ∙ names_append above (record child { link = link_to join } ∷ [])

@@ -42,10 +42,12 @@ module _ (cluster : Cluster) (turns : List WholeTurn) (lawful : IsLawful cluster
   -- ---- where the words of an arrival came from
 
   -- what arrives as a Page
-  page_source : (node its_page arrival moment home reply : ℕ) (list : List ℤ) (message : Msg) → message.body ≡ body.Page its_page list → Taking cluster turns lawful node reply arrival message
+  page_source : (node its_page arrival moment home reply : ℕ) (list : List ℤ) (message : Msg) → message.body ≡ body.Page its_page list
+      → Taking cluster turns lawful node reply arrival message
       → IsAnswerTo course home reply moment → Source events node its_page arrival moment
   page_source node its_page arrival moment home reply list message says taking answer =
-      let sent : Happens course (taking.sender) reply (Sent message) = happens cluster course reply (taking.sender) (Some (taking.place)) (Sent message) (taking.posted) in
+      let sent : Happens course (taking.sender) reply (Sent message) =
+          happens cluster course reply (taking.sender) (Some (taking.place)) (Sent message) (taking.posted) in
       let same = same_happening course home (taking.sender) reply (answer.replied) (Sent message) (answer.reply_is) sent in
       let posted = posted_event cluster turns lawful node reply arrival message taking
       ∙ ap (λ said. log.Post (taking.sender) node (note_of cluster (taking.sender) (before course reply) said)) says
@@ -54,9 +56,11 @@ module _ (cluster : Cluster) (turns : List WholeTurn) (lawful : IsLawful cluster
 
   -- what an event that brings the page is
   abbrev Brought : ℕ → Event → List ℤ → Type 0
-  Brought its_page event list = ((message : Msg) × (event ≡ Took message) × (message.body ≡ body.Page its_page list)) ⊎ (event ≡ Did (item.OwnFetch its_page list))
+  Brought its_page event list =
+      ((message : Msg) × (event ≡ Took message) × (message.body ≡ body.Page its_page list)) ⊎ (event ≡ Did (item.OwnFetch its_page list))
 
-  taken_source : (node its_page arrival moment home reply : ℕ) (event : Event) (list : List ℤ) → Happens course node arrival event → Brought its_page event list →
+  taken_source : (node its_page arrival moment home reply : ℕ) (event : Event) (list : List ℤ) → Happens course node arrival event
+      → Brought its_page event list →
       (taken : IsTakenAt course reply arrival)
       → IsAnswerTo course home reply moment → Source events node its_page arrival moment
   taken_source node its_page arrival moment home reply event list happened brought taken answer = on brought
@@ -76,7 +80,8 @@ module _ (cluster : Cluster) (turns : List WholeTurn) (lawful : IsLawful cluster
           (subst (λ one. Taking cluster turns lawful one reply arrival (taken.message)) (sym (same.0)) it) answer
       on (inr own) = let both : Did (item.OwnFetch its_page list) ≡ Took (taken.message) = sym own ∙ same.1 in absurd (cc)
 
-  loaded_source : (node its_page arrival other page : ℕ) (words : List ℤ) (event : Event) (list : List ℤ) → Happens course node arrival event → Brought its_page event list
+  loaded_source : (node its_page arrival other page : ℕ) (words : List ℤ) (event : Event) (list : List ℤ) → Happens course node arrival event
+      → Brought its_page event list
       → Happens course other arrival (Did (item.OwnFetch page words)) → Source events node its_page arrival arrival
   loaded_source node its_page arrival other page words event list happened brought loaded = on brought
     where
@@ -86,9 +91,11 @@ module _ (cluster : Cluster) (turns : List WholeTurn) (lawful : IsLawful cluster
       on : Brought its_page event list → Source events node its_page arrival arrival
       on (inl taken) = let both : Took (taken.0) ≡ Did (item.OwnFetch page words) = sym (taken.1) ∙ same.1 in absurd (cc)
       on (inr own) =
-          FromOwn (words_of cluster list) (event_there cluster turns lawful node arrival (Did (item.OwnFetch its_page list)) (subst (λ one. Happens course node arrival one) own happened)) refl
+          FromOwn (words_of cluster list) (event_there cluster turns lawful node arrival (Did (item.OwnFetch its_page list))
+              (subst (λ one. Happens course node arrival one) own happened)) refl
 
-  pub source_at : (node its_page arrival moment : ℕ) (event : Event) → Happens course node arrival event → arrives its_page event ≡ true → IsSource course arrival moment
+  pub source_at : (node its_page arrival moment : ℕ) (event : Event) → Happens course node arrival event → arrives its_page event ≡ true
+      → IsSource course arrival moment
       → Source events node its_page arrival moment
   source_at node its_page arrival moment event happened arrived (Answered home reply taking taken answer) =
       let some = gives_some (brings its_page event) arrived in
@@ -103,14 +110,16 @@ module _ (cluster : Cluster) (turns : List WholeTurn) (lawful : IsLawful cluster
       let sent = posted_is cluster course post home node (log.Page its_page words) posted in
       let said = page_is cluster home (before course post) its_page words (sent.1.body) (sent.4) in
       Answered home post moment (taken_of cluster turns lawful node post arrival (it.0) (it.1))
-      (answer_counted cluster turns lawful home post moment (Sent (sent.1)) (happens cluster course post home (sent.0) (Sent (sent.1)) (sent.2)) (ap replies_in (said.1)) answers)
+      (answer_counted cluster turns lawful home post moment (Sent (sent.1)) (happens cluster course post home (sent.0) (Sent (sent.1)) (sent.2))
+          (ap replies_in (said.1)) answers)
   source_there node its_page arrival moment (FromOwn words is same) =
       let it = loaded_is cluster course arrival node its_page words is in
       subst (λ one. IsSource course arrival one) (sym same) (Loaded node its_page (it.0) (it.1))
 
   -- ---- where a sending is received
 
-  pub receipt_at : (node its_page sending moment : ℕ) (event : Event) → Happens course node sending event → sends its_page event ≡ true → IsReceipt course sending moment
+  pub receipt_at : (node its_page sending moment : ℕ) (event : Event) → Happens course node sending event → sends its_page event ≡ true
+      → IsReceipt course sending moment
       → Received events sending moment
   receipt_at node its_page sending moment event happened sent (Taken taking taken) =
       ByTaking (record { taker = taken.receiver.node; is = (taking_of cluster turns lawful sending taking taken).event })
@@ -118,7 +127,8 @@ module _ (cluster : Cluster) (turns : List WholeTurn) (lawful : IsLawful cluster
       let same = same_happening course node other sending event (Did done) happened there in
       let own = own_sending its_page done (ap (sends its_page) (sym (same.1)) ∙ sent) in
       AtItem other (part_of cluster (own.0))
-      (event_there cluster turns lawful other sending (Did (item.OwnReconcile (own.0))) (subst (λ one. Happens course other sending (Did one)) (own.1) there)) refl
+      (event_there cluster turns lawful other sending (Did (item.OwnReconcile (own.0)))
+          (subst (λ one. Happens course other sending (Did one)) (own.1) there)) refl
 
   pub receipt_there : (sending moment : ℕ) → Received events sending moment → IsReceipt course sending moment
   receipt_there sending moment (ByTaking it) =

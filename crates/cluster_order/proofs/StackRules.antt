@@ -84,16 +84,19 @@ module _ (cluster : Cluster) (turns : List WholeTurn) (lawful : IsLawful cluster
   act_rule number position frame index (act.Read word value) happens = act_moves number position frame index (act.Read word value) happens
   act_rule number position frame index (act.Write word value) happens = act_moves number position frame index (act.Write word value) happens
   act_rule number position frame index (act.Print value) happens = act_moves number position frame index (act.Print value) happens
-  act_rule number position frame index (act.Spawn child procedure arguments) happens = act_moves number position frame index (act.Spawn child procedure arguments) happens
+  act_rule number position frame index (act.Spawn child procedure arguments) happens =
+      act_moves number position frame index (act.Spawn child procedure arguments) happens
   act_rule number position frame index act.Sync happens = act_moves number position frame index act.Sync happens
 
   -- a tick
-  pub tick_rule : (number position : ℕ) (frame : FrameId) → Happens course number position (Did (item.Tick frame)) → Moves returns stacks position number frame []
+  pub tick_rule : (number position : ℕ) (frame : FrameId) → Happens course number position (Did (item.Tick frame))
+      → Moves returns stacks position number frame []
   tick_rule number position frame happens =
       let may = tick_allowed cluster turns lawful number position frame happens in
       let life = may.1.life in
       subst (λ it. Moves returns stacks position number it []) (sym (may.1.acts.named))
-      (moves cluster turns lawful number position (Did (item.Tick frame)) happens life [] (may.1.acts.is) (λ below is. ap (λ all. names (with_first (answered DoneAnswer) all)) is))
+      (moves cluster turns lawful number position (Did (item.Tick frame)) happens life [] (may.1.acts.is)
+          (λ below is. ap (λ all. names (with_first (answered DoneAnswer) all)) is))
 
   -- a TakeUp
   pub take_up_rule : (number position : ℕ) (frame : FrameId) → Happens course number position (Did (item.TakeUp frame))
@@ -108,11 +111,13 @@ module _ (cluster : Cluster) (turns : List WholeTurn) (lawful : IsLawful cluster
       )
 
   -- an own fetch
-  pub load_rule : (number position page : ℕ) (words : List ℤ) → Happens course number position (Did (item.OwnFetch page words)) → Pops returns stacks position number
+  pub load_rule : (number position page : ℕ) (words : List ℤ) → Happens course number position (Did (item.OwnFetch page words))
+      → Pops returns stacks position number
   load_rule number position page words happens = pops cluster turns lawful number position (Did (item.OwnFetch page words)) happens refl
 
   -- an add, own or owed
-  pub served_rule : (number position : ℕ) (frame : FrameId) (index word : ℕ) (old addend : ℤ) → Happens course number position (Did (item.Served frame index word old addend))
+  pub served_rule : (number position : ℕ) (frame : FrameId) (index word : ℕ) (old addend : ℤ)
+      → Happens course number position (Did (item.Served frame index word old addend))
       → AddRule (memory_of cluster) returns stacks position (served_for number (owed_adds (past number position))) frame word
   served_rule number position frame index word old addend happens = on (served_allowed cluster turns lawful number position frame index word old addend happens)
     where
@@ -125,7 +130,8 @@ module _ (cluster : Cluster) (turns : List WholeTurn) (lawful : IsLawful cluster
       at_home : home_of (node 0) (page_of (node 0) word) ≡ number
       at_home = home_served cluster turns lawful number position frame index word old addend happens
 
-      on : DoesOwed (node number) (past number position) frame index word old addend ⊎ (IsFree (past number position) × MayAddHere (node number) (past number position) frame index word old addend)
+      on : DoesOwed (node number) (past number position) frame index word old addend
+          ⊎ (IsFree (past number position) × MayAddHere (node number) (past number position) frame index word old addend)
           → AddRule (memory_of cluster) returns stacks position (served_for number (owed_adds (past number position))) frame word
       on (inr own_add) =
           let mine : served_for number (owed_adds (past number position)) ≡ number = ap (served_for number) (own_add.0.none_owed) in
@@ -134,7 +140,8 @@ module _ (cluster : Cluster) (turns : List WholeTurn) (lawful : IsLawful cluster
             own = λ home_is. subst (λ it. Moves returns stacks position it frame []) (sym mine)
                 (subst (λ it. Moves returns stacks position number it []) (sym (own_add.1.add.acts.named))
                 (moves cluster turns lawful number position done happens life [] (own_add.1.add.acts.is)
-                (λ below is. ap (λ owed. names (cond (is_empty owed) (added old (live stack)) stack)) (own_add.0.none_owed) ∙ ap (λ all. names (added old all)) is)));
+                (λ below is. ap (λ owed. names (cond (is_empty owed) (added old (live stack)) stack)) (own_add.0.none_owed)
+                    ∙ ap (λ all. names (added old all)) is)));
             other = λ not. absurd (not (at_home ∙ sym mine));
           }
       on (inl serves) =
@@ -143,7 +150,9 @@ module _ (cluster : Cluster) (turns : List WholeTurn) (lawful : IsLawful cluster
           let sender : served_for number (owed_adds (past number position)) ≡ serves.add.sender = ap (served_for number) (serves.oldest) in
           record {
             own = λ home_is. absurd (other (sym sender ∙ sym home_is ∙ at_home));
-            other = λ not. unchanged cluster turns lawful number position done happens (ap (λ owed. names (cond (is_empty owed) (added old (live stack)) stack)) (serves.oldest));
+            other =
+                λ not. unchanged cluster turns lawful number position done happens
+                    (ap (λ owed. names (cond (is_empty owed) (added old (live stack)) stack)) (serves.oldest));
           }
 
   -- ---- posts
@@ -157,42 +166,53 @@ module _ (cluster : Cluster) (turns : List WholeTurn) (lawful : IsLawful cluster
       subst (λ it. Grants stacks position number it) (sym (may.state.id)) (record {
         front = names (may.above);
         child = may.child.id;
-        old = stack_before cluster turns lawful number position (happens.moved) (happens.is) ∙ ap names (may.stack) ∙ names_append (may.above) (may.child ∷ (may.parent ∷ []));
+        old =
+            stack_before cluster turns lawful number position (happens.moved) (happens.is) ∙ ap names (may.stack)
+                ∙ names_append (may.above) (may.child ∷ (may.parent ∷ []));
         new = stack_after cluster turns lawful number position (Sent message) happens
-            ∙ ap (λ said. names (stack_sent said stack)) says ∙ ap (λ all. names (without_bottom closure.join all)) (may.stack) ∙ granted_names closure.join (may.above) (may.child) (may.parent);
+            ∙ ap (λ said. names (stack_sent said stack)) says ∙ ap (λ all. names (without_bottom closure.join all)) (may.stack)
+            ∙ granted_names closure.join (may.above) (may.child) (may.parent);
         others = stack_other cluster turns lawful number position (Sent message) happens;
       })
 
   -- a Done
-  pub done_rule : (number position : ℕ) (message : Msg) (join : JoinId) (index : ℕ) (value : ℤ) → Happens course number position (Sent message) → message.body ≡ body.Done join index value
-      → Empties returns stacks position number (bottom_of cluster number (before course position)) × (returns position (bottom_of cluster number (before course position)) ≡ true)
+  pub done_rule : (number position : ℕ) (message : Msg) (join : JoinId) (index : ℕ) (value : ℤ) → Happens course number position (Sent message)
+      → message.body ≡ body.Done join index value
+      → Empties returns stacks position number (bottom_of cluster number (before course position))
+          × (returns position (bottom_of cluster number (before course position)) ≡ true)
   done_rule number position message join index value happens says =
       let may = done_allowed cluster turns lawful number position message join index value happens says in
       let bottom : bottom_of cluster number (before course position) ≡ may.life.id = ap id_of (may.returned.at_bottom) in
       subst (λ it. Empties returns stacks position number it × (returns position it ≡ true)) (sym bottom)
-      (empties_returned cluster turns lawful number position (Sent message) happens (may.life) (ap (λ said. stack_sent said (stack_of (node number) (past number position))) says) (may.returned))
+      (empties_returned cluster turns lawful number position (Sent message) happens (may.life)
+          (ap (λ said. stack_sent said (stack_of (node number) (past number position))) says) (may.returned))
 
   -- a Park
-  pub park_rule : (number position : ℕ) (message : Msg) (join : JoinId) (closure : Closure) → Happens course number position (Sent message) → message.body ≡ body.Park join closure
+  pub park_rule : (number position : ℕ) (message : Msg) (join : JoinId) (closure : Closure) → Happens course number position (Sent message)
+      → message.body ≡ body.Park join closure
       → Empties returns stacks position number closure.id
   park_rule number position message join closure happens says =
       let may = park_allowed cluster turns lawful number position message join closure happens says in
       subst (λ it. Empties returns stacks position number it) (sym (may.state.id))
-      (empties cluster turns lawful number position (Sent message) happens (may.life) (ap (λ said. stack_sent said (stack_of (node number) (past number position))) says) (may.at_join.alone))
+      (empties cluster turns lawful number position (Sent message) happens (may.life)
+          (ap (λ said. stack_sent said (stack_of (node number) (past number position))) says) (may.at_join.alone))
 
   -- a Fetch
-  pub fetch_rule : (number position : ℕ) (message : Msg) (page : ℕ) → Happens course number position (Sent message) → message.body ≡ body.Fetch page → Pops returns stacks position number
+  pub fetch_rule : (number position : ℕ) (message : Msg) (page : ℕ) → Happens course number position (Sent message) → message.body ≡ body.Fetch page
+      → Pops returns stacks position number
   fetch_rule number position message page happens says =
       pops cluster turns lawful number position (Sent message) happens (ap (λ said. stack_sent said (stack_of (node number) (past number position))) says)
 
   -- an Add
-  pub add_rule : (number position : ℕ) (message : Msg) (frame : FrameId) (index word : ℕ) (addend : ℤ) → Happens course number position (Sent message) → message.body ≡ body.Add frame index word addend
+  pub add_rule : (number position : ℕ) (message : Msg) (frame : FrameId) (index word : ℕ) (addend : ℤ) → Happens course number position (Sent message)
+      → message.body ≡ body.Add frame index word addend
       → Moves returns stacks position number frame []
   add_rule number position message frame index word addend happens says =
       let may = add_allowed cluster turns lawful number position message frame index word addend happens says in
       let stack = stack_of (node number) (past number position) in
       subst (λ it. Moves returns stacks position number it []) (sym (may.add.acts.named))
-      (moves cluster turns lawful number position (Sent message) happens (may.add.life) [] (may.add.acts.is) (λ below is. ap (λ said. names (stack_sent said stack)) says ∙ ap names is))
+      (moves cluster turns lawful number position (Sent message) happens (may.add.life) [] (may.add.acts.is)
+          (λ below is. ap (λ said. names (stack_sent said stack)) says ∙ ap names is))
 
   -- what is posted of other kinds
   sent_still : (number position : ℕ) (message : Msg) → Happens course number position (Sent message)
@@ -220,7 +240,8 @@ module _ (cluster : Cluster) (turns : List WholeTurn) (lawful : IsLawful cluster
 
   -- ---- all events
 
-  item_rule : (number position : ℕ) (done : Item) → Happens course number position (Did done) → Rule position (item_of cluster number (past number position) done)
+  item_rule : (number position : ℕ) (done : Item) → Happens course number position (Did done)
+      → Rule position (item_of cluster number (past number position) done)
   item_rule number position (item.Act frame index act) happens = act_rule number position frame index act happens
   item_rule number position (item.Tick frame) happens = tick_rule number position frame happens
   item_rule number position (item.Drop page) happens = unchanged cluster turns lawful number position (Did (item.Drop page)) happens refl
@@ -229,7 +250,8 @@ module _ (cluster : Cluster) (turns : List WholeTurn) (lawful : IsLawful cluster
   item_rule number position (item.OwnReconcile part) happens = unchanged cluster turns lawful number position (Did (item.OwnReconcile part)) happens refl
   item_rule number position (item.Served frame index word old addend) happens = served_rule number position frame index word old addend happens
 
-  event_rule : (number position : ℕ) (place : Option PostAt) (event : Event) → Happens course number position event → Rule position (happens_to cluster (before course position) number place event)
+  event_rule : (number position : ℕ) (place : Option PostAt) (event : Event) → Happens course number position event
+      → Rule position (happens_to cluster (before course position) number place event)
   event_rule number position place (Did done) happens = item_rule number position done happens
   event_rule number position place (Sent message) happens = sent_rule number position message message.body happens refl
   event_rule number position place (Took message) happens =
@@ -247,4 +269,5 @@ module _ (cluster : Cluster) (turns : List WholeTurn) (lawful : IsLawful cluster
           subst (λ it. Rule position it) (sym empty) (stack_still cluster turns lawful position none)
       on (Some moved) found =
           let happens : Happens course moved.node position moved.event = record { moved = moved; is = found; by = refl; event_is = refl } in
-          subst (λ it. Rule position it) (sym (event_there cluster turns lawful moved.node position moved.event happens)) (event_rule moved.node position moved.message moved.event happens)
+          subst (λ it. Rule position it) (sym (event_there cluster turns lawful moved.node position moved.event happens))
+              (event_rule moved.node position moved.message moved.event happens)

@@ -30,13 +30,15 @@ pub record DroppedIn (course : Course) (number position page : ℕ) : Type 0 whe
   pub is : Happens course number at (Did (item.Drop page))
   pub between : (any : ℕ) → position ≤ any → any < at → (other : ℕ) × Happens course number any (Did (item.Drop other))
 
-pub dropped_in : (course : Course) (number position page : ℕ) (pages : List ℕ) (others : List Item) → Follow course number position (map (λ page. item.Drop page) pages ++ others)
+pub dropped_in : (course : Course) (number position page : ℕ) (pages : List ℕ) (others : List Item)
+    → Follow course number position (map (λ page. item.Drop page) pages ++ others)
     → is_among page pages ≡ true → DroppedIn course number position page
 dropped_in course number position page [] others follow among = absurd (cc)
 dropped_in course number position page (first ∷ pages) others follow among =
     on (eqb first page) refl among (λ later. dropped_in course number (suc position) page pages others (follow.1) later)
   where
-    on : (b : Bool) → eqb first page ≡ b → b || is_among page pages ≡ true → (is_among page pages ≡ true → DroppedIn course number (suc position) page) → DroppedIn course number position page
+    on : (b : Bool) → eqb first page ≡ b → b || is_among page pages ≡ true → (is_among page pages ≡ true → DroppedIn course number (suc position) page)
+        → DroppedIn course number position page
     on true is any rest =
         let same : first ≡ page = grind (arith, nat_tests) in
         record {
@@ -48,10 +50,13 @@ dropped_in course number position page (first ∷ pages) others follow among =
     on false is any rest = later (rest any)
       where
         later : DroppedIn course number (suc position) page → DroppedIn course number position page
-        later it = record { at = it.at; behind = let less = it.behind in omega (arith, less); is = it.is; between = λ i above below. by_place i above below (eqb i position) refl }
+        later it = record { at =
+            it.at; behind = let less = it.behind in omega (arith, less); is = it.is; between = λ i above below. by_place i above below (eqb i position) refl }
           where
             by_place : (i : ℕ) → position ≤ i → i < it.at → (b : Bool) → eqb i position ≡ b → (other : ℕ) × Happens course number i (Did (item.Drop other))
-            by_place i above below true same = let place : i ≡ position = grind (arith, nat_tests) in (first, subst (λ one. Happens course number one (Did (item.Drop first))) (sym place) (follow.0))
+            by_place i above below true same =
+                let place : i ≡ position = grind (arith, nat_tests) in
+                (first, subst (λ one. Happens course number one (Did (item.Drop first))) (sym place) (follow.0))
             by_place i above below false different = it.between i (let more : suc position ≤ i = grind (arith, nat_tests) in more) below
 
 module _ (cluster : Cluster) (turns : List WholeTurn) (lawful : IsLawful cluster turns) where
@@ -80,8 +85,10 @@ module _ (cluster : Cluster) (turns : List WholeTurn) (lawful : IsLawful cluster
       doing = followed cluster turns lawful number position (item.TakeUp frame) happens
 
       on : (rest : List Item) (posts : List Msg)
-          → IsOwed (node number) (past number position) (item.TakeUp frame) ⊎ (IsFree (past number position) × MayDo (node number) (past number position) (item.TakeUp frame) rest posts)
-          → Follow course number (suc position) rest → (rest : List Item) × MayTakeUp (node number) (past number position) frame rest × Follow course number (suc position) rest
+          → IsOwed (node number) (past number position) (item.TakeUp frame)
+              ⊎ (IsFree (past number position) × MayDo (node number) (past number position) (item.TakeUp frame) rest posts)
+          → Follow course number (suc position) rest → (rest : List Item) × MayTakeUp (node number) (past number position) frame rest
+              × Follow course number (suc position) rest
       on rest posts (inl owed) follow = absurd owed
       on rest posts (inr both) follow = (rest, both.1, follow)
 
@@ -108,4 +115,6 @@ module _ (cluster : Cluster) (turns : List WholeTurn) (lawful : IsLawful cluster
           arrival_resident page (past number now) (stay.0) (stay.1.past)
 
       it : DroppedIn course number (suc now) page
-      it = dropped_in course number (suc now) page (taken.1.pages) (taken.1.others) (subst (λ all. Follow course number (suc now) all) (taken.1.drops) (taken.2)) (taken.1.all page ∙ in_cache)
+      it =
+          dropped_in course number (suc now) page (taken.1.pages) (taken.1.others) (subst (λ all. Follow course number (suc now) all) (taken.1.drops) (taken.2))
+              (taken.1.all page ∙ in_cache)

@@ -47,10 +47,12 @@ module _ (cluster : Cluster) (turns : List WholeTurn) (lawful : IsLawful cluster
 
   -- ---- before and behind
 
-  pub stack_before : (number position : ℕ) (moved : Moved) → at course position ≡ Some moved → stacks position number ≡ names (stack_of (node number) (past number position))
+  pub stack_before : (number position : ℕ) (moved : Moved) → at course position ≡ Some moved
+      → stacks position number ≡ names (stack_of (node number) (past number position))
   stack_before number position moved found = ap (stack_in cluster number) (first_at position course moved found)
 
-  pub stack_after : (number position : ℕ) (event : Event) → Happens course number position event → stacks (suc position) number ≡ names (stack_behind (node number) event (past number position))
+  pub stack_after : (number position : ℕ) (event : Event) → Happens course number position event
+      → stacks (suc position) number ≡ names (stack_behind (node number) event (past number position))
   stack_after number position event happens =
       ap (stack_in cluster number) (first_next position course (happens.moved) (happens.is))
       ∙ ap (λ it. names (stack_of (node number) it)) (own_first number (happens.moved) (before course position) (happens.by))
@@ -60,7 +62,8 @@ module _ (cluster : Cluster) (turns : List WholeTurn) (lawful : IsLawful cluster
   pub stack_other : (number position : ℕ) (event : Event) → Happens course number position event → Others stacks position number
   stack_other number position event happens other not =
       ap (stack_in cluster other) (first_next position course (happens.moved) (happens.is))
-      ∙ ap (λ it. names (stack_of (node other) it)) (own_other other (happens.moved) (before course position) (differs (happens.moved.node) number other (happens.by) not))
+      ∙ ap (λ it. names (stack_of (node other) it))
+          (own_other other (happens.moved) (before course position) (differs (happens.moved.node) number other (happens.by) not))
       ∙ sym (stack_before other position (happens.moved) (happens.is))
     where
       differs : (by number other : ℕ) → by ≡ number → (other ≡ number → ⊥) → eqb by other ≡ false
@@ -72,7 +75,8 @@ module _ (cluster : Cluster) (turns : List WholeTurn) (lawful : IsLawful cluster
 
   -- nor where the event leaves that of its node alone
   pub unchanged : (number position : ℕ) (event : Event) → Happens course number position event
-      → names (stack_behind (node number) event (past number position)) ≡ names (stack_of (node number) (past number position)) → (any : ℕ) → stacks (suc position) any ≡ stacks position any
+      → names (stack_behind (node number) event (past number position)) ≡ names (stack_of (node number) (past number position)) → (any : ℕ)
+      → stacks (suc position) any ≡ stacks position any
   unchanged number position event happens same any = on (eqb any number) refl
     where
       on : (b : Bool) → eqb any number ≡ b → stacks (suc position) any ≡ stacks position any
@@ -85,7 +89,8 @@ module _ (cluster : Cluster) (turns : List WholeTurn) (lawful : IsLawful cluster
   -- ---- returned frames
 
   -- what has returned on the stack of a node has returned at the position
-  pub returned_there : (number position : ℕ) (moved : Moved) → at course position ≡ Some moved → number < cluster.config.nodes → (front back : List Life) (life : Life)
+  pub returned_there : (number position : ℕ) (moved : Moved) → at course position ≡ Some moved → number < cluster.config.nodes
+      → (front back : List Life) (life : Life)
       → stack_of (node number) (past number position) ≡ front ++ life ∷ back → is_some (returned life) ≡ true → returns position life.id ≡ true
   returned_there number position moved found less front back life parts is =
       ap (has_returned cluster life.id) (first_at position course moved found)
@@ -106,7 +111,8 @@ module _ (cluster : Cluster) (turns : List WholeTurn) (lawful : IsLawful cluster
   -- the highest frame that has not returned goes on
   pub moves : (number position : ℕ) (event : Event) → Happens course number position event → (life : Life) (top : List FrameId)
       → highest (node number) (past number position) ≡ Some life
-      → ((below : List Life) → live (stack_of (node number) (past number position)) ≡ life ∷ below → names (stack_behind (node number) event (past number position)) ≡ top ++ life.id ∷ names below)
+      → ((below : List Life) → live (stack_of (node number) (past number position)) ≡ life ∷ below
+          → names (stack_behind (node number) event (past number position)) ≡ top ++ life.id ∷ names below)
       → Moves returns stacks position number life.id top
   moves number position event happens life top is goes = record {
     above = names (it.above);
@@ -141,10 +147,13 @@ module _ (cluster : Cluster) (turns : List WholeTurn) (lawful : IsLawful cluster
 
   -- all frames leave, and the bottom one alone may not have returned
   pub empties : (number position : ℕ) (event : Event) → Happens course number position event → (life : Life)
-      → stack_behind (node number) event (past number position) ≡ [] → live (stack_of (node number) (past number position)) ≡ life ∷ [] → Empties returns stacks position number life.id
+      → stack_behind (node number) event (past number position) ≡ [] → live (stack_of (node number) (past number position)) ≡ life ∷ []
+      → Empties returns stacks position number life.id
   empties number position event happens life goes alone = record {
     front = names (it.above);
-    old = stack_before number position (happens.moved) (happens.is) ∙ ap names (it.parts) ∙ names_append (it.above) (it.below) ∙ ap (λ all. names (it.above) ++ all) (sym (it.same) ∙ ap names alone);
+    old =
+        stack_before number position (happens.moved) (happens.is) ∙ ap names (it.parts) ∙ names_append (it.above) (it.below)
+            ∙ ap (λ all. names (it.above) ++ all) (sym (it.same) ∙ ap names alone);
     returned = above_returned number position event happens (it.above) (it.below) (it.parts) (it.returned);
     new = stack_after number position event happens ∙ ap names goes;
     others = stack_other number position event happens;
@@ -172,7 +181,8 @@ module _ (cluster : Cluster) (turns : List WholeTurn) (lawful : IsLawful cluster
       new = stack_after number position event happens ∙ ap names goes;
       others = stack_other number position event happens;
     },
-    above_returned number position event happens (stack_of (node number) (past number position)) [] (sym (append-nil (stack_of (node number) (past number position)))) all life.id on_stack,
+    above_returned number position event happens (stack_of (node number) (past number position)) []
+        (sym (append-nil (stack_of (node number) (past number position)))) all life.id on_stack,
   )
     where
       split : (front : List Life) × (stack_of (node number) (past number position) ≡ front ++ life ∷ [])

@@ -35,8 +35,10 @@ pub data Touch (word : ℕ) (event : Event) : Type 0 where
   Reads : (frame : FrameId) (index : ℕ) (value : ℤ) → event ≡ Did (item.Act frame index (act.Read word value)) → Touch word event
 
 pub touch_in : (word : ℕ) (event : Event) → touches word event ≡ true → Touch word event
-touch_in word (Did (item.Act frame index (act.Read other value))) is = Reads frame index value (ap (λ it. Did (item.Act frame index (act.Read it value))) (equal other word is))
-touch_in word (Did (item.Act frame index (act.Write other value))) is = Writes frame index value (ap (λ it. Did (item.Act frame index (act.Write it value))) (equal other word is))
+touch_in word (Did (item.Act frame index (act.Read other value))) is =
+    Reads frame index value (ap (λ it. Did (item.Act frame index (act.Read it value))) (equal other word is))
+touch_in word (Did (item.Act frame index (act.Write other value))) is =
+    Writes frame index value (ap (λ it. Did (item.Act frame index (act.Write it value))) (equal other word is))
 touch_in word (Did (item.Act frame index (act.Print value))) is = absurd (cc)
 touch_in word (Did (item.Act frame index (act.Spawn child procedure arguments))) is = absurd (cc)
 touch_in word (Did (item.Act frame index act.Sync)) is = absurd (cc)
@@ -79,7 +81,8 @@ second_so true other is = refl
 second_so false other is = is
 
 -- one thing stands at a position
-pub same_happening : (course : Course) (node other position : ℕ) (event again : Event) → Happens course node position event → Happens course other position again → (node ≡ other) × (event ≡ again)
+pub same_happening : (course : Course) (node other position : ℕ) (event again : Event) → Happens course node position event
+    → Happens course other position again → (node ≡ other) × (event ≡ again)
 same_happening course node other position event again one two =
     let some : Some (one.moved) ≡ Some (two.moved) = sym (one.is) ∙ two.is in
     let same : one.moved ≡ two.moved = cc in
@@ -117,7 +120,8 @@ module _ (cluster : Cluster) (turns : List WholeTurn) (lawful : IsLawful cluster
             },
           )
 
-  pub touch_there : (node word position : ℕ) → IsTouch events node word position → (event : Event) × Happens course node position event × (touches word event ≡ true)
+  pub touch_there : (node word position : ℕ) → IsTouch events node word position
+      → (event : Event) × Happens course node position event × (touches word event ≡ true)
   touch_there node word position (inl (value, wrote)) =
       let it = wrote_there cluster turns lawful node word position value wrote in
       (Did (item.Act (it.0) (it.1) (act.Write word value)), it.2, write_touches word (it.0) (it.1) value)
@@ -131,18 +135,22 @@ module _ (cluster : Cluster) (turns : List WholeTurn) (lawful : IsLawful cluster
   abbrev pub served_at : ℕ → ℕ → ℕ
   served_at home position = served_for home (owed_adds (own home (before course position)))
 
-  pub add_at : (home word position : ℕ) (event : Event) → Happens course home position event → adds word event ≡ true → IsAdd events (served_at home position) word position
+  pub add_at : (home word position : ℕ) (event : Event) → Happens course home position event → adds word event ≡ true
+      → IsAdd events (served_at home position) word position
   add_at home word position event happens is =
       let it = add_in word event is in (
         it.old,
         record {
           frame = it.frame;
           addend = it.addend;
-          is = event_there cluster turns lawful home position (Did (item.Served (it.frame) (it.index) word (it.old) (it.addend))) (subst (λ one. Happens course home position one) (it.is) happens);
+          is =
+              event_there cluster turns lawful home position (Did (item.Served (it.frame) (it.index) word (it.old) (it.addend)))
+                  (subst (λ one. Happens course home position one) (it.is) happens);
         },
       )
 
-  pub add_there : (owner word position : ℕ) → IsAdd events owner word position → (home : ℕ) × (event : Event) × Happens course home position event × (adds word event ≡ true) ×
+  pub add_there : (owner word position : ℕ) → IsAdd events owner word position
+      → (home : ℕ) × (event : Event) × Happens course home position event × (adds word event ≡ true) ×
       (served_at home position ≡ owner)
   add_there owner word position add =
       let it = added_there cluster turns lawful owner (add.1.frame) word (add.0) (add.1.addend) position (add.1.is) in
@@ -171,9 +179,11 @@ module _ (cluster : Cluster) (turns : List WholeTurn) (lawful : IsLawful cluster
     pub of_touch : touches word event ≡ true → owner ≡ node
     pub of_add : touches word event ≡ false → owner ≡ served_at node position
 
-  pub access_at : (node word position : ℕ) (event : Event) → Happens course node position event → (touches word event || adds word event) ≡ true → AccessAt node word position event
+  pub access_at : (node word position : ℕ) (event : Event) → Happens course node position event → (touches word event || adds word event) ≡ true
+      → AccessAt node word position event
   access_at node word position event happens accesses = on (touches word event) refl accesses
     where
       on : (b : Bool) → touches word event ≡ b → b || adds word event ≡ true → AccessAt node word position event
       on true is any = record { owner = node; is = inl (touch_at node word position event happens is); of_touch = λ so. refl; of_add = λ not. absurd (cc) }
-      on false not is = record { owner = served_at node position; is = inr (add_at node word position event happens is); of_touch = λ so. absurd (cc); of_add = λ so. refl }
+      on false not is =
+          record { owner = served_at node position; is = inr (add_at node word position event happens is); of_touch = λ so. absurd (cc); of_add = λ so. refl }
