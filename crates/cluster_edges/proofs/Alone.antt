@@ -63,7 +63,8 @@ module _ (cluster : Cluster) (moved : Moved) (course : Course) (stepped : Steppe
       → amount_of (in_message (named frame)) (letters_of (moved ∷ course)) ≡ 1 + amount_of (in_message (named frame)) (letters_of course)
   left_letter frame left = left_letter_on frame moved.event stepped.1.carries left
 
-  node_none : (frame : FrameId) → leaves moved.event ≡ Some frame → (number : ℕ) → number < cluster.config.nodes → at_node cluster (moved ∷ course) (named frame) number ≡ 0
+  node_none : (frame : FrameId) → leaves moved.event ≡ Some frame → (number : ℕ) → number < cluster.config.nodes
+      → at_node cluster (moved ∷ course) (named frame) number ≡ 0
   node_none frame left number less =
       let all = held_once cluster (moved ∷ course) stepped frame in
       let part = sum_one cluster.config.nodes (at_node cluster (moved ∷ course) (named frame)) number less in
@@ -79,14 +80,16 @@ module _ (cluster : Cluster) (moved : Moved) (course : Course) (stepped : Steppe
         ready = each_all (λ (life : Life). leaves moved.event ≡ Some life.id → ⊥) (λ life. never life.id) frames.ready;
         parked = each_all (λ (one : Parked). leaves moved.event ≡ Some one.closure.id → ⊥) (λ one. never one.closure.id) frames.parked;
       }
-  lonely_node number less (Some frame) left = lonely_at moved frame left (frames_of (node_at cluster number) (own number (moved ∷ course))) (node_none frame left number less)
+  lonely_node number less (Some frame) left =
+      lonely_at moved frame left (frames_of (node_at cluster number) (own number (moved ∷ course))) (node_none frame left number less)
 
   no_letter : (place : PostAt) (message : Msg) → WasPosted course place message → list_any (takes_place place) course ≡ false
       → (frame : FrameId) → frame_in message.body ≡ Some frame → leaves moved.event ≡ Some frame → ⊥
   no_letter place message was none frame is left =
       let all = held_once cluster (moved ∷ course) stepped frame in
       let letter = left_letter frame left in
-      let takes : Takes course message.receiver (Some place) message = record { place = place; place_is = refl; receiver = refl; was_posted = was; not_taken = none } in
+      let takes : Takes course message.receiver (Some place) message =
+          record { place = place; place_is = refl; receiver = refl; was_posted = was; not_taken = none } in
       let other = letter_taken cluster (in_message (named frame)) course message.receiver (Some place) message stepped.0 takes in
       let here = brings_one frame message.body is in
       omega (arith, all, letter, other, here)

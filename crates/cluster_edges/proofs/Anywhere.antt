@@ -198,7 +198,8 @@ module _ (P : Saying) where
   parked_append code [] back first second = second
   parked_append code (one ∷ front) back first second = (first.0, parked_append code front back first.1 second)
 
-  live_on : (deposits : List Deposit) (life : Life) (below : List Life) (value : Option ℤ) → Each P (life ∷ below) → ((given : List Deposit) → Each P (live_from given below))
+  live_on : (deposits : List Deposit) (life : Life) (below : List Life) (value : Option ℤ) → Each P (life ∷ below)
+      → ((given : List Deposit) → Each P (live_from given below))
       → Each P (elim value [ None ↦ with_kept deposits life ∷ below | Some it ↦ live_from ((life.spawned.target, it) ∷ []) below ])
   live_on deposits life below None all rest = all
   live_on deposits life below (Some it) all rest = rest ((life.spawned.target, it) ∷ [])
@@ -242,7 +243,8 @@ module _ (P : Saying) where
       on true rest = all.1
       on false rest = (all.0, rest)
 
-  pub letter_of : (code : Code) (place : PostAt) (message : Msg) (letters : List Letter) → Holds place message letters → EachLetter code P letters → OfBody code P message.body
+  pub letter_of : (code : Code) (place : PostAt) (message : Msg) (letters : List Letter) → Holds place message letters → EachLetter code P letters
+      → OfBody code P message.body
   letter_of code place message [] holds all = absurd holds
   letter_of code place message (letter ∷ letters) (inl both) all = subst (λ (it : Msg). OfBody code P it.body) both.1 all.0
   letter_of code place message (letter ∷ letters) (inr both) all = letter_of code place message letters both.1 all.1

@@ -8,7 +8,6 @@ use Rattle.page_messages.specs.declared.message.Body.TheVariants as body
 use Rattle.page_messages.specs.declared.log.Item.TheVariants as item
 use Rattle.cluster_rules.specs.Turns.{WholeTurn, Did, Sent, Took, Past}
 use Rattle.cluster_rules.specs.Sendings.{ForAdded, ends, adds_in, tells_in}
-use Rattle.cluster_rules.specs.Home.{owed_adds}
 use Rattle.cluster_rules.specs.Frames.{stack_of}
 use Rattle.cluster_rules.specs.Acting.{Serves as DoesOwed}
 use Rattle.cluster_rules.specs.Runs.{Cluster, IsLawful, node_at}
@@ -18,7 +17,7 @@ use Rattle.cluster_rules.proofs.Stepping.{lawful_stepped, stepped_before}
 use Rattle.backer_order.specs.Log as log
 use Rattle.backer_order.specs.Moments.{Serves, takes_add, serves, gives_added}
 use Rattle.backer_order.proofs.Owed as owed
-use Rattle.cluster_order.specs.Reading.{memory_of, served_for}
+use Rattle.cluster_order.specs.Reading.{memory_of}
 use Rattle.cluster_order.proofs.Growing.{within}
 use Rattle.cluster_order.proofs.Events.{happens}
 use Rattle.cluster_order.proofs.Between.{Stands, stands_at, past_parts, none_newer}
@@ -50,7 +49,8 @@ module _ (cluster : Cluster) (turns : List WholeTurn) (lawful : IsLawful cluster
   asks_there number post position message frame index word addend moved found sent is less no_answer =
       subst (λ it. AsksFirst frame word addend (stack_of (node_at cluster number) it)) (sym parts)
       (asks_since (node_at cluster number) newer.0 (own number (before front post)) message frame index word addend
-      (subst (AllAllowed (node_at cluster number)) parts (stepped_allowed cluster front (stepped_before cluster course (lawful_stepped cluster turns lawful) position) number))
+      (subst (AllAllowed (node_at cluster number)) parts
+          (stepped_allowed cluster front (stepped_before cluster course (lawful_stepped cluster turns lawful) position) number))
       is none)
     where
       front : Course
@@ -65,13 +65,16 @@ module _ (cluster : Cluster) (turns : List WholeTurn) (lawful : IsLawful cluster
       parts : own number front ≡ newer.0 ++ Sent message ∷ own number (before front post)
       parts = past_parts number front newer.0 (Sent message) (own number (before front post)) post newer.1
 
-      not_such : (b : Bool) (between : ℕ) (other : Moved) → suc post ≤ between → at front between ≡ Some other → other.node ≡ number → ends ForAdded other.event ≡ b → b ≡ false
+      not_such : (b : Bool) (between : ℕ) (other : Moved) → suc post ≤ between → at front between ≡ Some other → other.node ≡ number
+          → ends ForAdded other.event ≡ b → b ≡ false
       not_such false between other behind there by such = refl
       not_such true between other behind there by such =
-          let happened = happened_before course position moved found number between other.event (record { moved = other; is = there; by = by; event_is = refl }) in
+          let happened =
+              happened_before course position moved found number between other.event (record { moved = other; is = there; by = by; event_is = refl }) in
           let inside = within front between other there in
           let count = length_before course position moved found in
-          absurd (no_answer between (omega (arith, behind)) (omega (arith, inside, count)) (ended_by cluster turns lawful number ForAdded between other.event happened such))
+          absurd (no_answer between (omega (arith, behind)) (omega (arith, inside, count))
+              (ended_by cluster turns lawful number ForAdded between other.event happened such))
 
       none : list_any (ends ForAdded) newer.0 ≡ false
       none = none_newer number front newer.0 (Sent message) (own number (before front post)) post newer.1 (ends ForAdded)
@@ -97,7 +100,8 @@ module _ (cluster : Cluster) (turns : List WholeTurn) (lawful : IsLawful cluster
 
   -- ---- where the home does the add
 
-  module _ (home position : ℕ) (frame : FrameId) (index word : ℕ) (old addend : ℤ) (here : Happens course home position (Did (item.Served frame index word old addend)))
+  module _ (home position : ℕ) (frame : FrameId) (index word : ℕ) (old addend : ℤ)
+      (here : Happens course home position (Did (item.Served frame index word old addend)))
       (owes : DoesOwed (node_at cluster home) (past home position) frame index word old addend) where
     taken : (taking : ℕ) × Serves events (memory_of cluster) home position taking × AddTaken cluster turns lawful home owes.add taking
     taken = add_for cluster turns lawful home position here.moved here.is owes.add owes.later owes.oldest
@@ -107,9 +111,6 @@ module _ (cluster : Cluster) (turns : List WholeTurn) (lawful : IsLawful cluster
 
     sent : Happens course asked.sender taken.2.post (Sent owes.add)
     sent = happens cluster course taken.2.post asked.sender (Some asked.place) (Sent owes.add) asked.posted
-
-    asker_is : served_for home (owed_adds (past home position)) ≡ owes.add.sender
-    asker_is = ap (served_for home) owes.oldest
 
     serving : serves (memory_of cluster) home (events position) ≡ true
     serving =
@@ -137,7 +138,9 @@ module _ (cluster : Cluster) (turns : List WholeTurn) (lawful : IsLawful cluster
         its_serving = owed.head-pushed (does it.home) (λ (at : ℕ). gives_added it.home (events at)) it.reply it.served it.tells
 
         its_serves : Serves events (memory_of cluster) home it.served taken.0
-        its_serves = subst (λ number. Serves events (memory_of cluster) number it.served taken.0) home_same (subst (Serves events (memory_of cluster) it.home it.served) taking_same it.serves)
+        its_serves =
+            subst (λ number. Serves events (memory_of cluster) number it.served taken.0) home_same
+                (subst (Serves events (memory_of cluster) it.home it.served) taking_same it.serves)
 
         same : it.served ≡ position
         same = owed.once (λ (at : ℕ). takes_add events home (events at)) (does home) it.served position taken.0
@@ -156,10 +159,12 @@ module _ (cluster : Cluster) (turns : List WholeTurn) (lawful : IsLawful cluster
     asks_then : AsksFirst frame word addend (stack_of (node_at cluster asked.sender) (past asked.sender position))
     asks_then =
         let earlier = asked.before in
-        let served_later = owed.head-before (λ (at : ℕ). takes_add events home (events at)) (λ (at : ℕ). serves (memory_of cluster) home (events at)) position taken.0 taken.1 in
+        let served_later = owed.head-before (λ (at : ℕ). takes_add events home (events at))
+            (λ (at : ℕ). serves (memory_of cluster) home (events at)) position taken.0 taken.1 in
         asks_there asked.sender taken.2.post position owes.add frame index word addend here.moved here.is sent owes.asked (omega (arith, earlier, served_later))
         (λ between after before_it other.
-        let request : Request cluster turns lawful asked.sender ForAdded taken.2.post = record { message = owes.add; is = sent; asks = ap adds_in owes.asked } in
+        let request : Request cluster turns lawful asked.sender ForAdded taken.2.post =
+            record { message = owes.add; is = sent; asks = ap adds_in owes.asked } in
         let found = told_behind_answer cluster turns lawful asked.sender ForAdded between taken.2.post request after other in
         let more = told_later found.0 found.2 in
         absurd (omega (arith, more, found.1, before_it)))

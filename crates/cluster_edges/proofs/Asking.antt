@@ -45,7 +45,8 @@ asks_life frame word addend (life ∷ below) first = (life, below, refl, first.0
 
 first_live_on : (life : Life) (below : List Life) (value : Option ℤ) → value ≡ None
     → elim value [ None ↦ with_kept [] life ∷ below | Some it ↦ live_from ((life.spawned.target, it) ∷ []) below ] ≡ with_kept [] life ∷ below
-first_live_on life below value is = ap (λ value. elim value [ None ↦ with_kept [] life ∷ below | Some it ↦ live_from ((life.spawned.target, it) ∷ []) below ]) is
+first_live_on life below value is =
+    ap (λ value. elim value [ None ↦ with_kept [] life ∷ below | Some it ↦ live_from ((life.spawned.target, it) ∷ []) below ]) is
 
 -- it has not returned
 pub asks_live : (frame : FrameId) (word : ℕ) (addend : ℤ) (stack : List Life) → AsksFirst frame word addend stack
@@ -148,13 +149,16 @@ asked_here node past frame index word addend receiver said is (inr may) =
     subst (λ it. AsksFirst frame word addend (stack_sent it (stack_of node past))) (sym is)
     (subst (AsksFirst frame word addend) (sym first.1) (sym add.add.acts.named, add.add.wanted))
 
-asked_now : (node : Node) (past : Past) (message : Msg) (frame : FrameId) (index word : ℕ) (addend : ℤ) → MaySend node past message → message.body ≡ body.Add frame index word addend
+asked_now : (node : Node) (past : Past) (message : Msg) (frame : FrameId) (index word : ℕ) (addend : ℤ) → MaySend node past message
+    → message.body ≡ body.Add frame index word addend
     → AsksFirst frame word addend (stack_of node (Sent message ∷ past))
 unfolding frames_of
-asked_now node past message frame index word addend may is = asked_here node past frame index word addend message.receiver message.body is (may_post node past message may)
+asked_now node past message frame index word addend may is =
+    asked_here node past frame index word addend message.receiver message.body is (may_post node past message may)
 
 -- The frame whose add was asked for stays the first, and wants it still, until the old value comes.
-pub asks_since : (node : Node) (newer older : Past) (message : Msg) (frame : FrameId) (index word : ℕ) (addend : ℤ) → AllAllowed node (newer ++ Sent message ∷ older)
+pub asks_since : (node : Node) (newer older : Past) (message : Msg) (frame : FrameId) (index word : ℕ) (addend : ℤ)
+    → AllAllowed node (newer ++ Sent message ∷ older)
     → message.body ≡ body.Add frame index word addend → list_any (ends ForAdded) newer ≡ false
     → AsksFirst frame word addend (stack_of node (newer ++ Sent message ∷ older))
 asks_since node [] older message frame index word addend all is none = asked_now node older message frame index word addend all.0 is
@@ -176,11 +180,13 @@ stepped_allowed cluster (moved ∷ course) stepped number = on (one_or_two numbe
     on (inr other) rest = subst (AllAllowed (node_at cluster number)) (sym (own_other number moved course other)) (rest number)
 
 -- The event at a position is a step behind what was before it.
-pub step_at : (cluster : Cluster) (course : Course) → Stepped cluster course → (position : ℕ) (moved : Moved) → at course position ≡ Some moved → Step cluster (before course position) moved
+pub step_at : (cluster : Cluster) (course : Course) → Stepped cluster course → (position : ℕ) (moved : Moved) → at course position ≡ Some moved
+    → Step cluster (before course position) moved
 step_at cluster [] stepped position moved found = absurd (cc)
 step_at cluster (latest ∷ course) stepped position moved found = on (eqb position (length course)) refl found (step_at cluster course stepped.0 position moved)
   where
-    on : (b : Bool) → eqb position (length course) ≡ b → cond b (Some latest) (at course position) ≡ Some moved → (at course position ≡ Some moved → Step cluster (before course position) moved)
+    on : (b : Bool) → eqb position (length course) ≡ b → cond b (Some latest) (at course position) ≡ Some moved
+        → (at course position ≡ Some moved → Step cluster (before course position) moved)
         → Step cluster (cond b course (before course position)) moved
     on true is here rest = let same : latest ≡ moved = cc in subst (Step cluster course) same stepped.1
     on false is here rest = rest here

@@ -1,4 +1,4 @@
--- An act of a frame bears one child, and a frame is born by one act.
+-- An act of a frame bears one child.
 use Rattle.std.proofs.Common.{◌≡◌, inl, inr, ℕ, [], ◌∷◌, Some, length, refl, sym, ◌∙◌, ap, subst}
 use Rattle.page_messages.specs.declared.closure.FrameId.{FrameId}
 use Rattle.page_messages.specs.declared.log.LoggedAct.TheVariants as act
@@ -8,8 +8,6 @@ use Rattle.cluster_rules.specs.Positions.{Moved, Course, at}
 use Rattle.cluster_rules.specs.Runs.{Cluster}
 use Rattle.cluster_rules.proofs.Stepping.{Stepped}
 use Rattle.cluster_rules.proofs.Claimed.{ClaimsEvent, claimed_once}
-use Rattle.cluster_rules.proofs.Places as place
-use Rattle.cluster_rules.proofs.Places.{spawned_new}
 use Rattle.cluster_order.proofs.Growing.{within, at_behind, at_last}
 use Rattle.cluster_edges.proofs.Ties.{Spawns, Born}
 use Rattle.cluster_edges.proofs.Completing.{BearsOnce}
@@ -37,7 +35,8 @@ born_at parent index child (moved ∷ course) (inr born) =
 spawn_claims : (parent : FrameId) (index : ℕ) (child : FrameId) (event : Event) → Spawns parent index child event → ClaimsEvent parent index event
 spawn_claims parent index child event spawns = subst (ClaimsEvent parent index) (sym spawns.2) (refl, refl)
 
-same_spawn : (parent : FrameId) (index : ℕ) (child other : FrameId) (event : Event) → Spawns parent index child event → Spawns parent index other event → child ≡ other
+same_spawn : (parent : FrameId) (index : ℕ) (child other : FrameId) (event : Event) → Spawns parent index child event → Spawns parent index other event
+    → child ≡ other
 same_spawn parent index child other event one two =
     let same : Did (item.Act parent index (act.Spawn child one.0 one.1)) ≡ Did (item.Act parent index (act.Spawn other two.0 two.1)) = sym one.2 ∙ two.2 in
     cc
@@ -52,26 +51,3 @@ bears_once cluster course stepped = λ parent index child other one two.
     let some : Some first.moved ≡ Some second.moved = sym first.found ∙ ap (at course) same ∙ second.found in
     let moved_same : first.moved ≡ second.moved = cc in
     same_spawn parent index child other second.moved.event (subst (λ (it : Moved). Spawns parent index child it.event) moved_same first.spawns) second.spawns
-
--- ---- births
-
-spawns_there : (parent : FrameId) (index : ℕ) (child : FrameId) (event : Event) → Spawns parent index child event → place.Spawns child event
-spawns_there parent index child event spawns = subst (place.Spawns child) (sym spawns.2) refl
-
-was_spawned : (parent : FrameId) (index : ℕ) (child : FrameId) (course : Course) → Born parent index child course → place.WasSpawned child course
-was_spawned parent index child [] born = absurd born
-was_spawned parent index child (moved ∷ course) (inl spawns) = inl (spawns_there parent index child moved.event spawns)
-was_spawned parent index child (moved ∷ course) (inr born) = inr (was_spawned parent index child course born)
-
--- A frame is born by one act of one parent.
-pub born_once : (cluster : Cluster) (course : Course) → Stepped cluster course → (child parent other : FrameId) (index at_other : ℕ)
-    → Born parent index child course → Born other at_other child course → (parent ≡ other) × (index ≡ at_other)
-born_once cluster [] stepped child parent other index at_other one two = absurd one
-born_once cluster (moved ∷ course) stepped child parent other index at_other (inl one) (inl two) =
-    let same : Did (item.Act parent index (act.Spawn child one.0 one.1)) ≡ Did (item.Act other at_other (act.Spawn child two.0 two.1)) = sym one.2 ∙ two.2 in
-    (cc, cc)
-born_once cluster (moved ∷ course) stepped child parent other index at_other (inl one) (inr two) =
-    absurd (spawned_new cluster course moved stepped child (spawns_there parent index child moved.event one) (inr (was_spawned other at_other child course two)))
-born_once cluster (moved ∷ course) stepped child parent other index at_other (inr one) (inl two) =
-    absurd (spawned_new cluster course moved stepped child (spawns_there other at_other child moved.event two) (inr (was_spawned parent index child course one)))
-born_once cluster (moved ∷ course) stepped child parent other index at_other (inr one) (inr two) = born_once cluster course stepped.0 child parent other index at_other one two

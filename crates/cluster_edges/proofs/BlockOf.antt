@@ -34,7 +34,8 @@ BlockOf cluster (moved ∷ course) frame child = block_after (happens_to cluster
 
 -- ---- positions
 
-act_more : (number : ℕ) (parent : FrameId) (done : log.Act) (A B : FrameId → FrameId → Type 0) → ((frame child : FrameId) → A frame child → B frame child) → (frame child : FrameId)
+act_more : (number : ℕ) (parent : FrameId) (done : log.Act) (A B : FrameId → FrameId → Type 0) → ((frame child : FrameId) → A frame child → B frame child)
+    → (frame child : FrameId)
     → block_after (log.Acts number parent done) A frame child → block_after (log.Acts number parent done) B frame child
 act_more number parent (log.Read word value) A B more frame child block = more frame child block
 act_more number parent (log.Write word value) A B more frame child block = more frame child block
@@ -58,7 +59,8 @@ after_more (log.Took number post) A B more frame child block = more frame child 
 after_more (log.End number) A B more frame child block = more frame child block
 
 -- So it is by positions.
-pub block_child : (cluster : Cluster) (course : Course) (now : ℕ) (frame child : FrameId) → BlockChild (events_of cluster course) now frame child → BlockOf cluster (first now course) frame child
+pub block_child : (cluster : Cluster) (course : Course) (now : ℕ) (frame child : FrameId) → BlockChild (events_of cluster course) now frame child
+    → BlockOf cluster (first now course) frame child
 unfolding BlockChild
 block_child cluster course zero frame child block = absurd block
 block_child cluster course (suc now) frame child block = on (at course now) refl block (block_child cluster course now)
@@ -92,9 +94,11 @@ pub record IsSpawn (event : Event) : Type 0 where
 -- no frame gets a child
 abbrev pub AddsNone : Cluster → Course → ℕ → Option PostAt → Event → Type 0
 AddsNone cluster course number here event =
-    (frame child : FrameId) → block_after (happens_to cluster course number here event) (BlockOf cluster course) frame child → BlockOf cluster course frame child
+    (frame child : FrameId) → block_after (happens_to cluster course number here event) (BlockOf cluster course) frame child
+        → BlockOf cluster course frame child
 
-pub spawn_or_none : (cluster : Cluster) (course : Course) (number : ℕ) (here : Option PostAt) (event : Event) → IsSpawn event ⊎ AddsNone cluster course number here event
+pub spawn_or_none : (cluster : Cluster) (course : Course) (number : ℕ) (here : Option PostAt) (event : Event)
+    → IsSpawn event ⊎ AddsNone cluster course number here event
 spawn_or_none cluster course number here (Did (item.Act parent index (act.Read word value))) = inr (λ frame child block. block)
 spawn_or_none cluster course number here (Did (item.Act parent index (act.Write word value))) = inr (λ frame child block. block)
 spawn_or_none cluster course number here (Did (item.Act parent index (act.Print value))) = inr (λ frame child block. block)
@@ -113,22 +117,26 @@ spawn_or_none cluster course number here (Ended end) = inr (λ frame child block
 
 -- at a spawn the frame that spawns gets the child, and no other one
 pub spawned_block : (cluster : Cluster) (course : Course) (number : ℕ) (here : Option PostAt) (event : Event) (it : IsSpawn event) (frame child : FrameId)
-    → block_after (happens_to cluster course number here event) (BlockOf cluster course) frame child → BlockOf cluster course frame child ⊎ ((it.parent ≡ frame) × (it.child ≡ child))
+    → block_after (happens_to cluster course number here event) (BlockOf cluster course) frame child
+    → BlockOf cluster course frame child ⊎ ((it.parent ≡ frame) × (it.child ≡ child))
 spawned_block cluster course number here event it frame child block =
     subst (λ event. block_after (happens_to cluster course number here event) (BlockOf cluster course) frame child) it.is block
 
 -- ---- a frame without a name has no block
 
-pub act_may : (node : Node) (past : Past) (parent : FrameId) (index : ℕ) (done : LoggedAct) → DoesItem node past (item.Act parent index done) → MayAct node past parent index done
+pub act_may : (node : Node) (past : Past) (parent : FrameId) (index : ℕ) (done : LoggedAct) → DoesItem node past (item.Act parent index done)
+    → MayAct node past parent index done
 act_may node past parent index done does = on does.rest does.posts does.may
   where
-    on : (rest : List Item) (posts : List Msg) → IsOwed node past (item.Act parent index done) ⊎ (IsFree past × MayDo node past (item.Act parent index done) rest posts)
+    on : (rest : List Item) (posts : List Msg) → IsOwed node past (item.Act parent index done)
+        ⊎ (IsFree past × MayDo node past (item.Act parent index done) rest posts)
         → MayAct node past parent index done
     on rest posts (inl owed) = absurd owed
     on rest posts (inr both) = both.1
 
 -- the frame that acts is held
-pub actor_held : (cluster : Cluster) (course : Course) (number : ℕ) (frame : FrameId) (life : Life) → number < cluster.config.nodes → Acts (node_at cluster number) (own number course) frame life
+pub actor_held : (cluster : Cluster) (course : Course) (number : ℕ) (frame : FrameId) (life : Life) → number < cluster.config.nodes
+    → Acts (node_at cluster number) (own number course) frame life
     → 1 ≤ held cluster course frame
 actor_held cluster course number frame life less acts =
     let frames = frames_of (node_at cluster number) (own number course) in
@@ -149,13 +157,16 @@ actor_known cluster course stepped number frame life less acts unknown =
 pub spawn_may : (cluster : Cluster) (course : Course) (moved : Moved) → Step cluster course moved → (it : IsSpawn moved.event)
     → MayAct (node_at cluster moved.node) (own moved.node course) it.parent it.index (act.Spawn it.child it.procedure it.arguments)
 spawn_may cluster course moved step it =
-    act_may (node_at cluster moved.node) (own moved.node course) it.parent it.index (act.Spawn it.child it.procedure it.arguments) (allowed moved.event it.is step.allowed)
+    act_may (node_at cluster moved.node) (own moved.node course) it.parent it.index (act.Spawn it.child it.procedure it.arguments)
+        (allowed moved.event it.is step.allowed)
   where
-    allowed : (event : Event) → event ≡ Did (item.Act it.parent it.index (act.Spawn it.child it.procedure it.arguments)) → IsAllowed (node_at cluster moved.node) (own moved.node course) event
+    allowed : (event : Event) → event ≡ Did (item.Act it.parent it.index (act.Spawn it.child it.procedure it.arguments))
+        → IsAllowed (node_at cluster moved.node) (own moved.node course) event
         → DoesItem (node_at cluster moved.node) (own moved.node course) (item.Act it.parent it.index (act.Spawn it.child it.procedure it.arguments))
     allowed event is may = subst (IsAllowed (node_at cluster moved.node) (own moved.node course)) is may
 
-pub known_block : (cluster : Cluster) (course : Course) → Stepped cluster course → (frame child : FrameId) → BlockOf cluster course frame child → Unknown cluster course frame → ⊥
+pub known_block : (cluster : Cluster) (course : Course) → Stepped cluster course → (frame child : FrameId) → BlockOf cluster course frame child
+    → Unknown cluster course frame → ⊥
 known_block cluster [] stepped frame child block unknown = absurd block
 known_block cluster (moved ∷ course) stepped frame child block unknown =
     on (spawn_or_none cluster course moved.node moved.message moved.event) (known_block cluster course stepped.0)

@@ -1,18 +1,18 @@
 -- In every run each frame is where the course says last.
-use Rattle.std.proofs.Common.{◌≡◌, ◌≢◌, ◌⊎◌, inl, inr, ℕ, ◌≤◌, List, [], ◌∷◌, Option, Some, None, Bool, true, false, cond, eqb, refl, sym, ◌∙◌, ap, subst, arith}
+use Rattle.std.proofs.Common.{◌≡◌, ◌≢◌, ◌⊎◌, inl, inr, ℕ, ◌≤◌, [], ◌∷◌, Option, Some, None, Bool, true, false, cond, eqb, refl, sym, ◌∙◌, ap, subst, arith}
 use Rattle.std.specs.List.{list_any}
 use Rattle.page_messages.specs.declared.closure.FrameId.{FrameId}
 use Rattle.page_messages.specs.declared.message.Msg.{Msg}
 use Rattle.page_messages.specs.declared.message.Body.{Body}
 use Rattle.page_messages.specs.declared.message.Body.TheVariants as body
 use Rattle.page_messages.specs.declared.log.PostAt.{PostAt}
-use Rattle.cluster_rules.specs.Turns.{WholeTurn, Took}
+use Rattle.cluster_rules.specs.Turns.{Took}
 use Rattle.cluster_rules.specs.Lives.{main_life, same_frame}
 use Rattle.cluster_rules.specs.Frames.{frames_of, next_frame}
-use Rattle.cluster_rules.specs.Positions.{Moved, Course, own, course_of}
-use Rattle.cluster_rules.specs.Runs.{Cluster, node_at, IsLawful}
+use Rattle.cluster_rules.specs.Positions.{Moved, Course, own}
+use Rattle.cluster_rules.specs.Runs.{Cluster, node_at}
 use Rattle.cluster_rules.specs.Allowed.{IsAllowed}
-use Rattle.cluster_rules.proofs.Stepping.{IsPost, WasPosted, takes_place, Takes, Carries, Step, Stepped, lawful_stepped}
+use Rattle.cluster_rules.proofs.Stepping.{IsPost, WasPosted, takes_place, Takes, Carries, Step, Stepped}
 use Rattle.cluster_rules.proofs.Summing.{one_or_two}
 use Rattle.cluster_rules.proofs.Marks.{same_name}
 use Rattle.cluster_rules.proofs.Holding.{own_first, own_other}
@@ -27,23 +27,27 @@ use Rattle.cluster_rules.proofs.Testing.{neither}
 
 -- ---- what is on its way
 
-pub coming_kept : (cluster : Cluster) (moved : Moved) (course : Course) (receiver : ℕ) (said : Body) → ((id : FrameId) → frame_in said ≡ Some id → news_on id moved ≡ None)
+pub coming_kept : (cluster : Cluster) (moved : Moved) (course : Course) (receiver : ℕ) (said : Body)
+    → ((id : FrameId) → frame_in said ≡ Some id → news_on id moved ≡ None)
     → Coming cluster course receiver said → Coming cluster (moved ∷ course) receiver said
 coming_kept cluster moved course receiver (body.Fetch page) none coming = tt
 coming_kept cluster moved course receiver (body.Page page words) none coming = tt
 coming_kept cluster moved course receiver (body.Reconcile parts) none coming = tt
 coming_kept cluster moved course receiver body.Ack none coming = tt
 coming_kept cluster moved course receiver body.Ask none coming = tt
-coming_kept cluster moved course receiver (body.Grant closure) none coming = (ready_kept cluster receiver moved course closure.id closure.join coming.0 (none closure.id refl), coming.1)
+coming_kept cluster moved course receiver (body.Grant closure) none coming =
+    (ready_kept cluster receiver moved course closure.id closure.join coming.0 (none closure.id refl), coming.1)
 coming_kept cluster moved course receiver body.Refuse none coming = tt
 coming_kept cluster moved course receiver (body.Done join index value) none coming = tt
-coming_kept cluster moved course receiver (body.Park join closure) none coming = join_kept cluster receiver moved course closure.id coming (none closure.id refl)
+coming_kept cluster moved course receiver (body.Park join closure) none coming =
+    join_kept cluster receiver moved course closure.id coming (none closure.id refl)
 coming_kept cluster moved course receiver (body.Add other index word addend) none coming = tt
 coming_kept cluster moved course receiver (body.Added old) none coming = tt
 
 -- ---- one event
 
-module _ (cluster : Cluster) (course : Course) (brought : Brought cluster course) (once : Once cluster course) (moved : Moved) (step : Step cluster course moved) where
+module _ (cluster : Cluster) (course : Course) (brought : Brought cluster course) (once : Once cluster course) (moved : Moved)
+    (step : Step cluster course moved) where
   abbrev grown : Course
   grown = moved ∷ course
 
@@ -54,7 +58,8 @@ module _ (cluster : Cluster) (course : Course) (brought : Brought cluster course
   one_of_node it is = tells_own cluster course moved.node moved.message (brought.frames moved.node) here_once brought.told it moved.event step.allowed is
 
   -- a frame that another node or a message has is none of which the event speaks
-  none_elsewhere : (id : FrameId) (it : Option Told) → told moved ≡ it → ((said : Told) → told moved ≡ Some said → same_frame id said.frame ≡ true → ⊥) → news_on id moved ≡ None
+  none_elsewhere : (id : FrameId) (it : Option Told) → told moved ≡ it → ((said : Told) → told moved ≡ Some said → same_frame id said.frame ≡ true → ⊥)
+      → news_on id moved ≡ None
   none_elsewhere id None is not = rw is refl
   none_elsewhere id (Some said) is not = on (same_frame id said.frame) refl
     where
@@ -77,7 +82,8 @@ module _ (cluster : Cluster) (course : Course) (brought : Brought cluster course
       subst (λ past. Placed cluster moved.node grown (frames_of (node_at cluster moved.node) past)) (sym (own_first moved course))
       (own_placed cluster course moved.node moved.message (brought.frames moved.node) here_once brought.told moved.event step.allowed coming_taken)
 
-  other_untold : (number : ℕ) → moved.node ≢ number → (it : Option Told) → told moved ≡ it → Untold cluster number moved course (frames_of (node_at cluster number) (own number course))
+  other_untold : (number : ℕ) → moved.node ≢ number → (it : Option Told) → told moved ≡ it
+      → Untold cluster number moved course (frames_of (node_at cluster number) (own number course))
   other_untold number other None is = untold_none cluster number moved course is (frames_of (node_at cluster number) (own number course))
   other_untold number other (Some it) is =
       untold_count cluster number moved course it is (frames_of (node_at cluster number) (own number course))
@@ -86,19 +92,23 @@ module _ (cluster : Cluster) (course : Course) (brought : Brought cluster course
   other_frames : (number : ℕ) → moved.node ≢ number → Placed cluster number grown (frames_of (node_at cluster number) (own number grown))
   other_frames number other =
       subst (λ past. Placed cluster number grown (frames_of (node_at cluster number) past)) (sym (own_other number moved course (λ same. other (sym same))))
-      (placed_kept cluster number moved course (frames_of (node_at cluster number) (own number course)) (brought.frames number) (other_untold number other (told moved) refl))
+      (placed_kept cluster number moved course (frames_of (node_at cluster number) (own number course)) (brought.frames number)
+          (other_untold number other (told moved) refl))
 
-  all_frames : (number : ℕ) → (moved.node ≡ number) ⊎ (moved.node ≢ number) → Placed cluster number grown (frames_of (node_at cluster number) (own number grown))
+  all_frames : (number : ℕ) → (moved.node ≡ number) ⊎ (moved.node ≢ number)
+      → Placed cluster number grown (frames_of (node_at cluster number) (own number grown))
   all_frames number (inl same) = subst (λ it. Placed cluster it grown (frames_of (node_at cluster it) (own it grown))) same own_frames
   all_frames number (inr other) = other_frames number other
 
   -- ---- messages
 
-  old_coming : (place : PostAt) (message : Msg) → WasPosted course place message → list_any (takes_place place) course ≡ false → Coming cluster grown message.receiver message.body
+  old_coming : (place : PostAt) (message : Msg) → WasPosted course place message → list_any (takes_place place) course ≡ false
+      → Coming cluster grown message.receiver message.body
   old_coming place message was not =
       coming_kept cluster moved course message.receiver message.body
       (λ id is. none_elsewhere id (told moved) refl
-      (λ said tells same. once.flying moved.node step.within said.frame (one_of_node said tells) place message was not (is ∙ ap Some (same_name id said.frame same))))
+      (λ said tells same. once.flying moved.node step.within said.frame (one_of_node said tells) place message was not
+          (is ∙ ap Some (same_name id said.frame same))))
       (brought.coming place message was not)
 
   new_coming : (place : PostAt) (message : Msg) → IsPost place message moved → Coming cluster grown message.receiver message.body
@@ -107,13 +117,15 @@ module _ (cluster : Cluster) (course : Course) (brought : Brought cluster course
       (sends_coming cluster course moved.node moved.message (brought.frames moved.node) here_once brought.told message message.body refl
       (subst (λ event. IsAllowed (node_at cluster moved.node) (own moved.node course) event) post.0 step.allowed))
 
-  all_coming : (place : PostAt) (message : Msg) → WasPosted grown place message → list_any (takes_place place) grown ≡ false → Coming cluster grown message.receiver message.body
+  all_coming : (place : PostAt) (message : Msg) → WasPosted grown place message → list_any (takes_place place) grown ≡ false
+      → Coming cluster grown message.receiver message.body
   all_coming place message (inl post) not = new_coming place message post
   all_coming place message (inr was) not = old_coming place message was (neither (takes_place place moved) (list_any (takes_place place) course) not).1
 
   -- ---- names
 
-  old_told : (frame : FrameId) → news_on frame moved ≡ None → (last_news frame course ≡ None) ⊎ Named cluster course frame → (last_news frame grown ≡ None) ⊎ Named cluster grown frame
+  old_told : (frame : FrameId) → news_on frame moved ≡ None → (last_news frame course ≡ None) ⊎ Named cluster course frame
+      → (last_news frame grown ≡ None) ⊎ Named cluster grown frame
   old_told frame none (inl nothing) = inl (last_kept frame moved course none ∙ nothing)
   old_told frame none (inr named) = inr (named_more cluster moved course frame named)
 
@@ -124,7 +136,8 @@ module _ (cluster : Cluster) (course : Course) (brought : Brought cluster course
       on : (b : Bool) → same_frame frame it.frame ≡ b → (last_news frame grown ≡ None) ⊎ Named cluster grown frame
       on true same =
           inr (named_more cluster moved course frame (subst (λ it. Named cluster course it) (sym (same_name frame it.frame same))
-          (counted_named cluster moved.node course (frames_of (node_at cluster moved.node) (own moved.node course)) (brought.frames moved.node) it.frame (one_of_node it is))))
+          (counted_named cluster moved.node course (frames_of (node_at cluster moved.node) (own moved.node course)) (brought.frames moved.node) it.frame
+              (one_of_node it is))))
       on false other = old_told frame (no_news it moved frame is other) (brought.told frame)
 
   pub brought_next : Brought cluster grown
@@ -147,7 +160,3 @@ start_frames cluster number = on (eqb number 0)
 pub brought : (cluster : Cluster) (course : Course) → Stepped cluster course → Brought cluster course
 brought cluster [] stepped = record { frames = start_frames cluster; coming = λ place message was not. absurd was; told = λ frame. inl refl }
 brought cluster (moved ∷ course) stepped = brought_next cluster course (brought cluster course stepped.0) (one_place cluster course stepped.0) moved stepped.1
-
--- Lawful turns keep it.
-pub lawful_brought : (cluster : Cluster) (turns : List WholeTurn) → IsLawful cluster turns → Brought cluster (course_of turns)
-lawful_brought cluster turns lawful = brought cluster (course_of turns) (lawful_stepped cluster turns lawful)

@@ -49,7 +49,8 @@ module _ (cluster : Cluster) (number : ℕ) (course : Course) where
   pub placed_live : (frames : Frames) → Placed cluster number course frames → EachLife (OnStack cluster number course) (live frames.stack)
   placed_live frames placed = each_live (OnStack cluster number course) frames.stack placed.stack
 
-  pub placed_ticked : (frames : Frames) → Placed cluster number course frames → Placed cluster number course (with_stack (with_first (answered DoneAnswer) (live frames.stack)) frames)
+  pub placed_ticked : (frames : Frames) → Placed cluster number course frames
+      → Placed cluster number course (with_stack (with_first (answered DoneAnswer) (live frames.stack)) frames)
   placed_ticked frames placed =
       placed_stack (with_first (answered DoneAnswer) (live frames.stack)) frames placed
       (each_answered (OnStack cluster number course) DoneAnswer (live frames.stack) (placed_live frames placed))
@@ -57,10 +58,12 @@ module _ (cluster : Cluster) (number : ℕ) (course : Course) where
   pub placed_served : (old : ℤ) (b : Bool) (frames : Frames) → Placed cluster number course frames
       → Placed cluster number course (with_stack (cond b (added old (live frames.stack)) frames.stack) frames)
   placed_served old true frames placed =
-      placed_stack (added old (live frames.stack)) frames placed (each_added (OnStack cluster number course) old (live frames.stack) (placed_live frames placed))
+      placed_stack (added old (live frames.stack)) frames placed
+          (each_added (OnStack cluster number course) old (live frames.stack) (placed_live frames placed))
   placed_served old false frames placed = placed
 
-  pub placed_joined : (node : Node) (past : Past) (frames : Frames) → Placed cluster number course frames → Placed cluster number course (with_joined node past frames)
+  pub placed_joined : (node : Node) (past : Past) (frames : Frames) → Placed cluster number course frames
+      → Placed cluster number course (with_joined node past frames)
   placed_joined node past frames placed = record {
     stack = placed.stack;
     ready = each_append (OnReady cluster number course) frames.ready (all_joined node past frames.parked) placed.ready

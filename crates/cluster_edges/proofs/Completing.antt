@@ -23,7 +23,8 @@ use Rattle.cluster_edges.proofs.Stacks.{lying_append}
 
 -- ---- what was taken was posted
 
-taken_on : (cluster : Cluster) (course : Course) (moved : Moved) (message : Msg) → Carries course moved.node moved.message moved.event → moved.event ≡ Took message
+taken_on : (cluster : Cluster) (course : Course) (moved : Moved) (message : Msg) → Carries course moved.node moved.message moved.event
+    → moved.event ≡ Took message
     → (place : PostAt) × WasPosted course place message
 taken_on cluster course moved message carries is =
     let taking = subst (λ event. Carries course moved.node moved.message event) is carries in (taking.place, taking.was_posted)
@@ -37,7 +38,8 @@ taken_posted cluster number (moved ∷ course) stepped message among = on (eqb m
     more it = (it.0, inr it.1)
 
     on : (b : Bool) → Among (Took message) (cond b (moved.event ∷ own number course) (own number course))
-        → (Among (Took message) (own number course) → (place : PostAt) × WasPosted course place message) → (place : PostAt) × WasPosted (moved ∷ course) place message
+        → (Among (Took message) (own number course) → (place : PostAt) × WasPosted course place message)
+        → (place : PostAt) × WasPosted (moved ∷ course) place message
     on true (inl is) rest = more (taken_on cluster course moved message stepped.1.carries is)
     on true (inr among) rest = more (rest among)
     on false among rest = more (rest among)
@@ -68,7 +70,8 @@ done_said join index (body.Grant closure) is = absurd (cc)
 done_said join index body.Refuse is = absurd (cc)
 done_said join index (body.Done other child value) is = on (same_join other join && eqb child index) refl is
   where
-    on : (b : Bool) → same_join other join && eqb child index ≡ b → is_some (cond b (Some value) None) ≡ true → (it : ℤ) × (body.Done other child value ≡ body.Done join index it)
+    on : (b : Bool) → same_join other join && eqb child index ≡ b → is_some (cond b (Some value) None) ≡ true
+        → (it : ℤ) × (body.Done other child value ≡ body.Done join index it)
     on true same is =
         let both = both_true (same_join other join) (eqb child index) same in
         let joins = same_join_is other join both.0 in
@@ -109,7 +112,8 @@ module _ (cluster : Cluster) (course : Course) (stepped : Stepped cluster course
       let it = done_returned one.join noted.entry done in
       let some : Some it.parent ≡ Some one.closure.id = sym it.named ∙ waiting.fits.joined one.join waiting.at_join in
       let parent : it.parent ≡ one.closure.id = cc in
-      let same = once one.closure.id noted.entry.index child it.child noted.born (subst (λ frame. Born frame noted.entry.index it.child course) parent it.born) in
+      let same =
+          once one.closure.id noted.entry.index child it.child noted.born (subst (λ frame. Born frame noted.entry.index it.child course) parent it.born) in
       subst (λ other. Told cluster course one.closure.id other) (sym same) (subst (λ frame. Told cluster course frame it.child) parent it.told)
 
   joined_lies : (one : Parked) → Waiting cluster course one.join one.closure → is_complete (own number course) one ≡ true
@@ -125,16 +129,19 @@ module _ (cluster : Cluster) (course : Course) (stepped : Stepped cluster course
     complete = λ parking. refl;
   }
     where
-      on : (child : FrameId) → Told cluster course one.closure.id child ⊎ IsNoted course one.closure.id one.closure.away child → Told cluster course one.closure.id child
+      on : (child : FrameId) → Told cluster course one.closure.id child ⊎ IsNoted course one.closure.id one.closure.away child
+          → Told cluster course one.closure.id child
       on child (inl told) = told
       on child (inr noted) = complete_told one waiting complete child noted
 
-  all_joined_lie : (parked : List Parked) → AllWaiting cluster course parked → AllLying cluster course (all_joined (node_at cluster number) (own number course) parked)
+  all_joined_lie : (parked : List Parked) → AllWaiting cluster course parked
+      → AllLying cluster course (all_joined (node_at cluster number) (own number course) parked)
   all_joined_lie [] all = tt
   all_joined_lie (one ∷ parked) all = on (is_complete (own number course) one) refl (all_joined_lie parked all.1)
     where
       on : (b : Bool) → is_complete (own number course) one ≡ b → AllLying cluster course (all_joined (node_at cluster number) (own number course) parked)
-          → AllLying cluster course (cond b (joined (node_at cluster number) (own number course) one ∷ all_joined (node_at cluster number) (own number course) parked)
+          → AllLying cluster course
+              (cond b (joined (node_at cluster number) (own number course) one ∷ all_joined (node_at cluster number) (own number course) parked)
           (all_joined (node_at cluster number) (own number course) parked))
       on true is rest = (joined_lies one all.0 is, rest)
       on false is rest = rest
@@ -152,6 +159,8 @@ module _ (cluster : Cluster) (course : Course) (stepped : Stepped cluster course
   pub joined_keeps : (frames : Frames) → Keeps cluster course frames → Keeps cluster course (with_joined (node_at cluster number) (own number course) frames)
   joined_keeps frames keeps = record {
     stack = keeps.stack;
-    ready = lying_append cluster course frames.ready (all_joined (node_at cluster number) (own number course) frames.parked) keeps.ready (all_joined_lie frames.parked keeps.parked);
+    ready =
+        lying_append cluster course frames.ready (all_joined (node_at cluster number) (own number course) frames.parked) keeps.ready
+            (all_joined_lie frames.parked keeps.parked);
     parked = still_wait frames.parked keeps.parked;
   }

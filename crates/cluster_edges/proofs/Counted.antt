@@ -29,7 +29,8 @@ pub record Once (cluster : Cluster) (course : Course) : Type 0 where
 
 -- ---- counts
 
-pub counts : (frame : FrameId) (frames : Frames) → count frame (marks_of frames) ≡ count frame (marks frames.stack) + (count frame (marks frames.ready) + count frame (parked_marks frames.parked))
+pub counts : (frame : FrameId) (frames : Frames)
+    → count frame (marks_of frames) ≡ count frame (marks frames.stack) + (count frame (marks frames.ready) + count frame (parked_marks frames.parked))
 counts frame frames =
     let a = many_append (named frame) (marks frames.stack) (other_marks frames) in
     let b = many_append (named frame) (marks frames.ready) (parked_marks frames.parked) in
@@ -55,21 +56,25 @@ one_same id frame is = subst (λ it. one (same_frame id it) ≡ 1) is (one_self 
 -- ---- what holds of a frame that is counted
 
 some_on : (Holds : Property) (frame : FrameId) (life : Life) (lives : List Life) (b : Bool) → same_frame life.id frame ≡ b → Holds life.id life.join
-    → 1 ≤ one b + count frame (marks lives) → (1 ≤ count frame (marks lives) → (join : Option JoinId) × Holds frame join) → (join : Option JoinId) × Holds frame join
+    → 1 ≤ one b + count frame (marks lives) → (1 ≤ count frame (marks lives) → (join : Option JoinId) × Holds frame join)
+    → (join : Option JoinId) × Holds frame join
 some_on Holds frame life lives true is here some rest = (life.join, subst (λ it. Holds it life.join) (same_name life.id frame is) here)
 some_on Holds frame life lives false is here some rest = rest (omega (arith, some))
 
-pub counted_some : (Holds : Property) (frame : FrameId) (lives : List Life) → EachLife Holds lives → 1 ≤ count frame (marks lives) → (join : Option JoinId) × Holds frame join
+pub counted_some : (Holds : Property) (frame : FrameId) (lives : List Life) → EachLife Holds lives → 1 ≤ count frame (marks lives)
+    → (join : Option JoinId) × Holds frame join
 counted_some Holds frame [] all some = absurd (omega (arith, some))
 counted_some Holds frame (life ∷ lives) all some =
     some_on Holds frame life lives (same_frame life.id frame) refl all.0 some (counted_some Holds frame lives all.1)
 
-parked_on : (Holds : FrameId → Type 0) (frame : FrameId) (first : Parked) (parked : List Parked) (b : Bool) → same_frame first.closure.id frame ≡ b → Holds first.closure.id
+parked_on : (Holds : FrameId → Type 0) (frame : FrameId) (first : Parked) (parked : List Parked) (b : Bool) → same_frame first.closure.id frame ≡ b
+    → Holds first.closure.id
     → 1 ≤ one b + count frame (parked_marks parked) → (1 ≤ count frame (parked_marks parked) → Holds frame) → Holds frame
 parked_on Holds frame first parked true is here some rest = subst Holds (same_name first.closure.id frame is) here
 parked_on Holds frame first parked false is here some rest = rest (omega (arith, some))
 
-pub parked_some : (Holds : FrameId → Type 0) (frame : FrameId) (parked : List Parked) → EachParked Holds parked → 1 ≤ count frame (parked_marks parked) → Holds frame
+pub parked_some : (Holds : FrameId → Type 0) (frame : FrameId) (parked : List Parked) → EachParked Holds parked → 1 ≤ count frame (parked_marks parked)
+    → Holds frame
 parked_some Holds frame [] all some = absurd (omega (arith, some))
 parked_some Holds frame (first ∷ parked) all some =
     parked_on Holds frame first parked (same_frame first.closure.id frame) refl all.0 some (parked_some Holds frame parked all.1)
@@ -86,7 +91,8 @@ counted_named cluster number course frames placed frame some =
     on (one_of (count frame (marks frames.stack)) (count frame (marks frames.ready)) (count frame (parked_marks frames.parked))
     (let total = counts frame frames in omega (arith, some, total)))
   where
-    on : (1 ≤ count frame (marks frames.stack)) ⊎ ((1 ≤ count frame (marks frames.ready)) ⊎ (1 ≤ count frame (parked_marks frames.parked))) → Named cluster course frame
+    on : (1 ≤ count frame (marks frames.stack)) ⊎ ((1 ≤ count frame (marks frames.ready)) ⊎ (1 ≤ count frame (parked_marks frames.parked)))
+        → Named cluster course frame
     on (inl here) = (counted_some (OnStack cluster number course) frame frames.stack placed.stack here).1.named
     on (inr (inl here)) = (counted_some (OnReady cluster number course) frame frames.ready placed.ready here).1.named
     on (inr (inr here)) = (parked_some (AtJoin cluster number course) frame frames.parked placed.parked here).named
@@ -101,7 +107,8 @@ other_way first second true is other =
 pub no_news : (it : Told) (moved : Moved) (id : FrameId) → told moved ≡ Some it → same_frame id it.frame ≡ false → news_on id moved ≡ None
 no_news it moved id is other = let turned = other_way id it.frame (same_frame it.frame id) refl other in rw (is, turned) refl
 
-pub no_news_lives : (it : Told) (moved : Moved) → told moved ≡ Some it → (lives : List Life) → count it.frame (marks lives) ≡ 0 → EachLife (λ id join. news_on id moved ≡ None) lives
+pub no_news_lives : (it : Told) (moved : Moved) → told moved ≡ Some it → (lives : List Life) → count it.frame (marks lives) ≡ 0
+    → EachLife (λ id join. news_on id moved ≡ None) lives
 no_news_lives it moved is lives none =
     let others = counted_none it.frame lives none in
     each_change (λ id join. same_frame id it.frame ≡ false) (λ id join. same_frame id it.frame ≡ false) (λ id join. news_on id moved ≡ None)
@@ -114,7 +121,8 @@ no_news_parked it moved is parked none =
     parked_change (λ id. same_frame id it.frame ≡ false) (λ id. same_frame id it.frame ≡ false) (λ id. news_on id moved ≡ None)
     (λ id other also. no_news it moved id is other) parked others others
 
-pub untold_count : (cluster : Cluster) (node : ℕ) (moved : Moved) (course : Course) (it : Told) → told moved ≡ Some it → (frames : Frames) → count it.frame (marks_of frames) ≡ 0
+pub untold_count : (cluster : Cluster) (node : ℕ) (moved : Moved) (course : Course) (it : Told) → told moved ≡ Some it → (frames : Frames)
+    → count it.frame (marks_of frames) ≡ 0
     → Untold cluster node moved course frames
 untold_count cluster node moved course it is frames none =
     let total = counts it.frame frames in record {
@@ -123,7 +131,8 @@ untold_count cluster node moved course it is frames none =
       parked = no_news_parked it moved is frames.parked (omega (arith, total, none));
     }
 
-pub untold_none : (cluster : Cluster) (node : ℕ) (moved : Moved) (course : Course) → told moved ≡ None → (frames : Frames) → Untold cluster node moved course frames
+pub untold_none : (cluster : Cluster) (node : ℕ) (moved : Moved) (course : Course) → told moved ≡ None → (frames : Frames)
+    → Untold cluster node moved course frames
 untold_none cluster node moved course is frames =
     let nothing : (id : FrameId) → news_on id moved ≡ None = λ id. rw is refl in record {
       stack = each_always (λ id join. news_on id moved ≡ None) (λ id join. nothing id) frames.stack;

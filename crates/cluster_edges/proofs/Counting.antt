@@ -43,7 +43,8 @@ one_at_least [] target is = absurd (cc)
 one_at_least (first ∷ block) target is = absurd (cc)
 
 -- the stack behind a spawn
-spawn_stack : (node : Node) (past : Past) (parent : FrameId) (index : ℕ) (child : FrameId) (procedure : ℕ) (arguments : List ℤ) (life : Life) (below : List Life)
+spawn_stack : (node : Node) (past : Past) (parent : FrameId) (index : ℕ) (child : FrameId) (procedure : ℕ) (arguments : List ℤ) (life : Life)
+    (below : List Life)
     → live (stack_of node past) ≡ life ∷ below
     → stack_of node (Did (item.Act parent index (act.Spawn child procedure arguments)) ∷ past)
     ≡ (newborn node child procedure arguments life ∷ []) ++ acted (act.Spawn child procedure arguments) life ∷ below
@@ -57,7 +58,8 @@ module _ (cluster : Cluster) (program : Program) (stands : StandsFor cluster.cod
   steady : (depth procedure : ℕ) (arguments : List ℤ) (answers more : List Answer)
       → take (suc (length answers)) (begins depth procedure arguments (answers ++ more)) ≡ begins depth procedure arguments answers
   steady depth procedure arguments answers more =
-      subst (λ (it : ℕ → ℕ → List ℤ → Meaning). take (suc (length answers)) (it depth procedure arguments (answers ++ more)) ≡ it depth procedure arguments answers)
+      subst (λ (it : ℕ → ℕ → List ℤ → Meaning). take (suc (length answers)) (it depth procedure arguments (answers ++ more))
+          ≡ it depth procedure arguments answers)
       (sym stands.wants) (steady_wants program depth procedure arguments answers more)
 
   pub returned_none : IsParted program → (goes : Meaning) (meant : Meant begins goes) → is_some (value_in (now goes)) ≡ true → block_so begins goes meant ≡ []
@@ -74,7 +76,8 @@ module _ (cluster : Cluster) (program : Program) (stands : StandsFor cluster.cod
     abbrev pub Behind : Event → FrameId → FrameId → Type 0
     Behind event = block_after (happens_to cluster course number here event) (BlockOf cluster course)
 
-    plain : (event : Event) (life : Life) (request : Request) (answer : Answer) → Wants life request → ((block : Block) → alone.block_after request block ≡ block)
+    plain : (event : Event) (life : Life) (request : Request) (answer : Answer) → Wants life request
+        → ((block : Block) → alone.block_after request block ≡ block)
         → AddsNone cluster course number here event
         → Counts (BlockOf cluster course) life.id life.goes → Counts (Behind event) life.id (after life.goes answer)
     plain event life request answer wanted same none counts =
@@ -89,7 +92,8 @@ module _ (cluster : Cluster) (program : Program) (stands : StandsFor cluster.cod
     answers_count (Did (item.Act frame index (act.Read word value))) told life answer by counts =
         plain (Did (item.Act frame index (act.Read word value))) life (want.Read word) answer by.1.wanted (λ block. refl) (λ frame child block. block) counts
     answers_count (Did (item.Act frame index (act.Write word value))) told life answer by counts =
-        plain (Did (item.Act frame index (act.Write word value))) life (want.Write word value) answer by.1.wanted (λ block. refl) (λ frame child block. block) counts
+        plain (Did (item.Act frame index (act.Write word value))) life (want.Write word value) answer by.1.wanted (λ block. refl)
+            (λ frame child block. block) counts
     answers_count (Did (item.Act frame index (act.Print value))) told life answer by counts =
         plain (Did (item.Act frame index (act.Print value))) life (want.Print value) answer by.1 (λ block. refl) (λ frame child block. block) counts
     answers_count (Did (item.Act frame index (act.Spawn child procedure arguments))) told life answer by counts =
@@ -112,7 +116,8 @@ module _ (cluster : Cluster) (program : Program) (stands : StandsFor cluster.cod
     answers_count (Ended end) told life answer by counts = absurd by
     answers_count (Took message) told life answer by counts = on message.body refl by
       where
-        on : (said : Body) → message.body ≡ said → ByBody (node_at cluster number) (own number course) said life answer → Counts (Behind (Took message)) life.id (after life.goes answer)
+        on : (said : Body) → message.body ≡ said → ByBody (node_at cluster number) (own number course) said life answer
+            → Counts (Behind (Took message)) life.id (after life.goes answer)
         on (body.Fetch page) says by = absurd by
         on (body.Page page words) says by = absurd by
         on (body.Reconcile parts) says by = absurd by
@@ -142,12 +147,15 @@ module _ (cluster : Cluster) (program : Program) (stands : StandsFor cluster.cod
     abbrev OldOrNew : Saying
     OldOrNew id goes = Old id goes ⊎ New id goes
 
-    answered_new : (life : Life) (answer : Answer) → Answers (node_at cluster moved.node) (own moved.node course) moved.event life answer → Old life.id life.goes
+    answered_new : (life : Life) (answer : Answer) → Answers (node_at cluster moved.node) (own moved.node course) moved.event life answer
+        → Old life.id life.goes
         → New life.id (after life.goes answer)
     answered_new life answer by counts = answers_count course moved.node moved.message moved.event told life answer by counts
 
-    born_new : (frame : FrameId) (index : ℕ) (child : FrameId) (procedure : ℕ) (arguments : List ℤ) (life : Life) → moved.event ≡ Did (item.Act frame index (act.Spawn child procedure arguments))
-        → Acts (node_at cluster moved.node) (own moved.node course) frame life → MaySpawn (node_at cluster moved.node) (own moved.node course) child procedure arguments life
+    born_new : (frame : FrameId) (index : ℕ) (child : FrameId) (procedure : ℕ) (arguments : List ℤ) (life : Life)
+        → moved.event ≡ Did (item.Act frame index (act.Spawn child procedure arguments))
+        → Acts (node_at cluster moved.node) (own moved.node course) frame life
+        → MaySpawn (node_at cluster moved.node) (own moved.node course) child procedure arguments life
         → New child (begins (suc life.depth) procedure arguments)
     born_new frame index child procedure arguments life is acts spawns =
         let it = meant_first begins (suc life.depth) procedure arguments in
@@ -166,13 +174,15 @@ module _ (cluster : Cluster) (program : Program) (stands : StandsFor cluster.cod
     keeps : Keeps (node_at cluster moved.node) (own moved.node course) moved.event Old OldOrNew
     keeps = record {
       same = λ id goes counts. inl counts;
-      closes = λ id goes other kept equal counts. (let it = meant_closed begins goes other kept counts.0 equal in inl (it.0, λ child block empty. counts.1 child block (sym it.1 ∙ empty)));
+      closes = λ id goes other kept equal counts. (let it =
+          meant_closed begins goes other kept counts.0 equal in inl (it.0, λ child block empty. counts.1 child block (sym it.1 ∙ empty)));
       acts = λ life answer by counts. inr (answered_new life answer by counts);
       born = λ frame index child procedure arguments life is acts spawns. inr (born_new frame index child procedure arguments life is acts spawns);
     }
 
     -- where no frame gets a child
-    none_new : AddsNone cluster course moved.node moved.message moved.event → Everywhere cluster (moved ∷ course) OldOrNew → Everywhere cluster (moved ∷ course) New
+    none_new : AddsNone cluster course moved.node moved.message moved.event → Everywhere cluster (moved ∷ course) OldOrNew
+        → Everywhere cluster (moved ∷ course) New
     none_new none all = everywhere_both OldOrNew OldOrNew New (λ id goes first second. on id goes first) cluster (moved ∷ course) all all
       where
         on : (id : FrameId) (goes : Meaning) → OldOrNew id goes → New id goes
@@ -180,8 +190,11 @@ module _ (cluster : Cluster) (program : Program) (stands : StandsFor cluster.cod
         on id goes (inr counts) = counts
 
     -- where a frame gets one, it is on the stack
-    spawned_new : (it : IsSpawn moved.event) → Everywhere cluster course Old → Everywhere cluster (moved ∷ course) OldOrNew → Everywhere cluster (moved ∷ course) New
-    spawned_new it older all = everywhere_both OldOrNew (λ id goes. id ≡ it.parent → New it.parent goes) New (λ id goes first second. on id goes first second (same_frame id it.parent) refl)
+    spawned_new : (it : IsSpawn moved.event) → Everywhere cluster course Old → Everywhere cluster (moved ∷ course) OldOrNew
+        → Everywhere cluster (moved ∷ course) New
+    spawned_new it older all =
+        everywhere_both OldOrNew (λ id goes. id ≡ it.parent → New it.parent goes) New
+            (λ id goes first second. on id goes first second (same_frame id it.parent) refl)
         cluster (moved ∷ course) all parent_alone
       where
         node : Node
@@ -210,8 +223,10 @@ module _ (cluster : Cluster) (program : Program) (stands : StandsFor cluster.cod
 
         parent_alone : Everywhere cluster (moved ∷ course) (λ id goes. id ≡ it.parent → New it.parent goes)
         parent_alone =
-            lone it.parent (New it.parent) (newborn node it.child it.procedure it.arguments may.life ∷ []) top.0 (acted (act.Spawn it.child it.procedure it.arguments) may.life)
-            (sym may.acts.named) (subst (λ id. New id (after may.life.goes Done)) (sym may.acts.named) parent_new) cluster (moved ∷ course) (stepped, step) moved.node step.within stack_is
+            lone it.parent (New it.parent) (newborn node it.child it.procedure it.arguments may.life ∷ []) top.0
+                (acted (act.Spawn it.child it.procedure it.arguments) may.life)
+            (sym may.acts.named) (subst (λ id. New id (after may.life.goes Done)) (sym may.acts.named) parent_new) cluster (moved ∷ course)
+            (stepped, step) moved.node step.within stack_is
 
         on : (id : FrameId) (goes : Meaning) → OldOrNew id goes → (id ≡ it.parent → New it.parent goes) → (b : Bool) → same_frame id it.parent ≡ b → New id goes
         on id goes (inr counts) only b is = counts

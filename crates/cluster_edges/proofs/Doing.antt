@@ -26,13 +26,15 @@ use Rattle.cluster_edges.proofs.Stacks.{live_stacked, answered_stacked, added_st
 module _ (cluster : Cluster) (moved : Moved) (course : Course) (tied : Tied cluster course) (done : Item) (is : moved.event ≡ Did done) where
   -- an item lets no frame leave
   stays_here : (frame : FrameId) → Apart cluster moved course frame
-  stays_here frame = apart_if cluster moved course frame (λ left. let none : leaves moved.event ≡ None = ap leaves is in let some = sym none ∙ left in absurd (cc))
+  stays_here frame =
+      apart_if cluster moved course frame (λ left. let none : leaves moved.event ≡ None = ap leaves is in let some = sym none ∙ left in absurd (cc))
 
 -- ---- acts
 
 module _ (cluster : Cluster) (moved : Moved) (course : Course) (tied : Tied cluster course) (frame : FrameId) (index : ℕ) where
   -- a child is new
-  new_child : (child : FrameId) → child ≡ record { node = moved.node; number = next_frame (node_at cluster moved.node) (own moved.node course) } → Known cluster child course → ⊥
+  new_child : (child : FrameId) → child ≡ record { node = moved.node; number = next_frame (node_at cluster moved.node) (own moved.node course) }
+      → Known cluster child course → ⊥
   new_child child name known =
       let less = subst (λ (it : FrameId). it.number < next_frame (node_at cluster it.node) (own it.node course)) name known in omega (arith, less)
 
@@ -55,14 +57,16 @@ module _ (cluster : Cluster) (moved : Moved) (course : Course) (tied : Tied clus
   acting (act.Spawn child procedure arguments) life is named counted makes =
       let born : moved.event ≡ Did (item.Act life.id life.acts (act.Spawn child procedure arguments)) =
       is ∙ (λ i. Did (item.Act (named i) (counted i) (act.Spawn child procedure arguments))) in
-      let apart : Apart cluster moved course child = stays_here cluster moved course tied (item.Act frame index (act.Spawn child procedure arguments)) is child in (
+      let apart : Apart cluster moved course child =
+          stays_here cluster moved course tied (item.Act frame index (act.Spawn child procedure arguments)) is child in (
         inl (procedure, arguments, born),
         child_known child procedure arguments is makes.name,
         λ other gone. new_child child makes.name (tied.gone child other (apart.gone other gone)),
         λ parking. new_child child makes.name (tied.parking child (apart.parking parking)),
       )
   acting act.Sync life is named counted makes =
-      λ child gone. (subst (λ event. gone_on event (stack_of (node_at cluster moved.node) (own moved.node course)) (Gone cluster course) life.id child) is gone).1 named
+      λ child gone.
+          (subst (λ event. gone_on event (stack_of (node_at cluster moved.node) (own moved.node course)) (Gone cluster course) life.id child) is gone).1 named
 
 -- ---- each item
 
@@ -82,7 +86,8 @@ module _ (cluster : Cluster) (moved : Moved) (course : Course) (tied : Tied clus
           let none = both.1 in
           absurd (cc)
 
-  taken_keeps : (frame : FrameId) (life : Life) (stack ready younger : List Life) (parked : List Parked) → moved.event ≡ Did (item.TakeUp frame) → frame ≡ life.id → ready ≡ life ∷ younger
+  taken_keeps : (frame : FrameId) (life : Life) (stack ready younger : List Life) (parked : List Parked) → moved.event ≡ Did (item.TakeUp frame)
+      → frame ≡ life.id → ready ≡ life ∷ younger
       → AllLying cluster (moved ∷ course) ready → AllWaiting cluster (moved ∷ course) parked → Keeps cluster (moved ∷ course) (taken_up stack ready parked)
   taken_keeps frame life stack ready younger parked is named oldest lying waiting =
       let both = subst (AllLying cluster (moved ∷ course)) oldest lying in
@@ -99,31 +104,39 @@ module _ (cluster : Cluster) (moved : Moved) (course : Course) (tied : Tied clus
   frames = frames_of node past
 
   -- the stack alone changes
-  restacked : (stack : List Life) → Keeps cluster (moved ∷ course) frames → Stacked cluster (moved ∷ course) stack → Keeps cluster (moved ∷ course) (with_stack stack frames)
+  restacked : (stack : List Life) → Keeps cluster (moved ∷ course) frames → Stacked cluster (moved ∷ course) stack
+      → Keeps cluster (moved ∷ course) (with_stack stack frames)
   restacked stack keeps stacked = record { stack = stacked; ready = keeps.ready; parked = keeps.parked }
 
   act_keeps : (frame : FrameId) (index : ℕ) (done : LoggedAct) → moved.event ≡ Did (item.Act frame index done) → MayAct node past frame index done
       → Keeps cluster (moved ∷ course) frames → Stacked cluster (moved ∷ course) (after_act node done (live frames.stack))
   act_keeps frame index done is may keeps =
       let first = first_is (live frames.stack) may.life may.acts.is in
-      let alive : Stacked cluster (moved ∷ course) (may.life ∷ first.0) = subst (Stacked cluster (moved ∷ course)) first.1 (live_stacked cluster (moved ∷ course) frames.stack keeps.stack) in
+      let alive : Stacked cluster (moved ∷ course) (may.life ∷ first.0) =
+          subst (Stacked cluster (moved ∷ course)) first.1 (live_stacked cluster (moved ∷ course) frames.stack keeps.stack) in
       let its = acting cluster moved course tied frame index done may.life is may.acts.named may.index_is may.makes in
-      subst (λ it. Stacked cluster (moved ∷ course) (after_act node done it)) (sym first.1) (acted_stacked cluster (moved ∷ course) node done may.life first.0 its alive)
+      subst (λ it. Stacked cluster (moved ∷ course) (after_act node done it)) (sym first.1)
+          (acted_stacked cluster (moved ∷ course) node done may.life first.0 its alive)
 
-  served_stacked : (old : ℤ) (b : Bool) → Stacked cluster (moved ∷ course) frames.stack → Stacked cluster (moved ∷ course) (cond b (added old (live frames.stack)) frames.stack)
+  served_stacked : (old : ℤ) (b : Bool) → Stacked cluster (moved ∷ course) frames.stack
+      → Stacked cluster (moved ∷ course) (cond b (added old (live frames.stack)) frames.stack)
   served_stacked old true stacked = added_stacked cluster (moved ∷ course) old (live frames.stack) (live_stacked cluster (moved ∷ course) frames.stack stacked)
   served_stacked old false stacked = stacked
 
-  pub item_keeps : (done : Item) → moved.event ≡ Did done → (rest : List Item) (posts : List Msg) → IsOwed node past done ⊎ (IsFree past × MayDo node past done rest posts)
+  pub item_keeps : (done : Item) → moved.event ≡ Did done → (rest : List Item) (posts : List Msg)
+      → IsOwed node past done ⊎ (IsFree past × MayDo node past done rest posts)
       → Keeps cluster (moved ∷ course) frames → Keeps cluster (moved ∷ course) (frames_item node done past frames)
   item_keeps (item.Act frame index act) is rest posts (inl owed) keeps = absurd owed
-  item_keeps (item.Act frame index act) is rest posts (inr both) keeps = restacked (after_act node act (live frames.stack)) keeps (act_keeps frame index act is both.1 keeps)
+  item_keeps (item.Act frame index act) is rest posts (inr both) keeps =
+      restacked (after_act node act (live frames.stack)) keeps (act_keeps frame index act is both.1 keeps)
   item_keeps (item.Tick frame) is rest posts may keeps =
-      restacked _ keeps (answered_stacked cluster (moved ∷ course) DoneAnswer (live frames.stack) (live_stacked cluster (moved ∷ course) frames.stack keeps.stack))
+      restacked _ keeps
+          (answered_stacked cluster (moved ∷ course) DoneAnswer (live frames.stack) (live_stacked cluster (moved ∷ course) frames.stack keeps.stack))
   item_keeps (item.Drop page) is rest posts may keeps = keeps
   item_keeps (item.TakeUp frame) is rest posts (inl owed) keeps = absurd owed
   item_keeps (item.TakeUp frame) is rest posts (inr both) keeps =
       taken_keeps frame both.1.life frames.stack frames.ready both.1.younger frames.parked is both.1.named both.1.oldest keeps.ready keeps.parked
-  item_keeps (item.OwnFetch page words) is rest posts may keeps = restacked (live frames.stack) keeps (live_stacked cluster (moved ∷ course) frames.stack keeps.stack)
+  item_keeps (item.OwnFetch page words) is rest posts may keeps =
+      restacked (live frames.stack) keeps (live_stacked cluster (moved ∷ course) frames.stack keeps.stack)
   item_keeps (item.OwnReconcile part) is rest posts may keeps = keeps
   item_keeps (item.Served frame index word old addend) is rest posts may keeps = restacked _ keeps (served_stacked old (is_empty (owed_adds past)) keeps.stack)

@@ -56,7 +56,8 @@ first_stays course position none =
     let less = absent course position none in
     first_whole (suc position) course (omega (arith, less)) ∙ sym (first_whole position course less)
 
-grown_on : (position : ℕ) (moved : Moved) (course : Course) (b : Bool) → Grown (first position course) course → Grown (cond b (first position course) (moved ∷ course)) (moved ∷ course)
+grown_on : (position : ℕ) (moved : Moved) (course : Course) (b : Bool) → Grown (first position course) course
+    → Grown (cond b (first position course) (moved ∷ course)) (moved ∷ course)
 grown_on position moved course true grown = (moved ∷ grown.0, ap (λ it. moved ∷ it) grown.1)
 grown_on position moved course false grown = ([], refl)
 
@@ -73,17 +74,21 @@ pub first_least : (position : ℕ) (course : Course) → length (first position 
 first_least position [] = omega arith
 first_least position (moved ∷ course) = least_on position moved course (leb position (length course)) refl (first_least position course)
 
-longer_on : (position earlier : ℕ) (moved : Moved) (course : Course) (b : Bool) → leb position (length course) ≡ b → earlier < position → earlier < length (moved ∷ course)
+longer_on : (position earlier : ℕ) (moved : Moved) (course : Course) (b : Bool) → leb position (length course) ≡ b → earlier < position
+    → earlier < length (moved ∷ course)
     → (earlier < length course → earlier < length (first position course)) → earlier < length (cond b (first position course) (moved ∷ course))
-longer_on position earlier moved course true is less inside rest = rest (let at_least : position ≤ length course = grind (arith, nat_tests) in omega (arith, less, at_least))
+longer_on position earlier moved course true is less inside rest =
+    rest (let at_least : position ≤ length course = grind (arith, nat_tests) in omega (arith, less, at_least))
 longer_on position earlier moved course false is less inside rest = inside
 
 longer : (position earlier : ℕ) (course : Course) → earlier < position → earlier < length course → earlier < length (first position course)
 longer position earlier [] less inside = inside
-longer position earlier (moved ∷ course) less inside = longer_on position earlier moved course (leb position (length course)) refl less inside (longer position earlier course less)
+longer position earlier (moved ∷ course) less inside =
+    longer_on position earlier moved course (leb position (length course)) refl less inside (longer position earlier course less)
 
 -- what stood earlier stands there
-pub at_first : (course : Course) (position earlier : ℕ) (moved : Moved) → earlier < position → at course earlier ≡ Some moved → at (first position course) earlier ≡ Some moved
+pub at_first : (course : Course) (position earlier : ℕ) (moved : Moved) → earlier < position → at course earlier ≡ Some moved
+    → at (first position course) earlier ≡ Some moved
 at_first course position earlier moved less found =
     let inside = longer position earlier course less (within course earlier moved found) in
     sym (at_grown (first position course) course (first_grown position course) earlier inside) ∙ found
@@ -98,7 +103,8 @@ before_position course position earlier moved found =
 
 -- ---- one event at a time
 
-stepped_on : (cluster : Cluster) (position : ℕ) (moved : Moved) (course : Course) (b : Bool) → Stepped cluster (first position course) → Stepped cluster (moved ∷ course)
+stepped_on : (cluster : Cluster) (position : ℕ) (moved : Moved) (course : Course) (b : Bool) → Stepped cluster (first position course)
+    → Stepped cluster (moved ∷ course)
     → Stepped cluster (cond b (first position course) (moved ∷ course))
 stepped_on cluster position moved course true earlier all = earlier
 stepped_on cluster position moved course false earlier all = all
@@ -108,6 +114,7 @@ stepped_first cluster [] position stepped = tt
 stepped_first cluster (moved ∷ course) position stepped =
     stepped_on cluster position moved course (leb position (length course)) (stepped_first cluster course position stepped.0) stepped
 
-pub step_at : (cluster : Cluster) (course : Course) (position : ℕ) (moved : Moved) → Stepped cluster course → at course position ≡ Some moved → Step cluster (first position course) moved
+pub step_at : (cluster : Cluster) (course : Course) (position : ℕ) (moved : Moved) → Stepped cluster course → at course position ≡ Some moved
+    → Step cluster (first position course) moved
 step_at cluster course position moved stepped found =
     (subst (Stepped cluster) (first_next course position moved found) (stepped_first cluster course (suc position) stepped)).1

@@ -55,7 +55,8 @@ pub record Grants (join : JoinId) (event : Event) (frame : FrameId) : Type 0 whe
   pub join_is : closure.join ≡ Some join
   pub id_is : closure.id ≡ frame
 
-grants_said : (join : JoinId) (message : Msg) (said : Body) (frame : FrameId) → message.body ≡ said → grants_in join said ≡ Some frame → Grants join (Sent message) frame
+grants_said : (join : JoinId) (message : Msg) (said : Body) (frame : FrameId) → message.body ≡ said → grants_in join said ≡ Some frame
+    → Grants join (Sent message) frame
 grants_said join message (body.Fetch page) frame says is = absurd (cc)
 grants_said join message (body.Page page words) frame says is = absurd (cc)
 grants_said join message (body.Reconcile parts) frame says is = absurd (cc)
@@ -78,7 +79,8 @@ grants_is join (Ended end) frame is = absurd (cc)
 
 -- ---- what may be posted
 
-pub sent_may : (cluster : Cluster) (moved : Moved) (course : Course) → Step cluster course moved → (message : Msg) (said : Body) → moved.event ≡ Sent message → message.body ≡ said
+pub sent_may : (cluster : Cluster) (moved : Moved) (course : Course) → Step cluster course moved → (message : Msg) (said : Body) → moved.event ≡ Sent message
+    → message.body ≡ said
     → (replies_in said ≡ true) ⊎ MayPost (node_at cluster moved.node) (own moved.node course) message.receiver said
 sent_may cluster moved course step message said is says =
     let node = node_at cluster moved.node in
@@ -86,7 +88,8 @@ sent_may cluster moved course step message said is says =
     let may : MaySend node past message = subst (λ event. IsAllowed node past event) is step.allowed in
     subst (λ it. (replies_in it ≡ true) ⊎ MayPost node past message.receiver it) says (may_post node past message may)
 
-grant_on : (node : Node) (past : Past) (receiver : ℕ) (closure : Closure) → (replies_in (body.Grant closure) ≡ true) ⊎ MayPost node past receiver (body.Grant closure)
+grant_on : (node : Node) (past : Past) (receiver : ℕ) (closure : Closure)
+    → (replies_in (body.Grant closure) ≡ true) ⊎ MayPost node past receiver (body.Grant closure)
     → MayGrant node past receiver closure
 grant_on node past receiver closure (inl reply) = absurd (cc)
 grant_on node past receiver closure (inr may) = may
@@ -117,11 +120,13 @@ pub record Granted (cluster : Cluster) (moved : Moved) (course : Course) (messag
   pub parent : Standing cluster course (tie_of may.parent)
 
 module _ (cluster : Cluster) (moved : Moved) (course : Course) (step : Step cluster course moved) (tied : Tied cluster course) where
-  pub granted : (message : Msg) (closure : Closure) → moved.event ≡ Sent message → message.body ≡ body.Grant closure → Granted cluster moved course message closure
+  pub granted : (message : Msg) (closure : Closure) → moved.event ≡ Sent message → message.body ≡ body.Grant closure
+      → Granted cluster moved course message closure
   granted message closure is says =
       let node = node_at cluster moved.node in
       let past = own moved.node course in
-      let may : MayGrant node past message.receiver closure = grant_on node past message.receiver closure (sent_may cluster moved course step message (body.Grant closure) is says) in
+      let may : MayGrant node past message.receiver closure =
+          grant_on node past message.receiver closure (sent_may cluster moved course step message (body.Grant closure) is says) in
       let keeps : Keeps cluster course (frames_of node past) = tied.nodes moved.node step.within in
       let both = bottom_two cluster course may.above may.child may.parent (subst (Stacked cluster course) may.stack keeps.stack) in
       record { may = may; child = both.0; born = both.1; parent = both.2 }
@@ -130,18 +135,22 @@ module _ (cluster : Cluster) (moved : Moved) (course : Course) (step : Step clus
   granted_join : (message : Msg) (closure : Closure) (it : Granted cluster moved course message closure) (join : JoinId) → closure.join ≡ Some join
       → Named join it.may.parent.id course
       ⊎ ((it.may.parent.join ≡ None) × (join ≡ record { node = moved.node; number = next_join (node_at cluster moved.node) (own moved.node course) }))
-  granted_join message closure it join is = on (join_is (node_at cluster moved.node) (own moved.node course) it.may.parent.join join (sym it.may.state.join ∙ is))
+  granted_join message closure it join is =
+      on (join_is (node_at cluster moved.node) (own moved.node course) it.may.parent.join join (sym it.may.state.join ∙ is))
     where
-      on : (it.may.parent.join ≡ Some join) ⊎ ((it.may.parent.join ≡ None) × (join ≡ record { node = moved.node; number = next_join (node_at cluster moved.node) (own moved.node course) }))
+      on : (it.may.parent.join ≡ Some join)
+          ⊎ ((it.may.parent.join ≡ None) × (join ≡ record { node = moved.node; number = next_join (node_at cluster moved.node) (own moved.node course) }))
           → Named join it.may.parent.id course
           ⊎ ((it.may.parent.join ≡ None) × (join ≡ record { node = moved.node; number = next_join (node_at cluster moved.node) (own moved.node course) }))
       on (inl has) = inl (it.parent.fits.joined join has)
       on (inr new) = inr new
 
   -- no join is named that has the next number
-  not_fresh : (join : JoinId) (frame : FrameId) → Named join frame course → join ≡ record { node = moved.node; number = next_join (node_at cluster moved.node) (own moved.node course) } → ⊥
+  not_fresh : (join : JoinId) (frame : FrameId) → Named join frame course
+      → join ≡ record { node = moved.node; number = next_join (node_at cluster moved.node) (own moved.node course) } → ⊥
   not_fresh join frame named is =
-      let less = subst (λ (it : JoinId). it.number < next_join (node_at cluster it.node) (own it.node course)) is (tied.joins join frame named) in omega (arith, less)
+      let less = subst (λ (it : JoinId). it.number < next_join (node_at cluster it.node) (own it.node course)) is (tied.joins join frame named) in
+      omega (arith, less)
 
   same_frame_named : (join : JoinId) (frame other : FrameId) → Named join frame course → Grants join moved.event other → other ≡ frame
   same_frame_named join frame other named grants =
@@ -162,12 +171,15 @@ module _ (cluster : Cluster) (moved : Moved) (course : Course) (step : Step clus
   pub named_stays : StaysNamed moved course
   named_stays = λ join frame named. on join frame named (grants_by join moved.event) refl
     where
-      on : (join : JoinId) (frame : FrameId) → Named join frame course → (by : Option FrameId) → grants_by join moved.event ≡ by → Named join frame (moved ∷ course)
+      on : (join : JoinId) (frame : FrameId) → Named join frame course → (by : Option FrameId) → grants_by join moved.event ≡ by
+          → Named join frame (moved ∷ course)
       on join frame named None is = ap (λ it. or_else it (given (λ (moved : Moved). grants_by join moved.event) course)) is ∙ named
       on join frame named (Some other) is =
-          ap (λ it. or_else it (given (λ (moved : Moved). grants_by join moved.event) course)) is ∙ ap Some (same_frame_named join frame other named (grants_is join moved.event other is))
+          ap (λ it. or_else it (given (λ (moved : Moved). grants_by join moved.event) course)) is
+              ∙ ap Some (same_frame_named join frame other named (grants_is join moved.event other is))
 
-  joins_grow : (message : Msg) (closure : Closure) (it : Granted cluster moved course message closure) → moved.event ≡ Sent message → message.body ≡ body.Grant closure → it.may.parent.join ≡ None
+  joins_grow : (message : Msg) (closure : Closure) (it : Granted cluster moved course message closure) → moved.event ≡ Sent message
+      → message.body ≡ body.Grant closure → it.may.parent.join ≡ None
       → next_join (node_at cluster moved.node) (own moved.node course) < next_join (node_at cluster moved.node) (own moved.node (moved ∷ course))
   unfolding next_join
   joins_grow message closure it is says none =
@@ -179,7 +191,8 @@ module _ (cluster : Cluster) (moved : Moved) (course : Course) (step : Step clus
       let all : own moved.node (moved ∷ course) ≡ moved.event ∷ past = own_first moved.node moved course refl in
       subst (λ it. next_join node past < next_join node it) (sym all) (omega (arith, one))
 
-  pub joins_more : (join : JoinId) (frame : FrameId) → Named join frame (moved ∷ course) → join.number < next_join (node_at cluster join.node) (own join.node (moved ∷ course))
+  pub joins_more : (join : JoinId) (frame : FrameId) → Named join frame (moved ∷ course)
+      → join.number < next_join (node_at cluster join.node) (own join.node (moved ∷ course))
   joins_more join frame named = on (grants_by join moved.event) refl
     where
       on_granted : (grants : (other : FrameId) × Grants join moved.event other) → (it : Granted cluster moved course grants.1.message grants.1.closure)

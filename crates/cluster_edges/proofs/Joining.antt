@@ -42,9 +42,11 @@ tied cluster course stepped = tied_all cluster (bears_once cluster) (lonely clus
 
 -- ---- separated children
 
-module _ (cluster : Cluster) (stack : Stacks) (now : ℕ) (course earlier : Course) (node : ℕ) (IsAway IsGone : FrameId → FrameId → Type 0) (frame child : FrameId)
+module _ (cluster : Cluster) (stack : Stacks) (now : ℕ) (course earlier : Course) (node : ℕ) (IsAway IsGone : FrameId → FrameId → Type 0)
+    (frame child : FrameId)
     (so : IsAway frame child → IsGone frame child) (stack_is : stack now node ≡ stacks_of cluster course now node) where
-  gone_act : (done : LoggedAct) (actor : FrameId) (index : ℕ) → away_after stack now (happens_to cluster earlier node None (Did (item.Act actor index done))) IsAway frame child
+  gone_act : (done : LoggedAct) (actor : FrameId) (index : ℕ)
+      → away_after stack now (happens_to cluster earlier node None (Did (item.Act actor index done))) IsAway frame child
       → gone_item (item.Act actor index done) IsGone frame child
   gone_act (act.Read word value) actor index away = so away
   gone_act (act.Write word value) actor index away = so away
@@ -83,7 +85,8 @@ module _ (cluster : Cluster) (stack : Stacks) (now : ℕ) (course earlier : Cour
   gone_event (Took message) place away = so away
   gone_event (Ended end) place away = so away
 
-pub away_gone : (cluster : Cluster) (course : Course) (now : ℕ) (frame child : FrameId) → edge.Away (events_of cluster course) (stacks_of cluster course) now frame child
+pub away_gone : (cluster : Cluster) (course : Course) (now : ℕ) (frame child : FrameId)
+    → edge.Away (events_of cluster course) (stacks_of cluster course) now frame child
     → Gone cluster (first now course) frame child
 unfolding edge.Away
 away_gone cluster course zero frame child away = absurd away
@@ -94,11 +97,14 @@ away_gone cluster course (suc now) frame child away = on (at course now) refl (a
         → Gone cluster (first (suc now) course) frame child
     on None none so =
         let nothing : events_of cluster course now ≡ log.Nothing = ap (event_of cluster (before course now)) none in
-        let older = subst (λ event. away_after (stacks_of cluster course) now event (edge.Away (events_of cluster course) (stacks_of cluster course) now) frame child) nothing away in
+        let older =
+            subst (λ event. away_after (stacks_of cluster course) now event (edge.Away (events_of cluster course) (stacks_of cluster course) now) frame child)
+            nothing away in
         subst (λ it. Gone cluster it frame child) (sym (first_stays course now none)) (so older)
     on (Some moved) found so =
         let is = event_at cluster course now moved found in
-        let after = subst (λ event. away_after (stacks_of cluster course) now event (edge.Away (events_of cluster course) (stacks_of cluster course) now) frame child) is away in
+        let after = subst (λ event. away_after (stacks_of cluster course) now event
+            (edge.Away (events_of cluster course) (stacks_of cluster course) now) frame child) is away in
         subst (λ it. Gone cluster it frame child) (sym (first_next course now moved found))
         (gone_event cluster (stacks_of cluster course) now course (before course now) moved.node
         (edge.Away (events_of cluster course) (stacks_of cluster course) now) (Gone cluster (first now course))
@@ -130,13 +136,16 @@ told_at cluster (moved ∷ course) frame child (inr told) =
       tells = subst (λ earlier. Tells cluster earlier it.moved frame child) (sym (before_behind (moved ∷ []) course it.position less)) it.tells;
     }
 
-told_done : (cluster : Cluster) (course : Course) (now : ℕ) (frame child : FrameId) → Told cluster (first now course) frame child → HasDone (events_of cluster course) now frame child
+told_done : (cluster : Cluster) (course : Course) (now : ℕ) (frame child : FrameId) → Told cluster (first now course) frame child
+    → HasDone (events_of cluster course) now frame child
 told_done cluster course now frame child told =
     let it = told_at cluster (first now course) frame child told in
     let found = at_whole course now it.position it.moved it.found in
     let less = within (first now course) it.position it.moved it.found in
-    let earlier : before course it.position ≡ before (first now course) it.position = before_grown (first now course) course (first_grown now course) it.position less in
-    let tells : Tells cluster (before course it.position) it.moved frame child = subst (λ past. Tells cluster past it.moved frame child) (sym earlier) it.tells in
+    let earlier : before course it.position ≡ before (first now course) it.position =
+        before_grown (first now course) course (first_grown now course) it.position less in
+    let tells : Tells cluster (before course it.position) it.moved frame child =
+        subst (λ past. Tells cluster past it.moved frame child) (sym earlier) it.tells in
     record {
       post = it.position;
       sender = it.moved.node;
@@ -154,10 +163,12 @@ either : (first second : Bool) → first || second ≡ false → (first ≡ fals
 either true second none = absurd (cc)
 either false second none = (refl, none)
 
-parking_on : (frame : FrameId) (post : ℕ) (moved top : Moved) (course : Course) (b : Bool) → eqb post (length course) ≡ b → cond b (Some top) (at course post) ≡ Some moved → Parks frame moved.event
+parking_on : (frame : FrameId) (post : ℕ) (moved top : Moved) (course : Course) (b : Bool) → eqb post (length course) ≡ b
+    → cond b (Some top) (at course post) ≡ Some moved → Parks frame moved.event
     → list_any (takes_up frame) (since_position post (top ∷ course)) ≡ false
     → (at course post ≡ Some moved → list_any (takes_up frame) (since_position post course) ≡ false → Parking frame course) → Parking frame (top ∷ course)
-parking_on frame post moved top course true is found parks none rest = let same : top ≡ moved = cc in inl (subst (λ (it : Moved). Parks frame it.event) (sym same) parks)
+parking_on frame post moved top course true is found parks none rest =
+    let same : top ≡ moved = cc in inl (subst (λ (it : Moved). Parks frame it.event) (sym same) parks)
 parking_on frame post moved top course false is found parks none rest =
     let less = within course post moved found in
     let not : leb (length course) post ≡ false = grind (arith, nat_tests) in
@@ -170,9 +181,11 @@ parking_since : (frame : FrameId) (post : ℕ) (moved : Moved) (course : Course)
     → list_any (takes_up frame) (since_position post course) ≡ false → Parking frame course
 parking_since frame post moved [] found parks none = absurd (cc)
 parking_since frame post moved (top ∷ course) found parks none =
-    parking_on frame post moved top course (eqb post (length course)) refl found parks none (λ older since. parking_since frame post moved course older parks since)
+    parking_on frame post moved top course (eqb post (length course)) refl found parks none
+        (λ older since. parking_since frame post moved course older parks since)
 
-any_lies : (cluster : Cluster) (course : Course) (frame : FrameId) (lives : List Life) → AllLying cluster course lives → list_any (λ life. same_frame life.id frame) lives ≡ true
+any_lies : (cluster : Cluster) (course : Course) (frame : FrameId) (lives : List Life) → AllLying cluster course lives
+    → list_any (λ life. same_frame life.id frame) lives ≡ true
     → (life : Life) × (life.id ≡ frame) × Lying cluster course (tie_of life)
 any_lies cluster course frame [] all any = absurd (cc)
 any_lies cluster course frame (life ∷ lives) all any = on (same_frame life.id frame) refl any (any_lies cluster course frame lives all.1)
@@ -223,17 +236,21 @@ module _ (cluster : Cluster) (course : Course) (stepped : Stepped cluster course
           any_lies cluster (first now course) frame ((frames_of (node_at cluster node) (own node (first now course))).ready) keeps.ready any
       on (inr more) =
           let none : (frames_of (node_at cluster node) (own node (first now course))).ready ≡ [] =
-          ap (λ past. (frames_of (node_at cluster node) past).ready) (no_past cluster (first now course) (stepped_now now) node more) ∙ idle_ready cluster node in
-          let never : list_any (λ (life : Life). same_frame life.id frame) [] ≡ true = subst (λ lives. list_any (λ (life : Life). same_frame life.id frame) lives ≡ true) none any in
+          ap (λ past. (frames_of (node_at cluster node) past).ready) (no_past cluster (first now course) (stepped_now now) node more)
+              ∙ idle_ready cluster node in
+          let never : list_any (λ (life : Life). same_frame life.id frame) [] ≡ true =
+              subst (λ lives. list_any (λ (life : Life). same_frame life.id frame) lives ≡ true) none any in
           absurd (cc)
 
   ready_told : (now node : ℕ) (frame child : FrameId) → Parking frame (first now course)
-      → (life : Life) × (life.id ≡ frame) × Lying cluster (first now course) (tie_of life) → Gone cluster (first now course) frame child → Told cluster (first now course) frame child
+      → (life : Life) × (life.id ≡ frame) × Lying cluster (first now course) (tie_of life) → Gone cluster (first now course) frame child
+      → Told cluster (first now course) frame child
   ready_told now node frame child parking it gone =
       let none : it.0.away ≡ [] = it.2.complete (subst (λ id. Parking id (first now course)) (sym it.1) parking) in
       on none (it.2.fits.waits child (subst (λ id. Gone cluster (first now course) id child) (sym it.1) gone))
     where
-      on : it.0.away ≡ [] → Told cluster (first now course) it.0.id child ⊎ IsNoted (first now course) it.0.id it.0.away child → Told cluster (first now course) frame child
+      on : it.0.away ≡ [] → Told cluster (first now course) it.0.id child ⊎ IsNoted (first now course) it.0.id it.0.away child
+          → Told cluster (first now course) frame child
       on none (inl told) = subst (λ id. Told cluster (first now course) id child) it.1 told
       on none (inr noted) = absurd (subst (Among noted.entry) none noted.among)
 
@@ -251,11 +268,13 @@ module _ (cluster : Cluster) (course : Course) (stepped : Stepped cluster course
       ap (stage_by cluster (first now course) post) found.is ∙ stage_sends (first now course) post found.moved message node found.event_is posted.3 brings in
       let both = ready_on _ _ (sym staged ∙ later) in
       let parks : Parks frame found.moved.event = (message, park.0, park.1, found.event_is, park.2, park.3) in
-      let parking = parking_since frame post found.moved (first now course) (at_first course now post found.moved (before_now now post (leb now post) refl ready) found.is) parks both.0 in
+      let parking = parking_since frame post found.moved (first now course)
+          (at_first course now post found.moved (before_now now post (leb now post) refl ready) found.is) parks both.0 in
       told_done cluster course now frame child
       (ready_told now node frame child parking (ready_lies now node frame both.1) (away_gone cluster course now frame child away))
     where
-      stage_sends : (earlier : Course) (post : ℕ) (moved : Moved) (message : Msg) (node : ℕ) → moved.event ≡ Sent message → message.receiver ≡ node → frame_in message.body ≡ Some frame
+      stage_sends : (earlier : Course) (post : ℕ) (moved : Moved) (message : Msg) (node : ℕ) → moved.event ≡ Sent message → message.receiver ≡ node
+          → frame_in message.body ≡ Some frame
           → stage_by cluster earlier post (Some moved) ≡ stage_of cluster earlier post node frame
       stage_sends earlier post moved message node is to brings =
           rw is (ap (stage_sent cluster earlier post message.receiver) brings ∙ ap (λ it. stage_of cluster earlier post it frame) to)

@@ -34,13 +34,15 @@ module _ (cluster : Cluster) (course : Course) (node : Node) (life : Life) (clos
   carried_parent fits join is =
       let away : life.link ≡ Away join = sym state.link ∙ is in
       let spawned : closure.spawned ≡ life.spawned = state.spawned (λ root. let none = sym root ∙ away in absurd (cc)) in
-      subst (λ id. HasParent course id closure.spawned.index join) (sym state.id) (subst (λ (it : Child). HasParent course life.id it.index join) (sym spawned) (fits.linked join away))
+      subst (λ id. HasParent course id closure.spawned.index join) (sym state.id)
+          (subst (λ (it : Child). HasParent course life.id it.index join) (sym spawned) (fits.linked join away))
 
   carried_waits : Fits cluster course (tie_of life) → (child : FrameId) → Gone cluster course closure.id child
       → Told cluster course closure.id child ⊎ IsNoted course closure.id closure.away child
   carried_waits fits child gone =
       subst (λ id. Told cluster course id child ⊎ IsNoted course id closure.away child) (sym state.id)
-      (subst (λ away. Told cluster course life.id child ⊎ IsNoted course life.id away child) (sym state.away) (fits.waits child (subst (λ id. Gone cluster course id child) state.id gone)))
+      (subst (λ away. Told cluster course life.id child ⊎ IsNoted course life.id away child) (sym state.away)
+          (fits.waits child (subst (λ id. Gone cluster course id child) state.id gone)))
 
   pub carried_fits : Fits cluster course (tie_of life) → Fits cluster course (tie_in closure)
   carried_fits fits = record {
@@ -66,11 +68,13 @@ second_is (first ∷ []) child frame = refl
 second_is (first ∷ (second ∷ [])) child frame = refl
 second_is (first ∷ (second ∷ (third ∷ front))) child frame = second_is (second ∷ (third ∷ front)) child frame
 
-ids_append : (above : List Life) (child parent : Life) → map (λ (life : Life). life.id) (above ++ (child ∷ (parent ∷ []))) ≡ map (λ (life : Life). life.id) above ++ child.id ∷ (parent.id ∷ [])
+ids_append : (above : List Life) (child parent : Life)
+    → map (λ (life : Life). life.id) (above ++ (child ∷ (parent ∷ []))) ≡ map (λ (life : Life). life.id) above ++ child.id ∷ (parent.id ∷ [])
 ids_append [] child parent = refl
 ids_append (life ∷ above) child parent = ap (λ it. life.id ∷ it) (ids_append above child parent)
 
-pub above_is : (stack above : List Life) (child parent : Life) (frame other : FrameId) → stack ≡ above ++ (child ∷ (parent ∷ [])) → Above stack frame other → child.id ≡ other
+pub above_is : (stack above : List Life) (child parent : Life) (frame other : FrameId) → stack ≡ above ++ (child ∷ (parent ∷ [])) → Above stack frame other
+    → child.id ≡ other
 above_is stack above child parent frame other is (front, bottom) =
     let some : Some child.id ≡ Some other =
     sym (second_is (map (λ (life : Life). life.id) above) child.id parent.id) ∙ ap second_last (sym (ids_append above child parent))
@@ -93,7 +97,8 @@ among_front (first ∷ children) entry last (inr among) = inr (among_front child
 abbrev pub NoneLeaves : Moved → List Life → Type 0
 NoneLeaves moved lives = Each (λ (life : Life). leaves moved.event ≡ Some life.id → ⊥) lives
 
-module _ (cluster : Cluster) (moved : Moved) (course : Course) (step : Step cluster course moved) (tied : Tied cluster course) (message : Msg) (closure : Closure)
+module _ (cluster : Cluster) (moved : Moved) (course : Course) (step : Step cluster course moved) (tied : Tied cluster course) (message : Msg)
+    (closure : Closure)
     (is : moved.event ≡ Sent message) (says : message.body ≡ body.Grant closure) (it : Granted cluster moved course message closure) where
   abbrev child : Life
   child = it.may.child
@@ -118,13 +123,15 @@ module _ (cluster : Cluster) (moved : Moved) (course : Course) (step : Step clus
   parent_named join joins = subst (λ id. Named join id (moved ∷ course)) it.may.state.id (new_named join joins)
 
   -- a child of it that was separated is the one directly above, or was separated before
-  parted_gone : (other : FrameId) → Gone cluster (moved ∷ course) parent.id other → Gone cluster course parent.id other ⊎ Above (stack_of node past) parent.id other
+  parted_gone : (other : FrameId) → Gone cluster (moved ∷ course) parent.id other
+      → Gone cluster course parent.id other ⊎ Above (stack_of node past) parent.id other
   parted_gone other gone =
       on
       (subst (λ said. gone_body said (stack_of node past) (Gone cluster course) parent.id other) says
       (subst (λ event. gone_on event (stack_of node past) (Gone cluster course) parent.id other) is gone))
     where
-      on : gone_body (body.Grant closure) (stack_of node past) (Gone cluster course) parent.id other → Gone cluster course parent.id other ⊎ Above (stack_of node past) parent.id other
+      on : gone_body (body.Grant closure) (stack_of node past) (Gone cluster course) parent.id other
+          → Gone cluster course parent.id other ⊎ Above (stack_of node past) parent.id other
       on (inl old) = inl old
       on (inr both) = inr both.1
 
@@ -149,7 +156,9 @@ module _ (cluster : Cluster) (moved : Moved) (course : Course) (step : Step clus
   parted_fits = record {
     known = known_more cluster moved course parent.id it.parent.fits.known;
     rooted = it.parent.fits.rooted;
-    linked = λ join away. parent_more cluster moved course (named_stays cluster moved course step tied) parent.id parent.spawned.index join (it.parent.fits.linked join away);
+    linked =
+        λ join away. parent_more cluster moved course (named_stays cluster moved course step tied) parent.id parent.spawned.index join
+            (it.parent.fits.linked join away);
     joined = λ join joins. parent_named join (it.may.state.join ∙ joins);
     waits = λ other gone. parted_waits other (parted_gone other gone);
   }
@@ -164,7 +173,8 @@ module _ (cluster : Cluster) (moved : Moved) (course : Course) (step : Step clus
 
   -- The frame in the Grant.
   pub grant_stands : Standing cluster (moved ∷ course) (tie_in closure)
-  grant_stands = record { fits = carried_fits cluster (moved ∷ course) node (parted node past child parent) closure it.may.state parted_fits; not_parked = granted_not_parked }
+  grant_stands = record { fits =
+      carried_fits cluster (moved ∷ course) node (parted node past child parent) closure it.may.state parted_fits; not_parked = granted_not_parked }
 
   -- the child tells its return to that join
   linked_join : (join : Option JoinId) (other : JoinId) → link_to join ≡ Away other → join ≡ Some other
@@ -189,11 +199,13 @@ module _ (cluster : Cluster) (moved : Moved) (course : Course) (step : Step clus
         not_parked = stands.not_parked;
       }
 
-  on_child : (life : Life) (above : List Life) → OnTop course life (above ++ (child ∷ (parent ∷ []))) → OnTop (moved ∷ course) life (above ++ (record child { link = link_to closure.join } ∷ []))
+  on_child : (life : Life) (above : List Life) → OnTop course life (above ++ (child ∷ (parent ∷ [])))
+      → OnTop (moved ∷ course) life (above ++ (record child { link = link_to closure.join } ∷ []))
   on_child life [] top = inr top
   on_child life (second ∷ above) top = inr top
 
-  left_stacked : (above : List Life) → Stacked cluster course (above ++ (child ∷ (parent ∷ []))) → NoneLeaves moved (above ++ (record child { link = link_to closure.join } ∷ []))
+  left_stacked : (above : List Life) → Stacked cluster course (above ++ (child ∷ (parent ∷ [])))
+      → NoneLeaves moved (above ++ (record child { link = link_to closure.join } ∷ []))
       → Stacked cluster (moved ∷ course) (above ++ (record child { link = link_to closure.join } ∷ []))
   left_stacked [] stacked none = (child_stands (apart_if cluster moved course child.id none.0), tt, tt)
   left_stacked (life ∷ above) stacked none = (
@@ -203,12 +215,14 @@ module _ (cluster : Cluster) (moved : Moved) (course : Course) (step : Step clus
   )
 
   -- The stack that it leaves.
-  pub grant_stacked : NoneLeaves moved (without_bottom closure.join (stack_of node past)) → Stacked cluster (moved ∷ course) (without_bottom closure.join (stack_of node past))
+  pub grant_stacked : NoneLeaves moved (without_bottom closure.join (stack_of node past))
+      → Stacked cluster (moved ∷ course) (without_bottom closure.join (stack_of node past))
   grant_stacked none =
       let gone : without_bottom closure.join (stack_of node past) ≡ it.may.above ++ (record child { link = link_to closure.join } ∷ []) =
       ap (without_bottom closure.join) it.may.stack ∙ bottom_gone closure.join it.may.above child parent in
       let keeps : Keeps cluster course (frames_of node past) = tied.nodes moved.node step.within in
-      subst (Stacked cluster (moved ∷ course)) (sym gone) (left_stacked it.may.above (subst (Stacked cluster course) it.may.stack keeps.stack) (subst (NoneLeaves moved) gone none))
+      subst (Stacked cluster (moved ∷ course)) (sym gone)
+          (left_stacked it.may.above (subst (Stacked cluster course) it.may.stack keeps.stack) (subst (NoneLeaves moved) gone none))
 
 -- the frame that waits at a join is the one that it was named for
 pub frame_named : (join : JoinId) (frame : FrameId) (course : Course) → Named join frame course → frame_of join course ≡ frame
@@ -216,7 +230,8 @@ frame_named join frame course named = ap (λ it. elim it [ None ↦ main_id | So
 
 -- ---- a Park
 
-park_on : (node : Node) (past : Past) (receiver : ℕ) (join : JoinId) (closure : Closure) → (replies_in (body.Park join closure) ≡ true) ⊎ MayPost node past receiver (body.Park join closure)
+park_on : (node : Node) (past : Past) (receiver : ℕ) (join : JoinId) (closure : Closure)
+    → (replies_in (body.Park join closure) ≡ true) ⊎ MayPost node past receiver (body.Park join closure)
     → MayPark node past receiver join closure
 park_on node past receiver join closure (inl reply) = absurd (cc)
 park_on node past receiver join closure (inr may) = may
@@ -227,13 +242,16 @@ done_on : (node : Node) (past : Past) (receiver : ℕ) (join : JoinId) (index : 
 done_on node past receiver join index value (inl reply) = absurd (cc)
 done_on node past receiver join index value (inr may) = may
 
-module _ (cluster : Cluster) (moved : Moved) (course : Course) (step : Step cluster course moved) (tied : Tied cluster course) (message : Msg) (is : moved.event ≡ Sent message) where
+module _ (cluster : Cluster) (moved : Moved) (course : Course) (step : Step cluster course moved) (tied : Tied cluster course) (message : Msg)
+    (is : moved.event ≡ Sent message) where
   stacked_now : Stacked cluster course (stack_of (node_at cluster moved.node) (own moved.node course))
   stacked_now = (tied.nodes moved.node step.within).stack
 
-  park_now : (join : JoinId) (closure : Closure) → message.body ≡ body.Park join closure → MayPark (node_at cluster moved.node) (own moved.node course) message.receiver join closure
+  park_now : (join : JoinId) (closure : Closure) → message.body ≡ body.Park join closure
+      → MayPark (node_at cluster moved.node) (own moved.node course) message.receiver join closure
   park_now join closure says =
-      park_on (node_at cluster moved.node) (own moved.node course) message.receiver join closure (sent_may cluster moved course step message (body.Park join closure) is says)
+      park_on (node_at cluster moved.node) (own moved.node course) message.receiver join closure
+          (sent_may cluster moved course step message (body.Park join closure) is says)
 
   parked_fits : (join : JoinId) (closure : Closure) → message.body ≡ body.Park join closure → Fits cluster course (tie_in closure)
   parked_fits join closure says =
@@ -249,7 +267,8 @@ module _ (cluster : Cluster) (moved : Moved) (course : Course) (step : Step clus
       record {
         fits =
             fits_more cluster moved course (named_stays cluster moved course step tied) (tie_in closure)
-            (λ child gone. subst (λ said. gone_body said stack (Gone cluster course) closure.id child) says (subst (λ event. gone_on event stack (Gone cluster course) closure.id child) is gone))
+            (λ child gone. subst (λ said. gone_body said stack (Gone cluster course) closure.id child) says
+                (subst (λ event. gone_on event stack (Gone cluster course) closure.id child) is gone))
             (parked_fits join closure says);
         at_join = may.state.join ∙ may.at_join.granted;
       }
@@ -257,7 +276,8 @@ module _ (cluster : Cluster) (moved : Moved) (course : Course) (step : Step clus
   -- ---- a Done
 
   -- The bottom frame of the node, whose parent waits at that join.
-  pub done_parent : (join : JoinId) (index : ℕ) (value : ℤ) → message.body ≡ body.Done join index value → HasParent course (bottom_of cluster moved.node course) index join
+  pub done_parent : (join : JoinId) (index : ℕ) (value : ℤ) → message.body ≡ body.Done join index value
+      → HasParent course (bottom_of cluster moved.node course) index join
   done_parent join index value says =
       let node = node_at cluster moved.node in
       let past = own moved.node course in
@@ -265,7 +285,8 @@ module _ (cluster : Cluster) (moved : Moved) (course : Course) (step : Step clus
       done_on node past message.receiver join index value (sent_may cluster moved course step message (body.Done join index value) is says) in
       let stands = last_stacked cluster course (stack_of node past) may.life stacked_now may.returned.at_bottom in
       let bottom : bottom_of cluster moved.node course ≡ may.life.id = ap id_of may.returned.at_bottom in
-      subst (λ id. HasParent course id index join) (sym bottom) (subst (λ at. HasParent course may.life.id at join) (sym may.index_is) (stands.fits.linked join may.link))
+      subst (λ id. HasParent course id index join) (sym bottom)
+          (subst (λ at. HasParent course may.life.id at join) (sym may.index_is) (stands.fits.linked join may.link))
 
   pub done_returns : (join : JoinId) (index : ℕ) (value : ℤ) → message.body ≡ body.Done join index value → Returned cluster (moved ∷ course) join index
   done_returns join index value says =
@@ -283,7 +304,8 @@ module _ (cluster : Cluster) (moved : Moved) (course : Course) (step : Step clus
 
   pub grant_known : (closure : Closure) → message.body ≡ body.Grant closure → Known cluster closure.id course
   grant_known closure says =
-      let it = granted cluster moved course step tied message closure is says in subst (λ id. Known cluster id course) (sym it.may.state.id) it.parent.fits.known
+      let it = granted cluster moved course step tied message closure is says in
+      subst (λ id. Known cluster id course) (sym it.may.state.id) it.parent.fits.known
 
   pub park_known : (join : JoinId) (closure : Closure) → message.body ≡ body.Park join closure → Known cluster closure.id course
   park_known join closure says = (parked_fits join closure says).known

@@ -33,8 +33,6 @@ pub mod Tying
 pub mod Births
 pub mod Alone
 pub mod Joining
-pub mod Joins
 pub mod Readying
 pub mod Syncing
-pub mod ReadyLists
 pub mod Edging

@@ -24,7 +24,8 @@ module _ (frame : FrameId) (Q : Meaning → Type 0) where
 
   -- it is not this frame
   not_it : (id : FrameId) (goes : Meaning) → one (same_frame id frame) ≡ 0 → Only id goes
-  not_it id goes none = λ is. (let some : one (same_frame id frame) ≡ 1 = ap (λ it. one (same_frame it frame)) is ∙ ap one (same_self frame) in absurd (omega (arith, some, none)))
+  not_it id goes none = λ is. (let some : one (same_frame id frame) ≡ 1 =
+      ap (λ it. one (same_frame it frame)) is ∙ ap one (same_self frame) in absurd (omega (arith, some, none)))
 
   pub none_each : (lives : List Life) → many (named frame) (marks lives) ≡ 0 → Each Only lives
   none_each [] none = tt
@@ -32,7 +33,8 @@ module _ (frame : FrameId) (Q : Meaning → Type 0) where
 
   pub none_parked : (code : Code) (parked : List Parked) → many (named frame) (parked_marks parked) ≡ 0 → EachParked code Only parked
   none_parked code [] none = tt
-  none_parked code (first ∷ parked) none = (not_it first.closure.id (wants code first.closure.frame.frame) (omega (arith, none)), none_parked code parked (omega (arith, none)))
+  none_parked code (first ∷ parked) none =
+      (not_it first.closure.id (wants code first.closure.frame.frame) (omega (arith, none)), none_parked code parked (omega (arith, none)))
 
   none_body : (code : Code) (said : Body) → many (named frame) (closure_marks said) ≡ 0 → OfBody code Only said
   none_body code (body.Fetch page) none = tt
@@ -89,7 +91,8 @@ module _ (frame : FrameId) (Q : Meaning → Type 0) where
     frames_only code frames parts once =
         let a = many_append (named frame) (marks frames.stack) (other_marks frames) in
         let b = many_append (named frame) (marks frames.ready) (parked_marks frames.parked) in
-        let count : many (named frame) (marks frames.stack) ≡ many (named frame) (marks front) + (1 + many (named frame) (marks back)) = ap (λ it. many (named frame) (marks it)) parts ∙ in_stack in
+        let count : many (named frame) (marks frames.stack) ≡ many (named frame) (marks front) + (1 + many (named frame) (marks back)) =
+            ap (λ it. many (named frame) (marks it)) parts ∙ in_stack in
         record {
           stack = subst (Each Only) (sym parts) (stack_only (subst (λ it. many (named frame) (marks it) ≤ 1) parts (omega (arith, a, once))));
           ready = none_each frames.ready (omega (arith, a, b, once, count));
@@ -99,7 +102,8 @@ module _ (frame : FrameId) (Q : Meaning → Type 0) where
     pub at_least : (frames : Frames) → frames.stack ≡ front ++ life ∷ back → 1 ≤ many (named frame) (marks_of frames)
     at_least frames parts =
         let a = many_append (named frame) (marks frames.stack) (other_marks frames) in
-        let count : many (named frame) (marks frames.stack) ≡ many (named frame) (marks front) + (1 + many (named frame) (marks back)) = ap (λ it. many (named frame) (marks it)) parts ∙ in_stack in
+        let count : many (named frame) (marks frames.stack) ≡ many (named frame) (marks front) + (1 + many (named frame) (marks back)) =
+            ap (λ it. many (named frame) (marks it)) parts ∙ in_stack in
         omega (arith, a, count)
 
     -- What holds of the frame there holds of it anywhere.
@@ -120,7 +124,8 @@ module _ (frame : FrameId) (Q : Meaning → Type 0) where
         within : at_node cluster course (named frame) number ≤ sum_below cluster.config.nodes (at_node cluster course (named frame))
         within = sum_one cluster.config.nodes (at_node cluster course (named frame)) number less
 
-        on : (other : ℕ) → other < cluster.config.nodes → (other ≡ number) ⊎ (other ≢ number) → InFrames cluster.code Only (frames_of (node_at cluster other) (own other course))
+        on : (other : ℕ) → other < cluster.config.nodes → (other ≡ number) ⊎ (other ≢ number)
+            → InFrames cluster.code Only (frames_of (node_at cluster other) (own other course))
         on other below (inl same) =
             subst (λ it. InFrames cluster.code Only (frames_of (node_at cluster it) (own it course))) (sym same)
             (frames_only cluster.code (frames_of (node_at cluster number) (own number course)) parts (omega (arith, once, within)))

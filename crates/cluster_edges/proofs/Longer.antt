@@ -37,7 +37,8 @@ pub known_more : (cluster : Cluster) (moved : Moved) (course : Course) (frame : 
 known_more cluster moved course frame known =
     let more = next_frame_more (node_at cluster frame.node) moved.event (own frame.node course) (eqb moved.node frame.node) in omega (arith, known, more)
 
-pub join_more : (cluster : Cluster) (moved : Moved) (course : Course) (join : JoinId) → join.number < next_join (node_at cluster join.node) (own join.node course)
+pub join_more : (cluster : Cluster) (moved : Moved) (course : Course) (join : JoinId)
+    → join.number < next_join (node_at cluster join.node) (own join.node course)
     → join.number < next_join (node_at cluster join.node) (own join.node (moved ∷ course))
 join_more cluster moved course join less =
     let more = next_join_more (node_at cluster join.node) moved.event (own join.node course) (eqb moved.node join.node) in omega (arith, less, more)
@@ -76,7 +77,8 @@ gone_body_or message (body.Park join closure) stack IsGone frame child says gone
 gone_body_or message (body.Add asker index word addend) stack IsGone frame child says gone = inl gone
 gone_body_or message (body.Added old) stack IsGone frame child says gone = inl gone
 
-gone_act_back : (done : LoggedAct) (actor : FrameId) (IsGone : FrameId → FrameId → Type 0) (frame child : FrameId) → gone_act done actor IsGone frame child → IsGone frame child
+gone_act_back : (done : LoggedAct) (actor : FrameId) (IsGone : FrameId → FrameId → Type 0) (frame child : FrameId) → gone_act done actor IsGone frame child
+    → IsGone frame child
 gone_act_back (act.Read word value) actor IsGone frame child gone = gone
 gone_act_back (act.Write word value) actor IsGone frame child gone = gone
 gone_act_back (act.Print value) actor IsGone frame child gone = gone
@@ -110,11 +112,13 @@ pub record Apart (cluster : Cluster) (moved : Moved) (course : Course) (frame : 
   pub gone : (child : FrameId) → Gone cluster (moved ∷ course) frame child → Gone cluster course frame child
   pub parking : Parking frame (moved ∷ course) → Parking frame course
 
-parking_back : (moved : Moved) (course : Course) (frame : FrameId) → (leaves moved.event ≡ Some frame → ⊥) → Parking frame (moved ∷ course) → Parking frame course
+parking_back : (moved : Moved) (course : Course) (frame : FrameId) → (leaves moved.event ≡ Some frame → ⊥) → Parking frame (moved ∷ course)
+    → Parking frame course
 parking_back moved course frame not (inl parks) = absurd (not (ap leaves parks.3 ∙ ap frame_in parks.4 ∙ ap Some parks.5))
 parking_back moved course frame not (inr both) = both.0
 
-pub apart_if : (cluster : Cluster) (moved : Moved) (course : Course) (frame : FrameId) → (leaves moved.event ≡ Some frame → ⊥) → Apart cluster moved course frame
+pub apart_if : (cluster : Cluster) (moved : Moved) (course : Course) (frame : FrameId) → (leaves moved.event ≡ Some frame → ⊥)
+    → Apart cluster moved course frame
 apart_if cluster moved course frame not = record {
   gone = λ child gone.
       let stack = stack_of (node_at cluster moved.node) (own moved.node course) in
@@ -157,18 +161,22 @@ module _ (cluster : Cluster) (moved : Moved) (course : Course) (stays : StaysNam
   pub lying_more : (tie : Tie) → Apart cluster moved course tie.id → Lying cluster course tie → Lying cluster (moved ∷ course) tie
   lying_more tie apart lying = record { fits = fits_more tie apart.gone lying.fits; complete = λ parking. lying.complete (apart.parking parking) }
 
-  pub waiting_more : (one : Parked) → Apart cluster moved course one.closure.id → Waiting cluster course one.join one.closure → Waiting cluster (moved ∷ course) one.join one.closure
+  pub waiting_more : (one : Parked) → Apart cluster moved course one.closure.id → Waiting cluster course one.join one.closure
+      → Waiting cluster (moved ∷ course) one.join one.closure
   waiting_more one apart waiting = record { fits = fits_more (tie_in one.closure) apart.gone waiting.fits; at_join = waiting.at_join }
 
   pub on_top_more : (life : Life) (below : List Life) → OnTop course life below → OnTop (moved ∷ course) life below
   on_top_more life [] top = tt
   on_top_more life (lower ∷ below) top = inr top
 
-  pub stacked_more : (stack : List Life) → Each (λ (life : Life). Apart cluster moved course life.id) stack → Stacked cluster course stack → Stacked cluster (moved ∷ course) stack
+  pub stacked_more : (stack : List Life) → Each (λ (life : Life). Apart cluster moved course life.id) stack → Stacked cluster course stack
+      → Stacked cluster (moved ∷ course) stack
   stacked_more [] apart stacked = tt
-  stacked_more (life ∷ below) apart stacked = (standing_more (tie_of life) apart.0 stacked.0, on_top_more life below stacked.1, stacked_more below apart.1 stacked.2)
+  stacked_more (life ∷ below) apart stacked =
+      (standing_more (tie_of life) apart.0 stacked.0, on_top_more life below stacked.1, stacked_more below apart.1 stacked.2)
 
-  pub all_lying_more : (lives : List Life) → Each (λ (life : Life). Apart cluster moved course life.id) lives → AllLying cluster course lives → AllLying cluster (moved ∷ course) lives
+  pub all_lying_more : (lives : List Life) → Each (λ (life : Life). Apart cluster moved course life.id) lives → AllLying cluster course lives
+      → AllLying cluster (moved ∷ course) lives
   all_lying_more [] apart all = tt
   all_lying_more (life ∷ lives) apart all = (lying_more (tie_of life) apart.0 all.0, all_lying_more lives apart.1 all.1)
 

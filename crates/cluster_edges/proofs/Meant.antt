@@ -39,7 +39,8 @@ one_only [] less = refl
 one_only (item ∷ list) less = absurd (omega (arith, less))
 
 -- a list that is one longer at most, and has something behind
-last_split : (count : ℕ) (list : List Want) (want : Want) → length list ≤ suc count → first_of (drop count list) ≡ Some want → list ≡ take count list ++ want ∷ []
+last_split : (count : ℕ) (list : List Want) (want : Want) → length list ≤ suc count → first_of (drop count list) ≡ Some want
+    → list ≡ take count list ++ want ∷ []
 last_split zero [] want less is = absurd (cc)
 last_split zero (item ∷ list) want less is =
     let none : list ≡ [] = one_only list (omega (arith, less)) in
@@ -90,7 +91,8 @@ module _ (begins : ℕ → ℕ → List ℤ → Meaning) where
   abbrev pub block_so : (goes : Meaning) → Meant begins goes → Block
   block_so goes meant = block_of [] (answered_wants goes meant)
 
-  pub meant_first : (depth procedure : ℕ) (arguments : List ℤ) → (meant : Meant begins (begins depth procedure arguments)) × (block_so (begins depth procedure arguments) meant ≡ [])
+  pub meant_first : (depth procedure : ℕ) (arguments : List ℤ)
+      → (meant : Meant begins (begins depth procedure arguments)) × (block_so (begins depth procedure arguments) meant ≡ [])
   meant_first depth procedure arguments = (
     record {
       depth = depth;
@@ -103,7 +105,8 @@ module _ (begins : ℕ → ℕ → List ℤ → Meaning) where
     refl,
   )
 
-  pub meant_closed : (goes other : Meaning) (kept : List Deposit) (meant : Meant begins goes) → ((answers : List Answer) → other answers ≡ goes (at_sync kept answers))
+  pub meant_closed : (goes other : Meaning) (kept : List Deposit) (meant : Meant begins goes)
+      → ((answers : List Answer) → other answers ≡ goes (at_sync kept answers))
       → (closed : Meant begins other) × (block_so other closed ≡ block_so goes meant)
   meant_closed goes other kept meant equal = (
     record {
@@ -113,7 +116,8 @@ module _ (begins : ℕ → ℕ → List ℤ → Meaning) where
       answers = meant.answers;
       deposits = meant.deposits ++ kept;
       is = λ rest. equal rest ∙ meant.is (at_sync kept rest)
-          ∙ ap (λ it. drop (length meant.answers) (begins meant.depth meant.procedure meant.arguments (meant.answers ++ it))) (more_at_sync meant.deposits kept rest);
+          ∙ ap (λ it. drop (length meant.answers) (begins meant.depth meant.procedure meant.arguments (meant.answers ++ it)))
+              (more_at_sync meant.deposits kept rest);
     },
     refl,
   )
@@ -129,7 +133,8 @@ module _ (begins : ℕ → ℕ → List ℤ → Meaning) where
   left deposits Done = deposits
   left deposits (Children more) = []
 
-  given_first : (deposits : List Deposit) (answer : Answer) (rest : List Answer) → at_sync deposits (answer ∷ rest) ≡ given deposits answer ∷ at_sync (left deposits answer) rest
+  given_first : (deposits : List Deposit) (answer : Answer) (rest : List Answer)
+      → at_sync deposits (answer ∷ rest) ≡ given deposits answer ∷ at_sync (left deposits answer) rest
   given_first deposits (Value v) rest = refl
   given_first deposits Done rest = refl
   given_first deposits (Children more) rest = ap (λ it. Children (deposits ++ more) ∷ it) (sym (none_at_sync rest))
@@ -141,15 +146,18 @@ module _ (begins : ℕ → ℕ → List ℤ → Meaning) where
       take (suc (length answers)) (begins depth procedure arguments (answers ++ more)) ≡ begins depth procedure arguments answers) where
     bounded : (depth procedure : ℕ) (arguments : List ℤ) (answers : List Answer) → length (begins depth procedure arguments answers) ≤ suc (length answers)
     bounded depth procedure arguments answers =
-        subst (λ it. length it ≤ suc (length answers)) (steady depth procedure arguments answers []) (take_bound (suc (length answers)) (begins depth procedure arguments (answers ++ [])))
+        subst (λ it. length it ≤ suc (length answers)) (steady depth procedure arguments answers [])
+            (take_bound (suc (length answers)) (begins depth procedure arguments (answers ++ [])))
 
     -- the want that is not answered stands behind those that were
     wants_so : (goes : Meaning) (meant : Meant begins goes) (want : Want) → now goes ≡ Some want
         → begins meant.depth meant.procedure meant.arguments meant.answers ≡ answered_wants goes meant ++ want ∷ []
     wants_so goes meant want wants =
         let all = begins meant.depth meant.procedure meant.arguments in
-        let here : goes [] ≡ drop (length meant.answers) (all meant.answers) = meant.is [] ∙ ap (λ it. drop (length meant.answers) (all it)) (append-nil meant.answers) in
-        last_split (length meant.answers) (all meant.answers) want (bounded meant.depth meant.procedure meant.arguments meant.answers) (ap first_of (sym here) ∙ wants)
+        let here : goes [] ≡ drop (length meant.answers) (all meant.answers) =
+            meant.is [] ∙ ap (λ it. drop (length meant.answers) (all it)) (append-nil meant.answers) in
+        last_split (length meant.answers) (all meant.answers) want (bounded meant.depth meant.procedure meant.arguments meant.answers)
+            (ap first_of (sym here) ∙ wants)
 
     pub meant_answered : (goes : Meaning) (meant : Meant begins goes) (request : Request) (answer : Answer) → now goes ≡ Some (Asks request)
         → (behind : Meant begins (after goes answer)) × (block_so (after goes answer) behind ≡ block_after request (block_so goes meant))
@@ -163,7 +171,8 @@ module _ (begins : ℕ → ℕ → List ℤ → Meaning) where
         is = λ rest.
             ap rest_of (meant.is (answer ∷ rest)) ∙ rest_drop (length meant.answers) (all (meant.answers ++ at_sync meant.deposits (answer ∷ rest)))
             ∙ ap (λ it. drop (suc (length meant.answers)) (all (meant.answers ++ it))) (given_first meant.deposits answer rest)
-            ∙ ap (λ it. drop (suc (length meant.answers)) (all it)) (sym (append_assoc meant.answers (given meant.deposits answer ∷ []) (at_sync (left meant.deposits answer) rest)))
+            ∙ ap (λ it. drop (suc (length meant.answers)) (all it))
+                (sym (append_assoc meant.answers (given meant.deposits answer ∷ []) (at_sync (left meant.deposits answer) rest)))
             ∙ ap (λ it. drop it (all (more ++ at_sync (left meant.deposits answer) rest))) (sym (one_more meant.answers (given meant.deposits answer)));
       },
       ap (λ it. block_of [] (take it (all more))) (one_more meant.answers (given meant.deposits answer))

@@ -33,7 +33,8 @@ use Rattle.cluster_edges.proofs.Counted.{marks_at, untold_none, counted_named}
 use Rattle.cluster_edges.proofs.Sending.{told_last, up_placed, up_counted, grant_placed, grant_counted, park_placed, park_counted}
 
 -- what is no Page and no Ack may be posted
-pub may_post : (node : Node) (past : Past) (message : Msg) (said : Body) → message.body ≡ said → replies_in said ≡ false → MaySend node past message → MayPost node past message.receiver said
+pub may_post : (node : Node) (past : Past) (message : Msg) (said : Body) → message.body ≡ said → replies_in said ≡ false → MaySend node past message
+    → MayPost node past message.receiver said
 may_post node past message said is no_reply (inl due) =
     let replies = (owed_is_reply node past message (subst (λ it. Among message it) (sym due.1) (inl refl))).replies in
     let not : replies_in message.body ≡ false = ap replies_in is ∙ no_reply in absurd (cc)
@@ -44,7 +45,8 @@ pub join_some : (node : Node) (past : Past) (join : Option JoinId) → is_some (
 join_some node past (Some join) = refl
 join_some node past None = refl
 
-module _ (cluster : Cluster) (course : Course) (number : ℕ) (here : Option PostAt) (placed : Placed cluster number course (frames_of (node_at cluster number) (own number course)))
+module _ (cluster : Cluster) (course : Course) (number : ℕ) (here : Option PostAt)
+    (placed : Placed cluster number course (frames_of (node_at cluster number) (own number course)))
     (once : (frame : FrameId) → count frame (marks_at cluster course number) ≤ 1)
     (told_before : (frame : FrameId) → (last_news frame course ≡ None) ⊎ Named cluster course frame) where
   abbrev node : Node
@@ -68,11 +70,13 @@ module _ (cluster : Cluster) (course : Course) (number : ℕ) (here : Option Pos
   next_named : (event : Event) → spawns_on event ≡ 1 → Named cluster (moving event ∷ course) (record { node = number; number = next_frame node past })
   unfolding next_frame
   next_named event spawns =
-      let next : next_frame node (own number (moving event ∷ course)) ≡ next_frame node past + spawns_on event = ap (next_frame node) (own_first (moving event) course) in
+      let next : next_frame node (own number (moving event ∷ course)) ≡ next_frame node past + spawns_on event =
+          ap (next_frame node) (own_first (moving event) course) in
       omega (arith, next, spawns)
 
   -- the next name was told of nobody
-  next_untold : (child : FrameId) → child ≡ record { node = number; number = next_frame node past } → (last_news child course ≡ None) ⊎ Named cluster course child → last_news child course ≡ None
+  next_untold : (child : FrameId) → child ≡ record { node = number; number = next_frame node past }
+      → (last_news child course ≡ None) ⊎ Named cluster course child → last_news child course ≡ None
   next_untold child is (inl none) = none
   next_untold child is (inr before) =
       let less : next_frame node past < next_frame node past = subst (λ it. Named cluster course it) is before in absurd (omega (arith, less))
@@ -88,11 +92,13 @@ module _ (cluster : Cluster) (course : Course) (number : ℕ) (here : Option Pos
         named = subst (λ it. Named cluster (moving event ∷ course) it) (sym is) (next_named event refl);
       }
 
-  synced : (frame : FrameId) (index : ℕ) (life : Life) → frame ≡ life.id → (join : Option JoinId) → OnStack cluster number (moving (Did (item.Act frame index act.Sync)) ∷ course) life.id join
+  synced : (frame : FrameId) (index : ℕ) (life : Life) → frame ≡ life.id → (join : Option JoinId)
+      → OnStack cluster number (moving (Did (item.Act frame index act.Sync)) ∷ course) life.id join
       → OnStack cluster number (moving (Did (item.Act frame index act.Sync)) ∷ course) life.id None
   synced frame index life is join before =
       let event : Event = Did (item.Act frame index act.Sync) in
-      let syncing : syncs life.id (moving event) ≡ true = ap (λ b. cond b true false) (subst (λ it. same_frame it life.id ≡ true) (sym is) (same_self life.id)) in
+      let syncing : syncs life.id (moving event) ≡ true =
+          ap (λ b. cond b true false) (subst (λ it. same_frame it life.id ≡ true) (sym is) (same_self life.id)) in
       record { news = before.news; joined = λ any. inl (granted_synced life.id (moving event) course syncing); named = before.named }
 
   act_placed : (frame : FrameId) (index : ℕ) (done : LoggedAct) → MayAct node past frame index done
@@ -110,17 +116,20 @@ module _ (cluster : Cluster) (course : Course) (number : ℕ) (here : Option Pos
       (spawned frame child index procedure arguments (subst (λ it. MayMake node past it may.life) is may.makes).name))
       (λ is.
       subst (λ it. OnStack cluster number (moving (Did (item.Act frame index it)) ∷ course) may.life.id None) (sym is)
-      (synced frame index may.life may.acts.named may.life.join (subst (λ it. OnStack cluster number (moving (Did (item.Act frame index it)) ∷ course) may.life.id may.life.join) is top))))
+      (synced frame index may.life may.acts.named may.life.join
+          (subst (λ it. OnStack cluster number (moving (Did (item.Act frame index it)) ∷ course) may.life.id may.life.join) is top))))
 
   -- ---- items
 
-  taking_up : (frame : FrameId) (rest : List Item) (posts : List Msg) → IsOwed node past (item.TakeUp frame) ⊎ (IsFree past × MayDo node past (item.TakeUp frame) rest posts)
+  taking_up : (frame : FrameId) (rest : List Item) (posts : List Msg)
+      → IsOwed node past (item.TakeUp frame) ⊎ (IsFree past × MayDo node past (item.TakeUp frame) rest posts)
       → MayTakeUp node past frame rest
   taking_up frame rest posts (inl owed) = absurd owed
   taking_up frame rest posts (inr both) = both.1
 
   acts_so : (frame : FrameId) (index : ℕ) (done : LoggedAct) (rest : List Item) (posts : List Msg)
-      → IsOwed node past (item.Act frame index done) ⊎ (IsFree past × MayDo node past (item.Act frame index done) rest posts) → MayAct node past frame index done
+      → IsOwed node past (item.Act frame index done) ⊎ (IsFree past × MayDo node past (item.Act frame index done) rest posts)
+      → MayAct node past frame index done
   acts_so frame index done rest posts (inl owed) = absurd owed
   acts_so frame index done rest posts (inr both) = both.1
 
@@ -131,7 +140,8 @@ module _ (cluster : Cluster) (course : Course) (number : ℕ) (here : Option Pos
   item_placed (item.TakeUp frame) does = up_placed cluster course number here placed once frame does.rest (taking_up frame does.rest does.posts does.may)
   item_placed (item.OwnFetch page words) does =
       let event : Event = Did (item.OwnFetch page words) in
-      placed_stack cluster number (moving event ∷ course) (live frames.stack) frames (still event refl) (placed_live cluster number (moving event ∷ course) frames (still event refl))
+      placed_stack cluster number (moving event ∷ course) (live frames.stack) frames (still event refl)
+          (placed_live cluster number (moving event ∷ course) frames (still event refl))
   item_placed (item.OwnReconcile part) does = still (Did (item.OwnReconcile part)) refl
   item_placed (item.Served frame index word old addend) does =
       let event : Event = Did (item.Served frame index word old addend) in
@@ -143,31 +153,38 @@ module _ (cluster : Cluster) (course : Course) (number : ℕ) (here : Option Pos
       → Placed cluster number (moving (Sent message) ∷ course) (with_stack (stack_sent said frames.stack) frames)
   sent_placed message (body.Fetch page) is may =
       let kept = still (Sent message) (ap (told_sent message.receiver) is) in
-      placed_stack cluster number (moving (Sent message) ∷ course) (live frames.stack) frames kept (placed_live cluster number (moving (Sent message) ∷ course) frames kept)
+      placed_stack cluster number (moving (Sent message) ∷ course) (live frames.stack) frames kept
+          (placed_live cluster number (moving (Sent message) ∷ course) frames kept)
   sent_placed message (body.Page page words) is may = still (Sent message) (ap (told_sent message.receiver) is)
   sent_placed message (body.Reconcile parts) is may = still (Sent message) (ap (told_sent message.receiver) is)
   sent_placed message body.Ack is may = still (Sent message) (ap (told_sent message.receiver) is)
   sent_placed message body.Ask is may = still (Sent message) (ap (told_sent message.receiver) is)
   sent_placed message (body.Grant closure) is may =
-      grant_placed cluster course number here placed once message message.receiver closure (ap (told_sent message.receiver) is) (may_post node past message (body.Grant closure) is refl may)
+      grant_placed cluster course number here placed once message message.receiver closure (ap (told_sent message.receiver) is)
+          (may_post node past message (body.Grant closure) is refl may)
   sent_placed message body.Refuse is may = still (Sent message) (ap (told_sent message.receiver) is)
-  sent_placed message (body.Done join index value) is may = placed_stack cluster number (moving (Sent message) ∷ course) [] frames (still (Sent message) (ap (told_sent message.receiver) is)) tt
+  sent_placed message (body.Done join index value) is may =
+      placed_stack cluster number (moving (Sent message) ∷ course) [] frames (still (Sent message) (ap (told_sent message.receiver) is)) tt
   sent_placed message (body.Park join closure) is may =
-      park_placed cluster course number here placed once message message.receiver join closure (ap (told_sent message.receiver) is) (may_post node past message (body.Park join closure) is refl may)
+      park_placed cluster course number here placed once message message.receiver join closure (ap (told_sent message.receiver) is)
+          (may_post node past message (body.Park join closure) is refl may)
   sent_placed message (body.Add other index word addend) is may =
       let kept = still (Sent message) (ap (told_sent message.receiver) is) in
-      placed_stack cluster number (moving (Sent message) ∷ course) (live frames.stack) frames kept (placed_live cluster number (moving (Sent message) ∷ course) frames kept)
+      placed_stack cluster number (moving (Sent message) ∷ course) (live frames.stack) frames kept
+          (placed_live cluster number (moving (Sent message) ∷ course) frames kept)
   sent_placed message (body.Added old) is may = still (Sent message) (ap (told_sent message.receiver) is)
 
   -- ---- all events
 
   -- Behind its event the frames of the node are so. What it takes was on its way.
-  pub own_placed : (event : Event) → IsAllowed node past event → ((message : Msg) → event ≡ Took message → Coming cluster (moving event ∷ course) number message.body)
+  pub own_placed : (event : Event) → IsAllowed node past event
+      → ((message : Msg) → event ≡ Took message → Coming cluster (moving event ∷ course) number message.body)
       → Placed cluster number (moving event ∷ course) (frames_on node event past frames)
   own_placed (Did done) may coming = item_placed done may
   own_placed (Sent message) may coming = sent_placed message message.body refl may
   own_placed (Took message) may coming =
-      placed_taking cluster number (moving (Took message) ∷ course) node message.body (Took message ∷ past) frames (still (Took message) refl) (coming message refl)
+      placed_taking cluster number (moving (Took message) ∷ course) node message.body (Took message ∷ past) frames (still (Took message) refl)
+          (coming message refl)
   own_placed (Ended end) may coming = still (Ended end) refl
 
   -- ---- the frame of which the event speaks
@@ -179,12 +196,14 @@ module _ (cluster : Cluster) (course : Course) (number : ℕ) (here : Option Pos
   tells_item it (item.TakeUp frame) does is =
       let said : Told = record { frame = frame; news = IsUp number } in
       let same : said ≡ it = cc in
-      subst (λ (it : Told). 1 ≤ count it.frame (marks_of frames)) same (up_counted cluster course number here placed once frame does.rest (taking_up frame does.rest does.posts does.may))
+      subst (λ (it : Told). 1 ≤ count it.frame (marks_of frames)) same
+          (up_counted cluster course number here placed once frame does.rest (taking_up frame does.rest does.posts does.may))
   tells_item it (item.OwnFetch page words) does is = absurd (cc)
   tells_item it (item.OwnReconcile part) does is = absurd (cc)
   tells_item it (item.Served frame index word old addend) does is = absurd (cc)
 
-  tells_sent : (it : Told) (message : Msg) (said : Body) → message.body ≡ said → MaySend node past message → told_sent message.receiver said ≡ Some it → 1 ≤ count it.frame (marks_of frames)
+  tells_sent : (it : Told) (message : Msg) (said : Body) → message.body ≡ said → MaySend node past message → told_sent message.receiver said ≡ Some it
+      → 1 ≤ count it.frame (marks_of frames)
   tells_sent it message (body.Fetch page) body_is may is = absurd (cc)
   tells_sent it message (body.Page page words) body_is may is = absurd (cc)
   tells_sent it message (body.Reconcile parts) body_is may is = absurd (cc)
@@ -218,7 +237,8 @@ module _ (cluster : Cluster) (course : Course) (number : ℕ) (here : Option Pos
   named_now it event may is =
       named_more cluster (moving event) course it.frame (counted_named cluster number course frames placed it.frame (tells_own it event may is))
 
-  pub sends_coming : (message : Msg) (said : Body) → message.body ≡ said → MaySend node past message → Coming cluster (moving (Sent message) ∷ course) message.receiver said
+  pub sends_coming : (message : Msg) (said : Body) → message.body ≡ said → MaySend node past message
+      → Coming cluster (moving (Sent message) ∷ course) message.receiver said
   sends_coming message (body.Fetch page) is may = tt
   sends_coming message (body.Page page words) is may = tt
   sends_coming message (body.Reconcile parts) is may = tt

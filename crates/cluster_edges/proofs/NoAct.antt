@@ -48,7 +48,8 @@ module _ (cluster : Cluster) (turns : List WholeTurn) (lawful : IsLawful cluster
   -- what an event answers wanted something
   answers_none : (position : ℕ) (moved : Moved) → at course position ≡ Some moved → (event : Event) → moved.event ≡ event → (life : Life) (answer : Answer)
       → Answers (node_at cluster moved.node) (past moved.node position) event life answer → IsReturned life.goes → ⊥
-  answers_none position moved found (Did (item.Act frame index done)) is life answer by returned = makes_none (node_at cluster moved.node) (past moved.node position) done life by.1 returned
+  answers_none position moved found (Did (item.Act frame index done)) is life answer by returned =
+      makes_none (node_at cluster moved.node) (past moved.node position) done life by.1 returned
   answers_none position moved found (Did (item.Tick frame)) is life answer by returned = elim by.1 [
     | inl calls ↦ wants_none life want.Call calls returned
     | inr turns ↦ wants_none life want.LoopTurn turns returned
@@ -57,7 +58,8 @@ module _ (cluster : Cluster) (turns : List WholeTurn) (lawful : IsLawful cluster
   answers_none position moved found (Did (item.TakeUp frame)) is life answer by returned = absurd by
   answers_none position moved found (Did (item.OwnFetch page words)) is life answer by returned = absurd by
   answers_none position moved found (Did (item.OwnReconcile part)) is life answer by returned = absurd by
-  answers_none position moved found (Did (item.Served frame index word old addend)) is life answer by returned = wants_none life (want.Add word addend) by.1 returned
+  answers_none position moved found (Did (item.Served frame index word old addend)) is life answer by returned =
+      wants_none life (want.Add word addend) by.1 returned
   answers_none position moved found (Sent message) is life answer by returned = absurd by
   answers_none position moved found (Ended end) is life answer by returned = absurd by
   answers_none position moved found (Took message) is life answer by returned = on message.body refl by
@@ -79,7 +81,8 @@ module _ (cluster : Cluster) (turns : List WholeTurn) (lawful : IsLawful cluster
           wants_none life (want.Add told.1 told.2) asks.1 returned
 
   keeps_returned : (position : ℕ) (moved : Moved) → at course position ≡ Some moved
-      → Keeps (node_at cluster moved.node) (past moved.node position) moved.event (StaysReturned cluster (before course position)) (StaysReturned cluster (before course position))
+      → Keeps (node_at cluster moved.node) (past moved.node position) moved.event (StaysReturned cluster (before course position))
+          (StaysReturned cluster (before course position))
   keeps_returned position moved found = record {
     same = λ id goes stays. stays;
     closes = λ id goes other kept equal stays has. ap (λ wants. is_some (value_in (serving.first_of wants))) (equal []) ∙ stays has;
@@ -104,21 +107,25 @@ module _ (cluster : Cluster) (turns : List WholeTurn) (lawful : IsLawful cluster
           let before_it = subst (λ it. Everywhere cluster it (StaysReturned cluster it)) (first_at position course moved found) rest in
           subst (λ it. Everywhere cluster it (StaysReturned cluster it)) (sym (first_next position course moved found))
           (grown cluster (before course position) moved (stepped_next position moved found)
-          (everywhere_next cluster (before course position) moved (stepped_then position) (step_then position moved found) (StaysReturned cluster (before course position))
+          (everywhere_next cluster (before course position) moved (stepped_then position) (step_then position moved found)
+              (StaysReturned cluster (before course position))
           (StaysReturned cluster (before course position)) (keeps_returned position moved found) before_it))
 
   -- ---- acts
 
-  module _ (position : ℕ) (moved : Moved) (found : at course position ≡ Some moved) (frame : FrameId) (has : has_returned cluster frame (before course position) ≡ true) where
+  module _ (position : ℕ) (moved : Moved) (found : at course position ≡ Some moved) (frame : FrameId)
+      (has : has_returned cluster frame (before course position) ≡ true) where
     everywhere_there : Everywhere cluster (before course position) (StaysReturned cluster (before course position))
     everywhere_there = subst (λ it. Everywhere cluster it (StaysReturned cluster it)) (first_at position course moved found) (stays_returned position)
 
     -- the frame that acts has not returned
-    acts_returned : (number : ℕ) → number < cluster.config.nodes → (life : Life) → Acts (node_at cluster number) (past number position) frame life → IsReturned life.goes
+    acts_returned : (number : ℕ) → number < cluster.config.nodes → (life : Life) → Acts (node_at cluster number) (past number position) frame life
+        → IsReturned life.goes
     acts_returned number less life acts =
         let stack = stack_of (node_at cluster number) (past number position) in
         let top = first_is (live stack) life acts.is in
-        let all = subst (Each (StaysReturned cluster (before course position))) top.1 (live_each (StaysReturned cluster (before course position)) stack (everywhere_there.at number less).stack) in
+        let all = subst (Each (StaysReturned cluster (before course position))) top.1
+            (live_each (StaysReturned cluster (before course position)) stack (everywhere_there.at number less).stack) in
         all.0 (subst (λ it. has_returned cluster it (before course position) ≡ true) acts.named has)
 
     -- nor has the one that waits for an add
@@ -149,14 +156,17 @@ module _ (cluster : Cluster) (turns : List WholeTurn) (lawful : IsLawful cluster
             asks_returned owes.add.sender it.0 word addend it.1
         own_or_owed home index word old addend happens (inr may) =
             let add = may.1.add in
-            wants_none add.life (want.Add word addend) add.wanted (acts_returned home (number_within home (Did (item.Served frame index word old addend)) happens) add.life add.acts)
+            wants_none add.life (want.Add word addend) add.wanted
+                (acts_returned home (number_within home (Did (item.Served frame index word old addend)) happens) add.life add.acts)
 
         on : Acted cluster course position number frame done ⊎ Served cluster course position number frame done → ⊥
         on (inl it) =
             let may = (act_allowed cluster turns lawful number position frame it.index it.act it.is).1 in
             makes_none (node_at cluster number) (past number position) it.act may.life may.makes
             (acts_returned number (number_within number (Did (item.Act frame it.index it.act)) it.is) may.life may.acts)
-        on (inr it) = own_or_owed it.home it.index it.word it.old it.addend it.is (served_allowed cluster turns lawful it.home position frame it.index it.word it.old it.addend it.is)
+        on (inr it) =
+            own_or_owed it.home it.index it.word it.old it.addend it.is
+                (served_allowed cluster turns lawful it.home position frame it.index it.word it.old it.addend it.is)
 
   -- A frame that has returned makes no act.
   pub no_act : (position : ℕ) (frame : FrameId) → returns_of cluster course position frame ≡ true → ActOf (ev cluster turns lawful) frame position → ⊥

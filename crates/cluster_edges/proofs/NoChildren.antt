@@ -42,8 +42,10 @@ module _ (cluster : Cluster) (turns : List WholeTurn) (lawful : IsLawful cluster
       on None none rest = subst Counted (sym (first_same position course none)) rest
       on (Some moved) found rest =
           subst Counted (sym (first_next position course moved found))
-          (counts_next cluster program stands (before course position) moved (stepped_then cluster turns lawful position) (step_then cluster turns lawful position moved found)
-          (λ message old is says. asks_told cluster turns lawful moved.node position message old (record { moved = moved; is = found; by = refl; event_is = is }) says)
+          (counts_next cluster program stands (before course position) moved (stepped_then cluster turns lawful position)
+              (step_then cluster turns lawful position moved found)
+          (λ message old is says. asks_told cluster turns lawful moved.node position message old
+              (record { moved = moved; is = found; by = refl; event_is = is }) says)
           (subst Counted (first_at position course moved found) rest))
 
   module _ (parted : IsParted program) where
@@ -78,11 +80,13 @@ module _ (cluster : Cluster) (turns : List WholeTurn) (lawful : IsLawful cluster
           on (inl it) = by it (spawned_block cluster (before course position) moved.node moved.message moved.event it frame child block)
           on (inr none) = rest child (none frame child block)
 
-    no_block : (position : ℕ) (frame child : FrameId) → has_returned cluster frame (first position course) ≡ true → BlockOf cluster (first position course) frame child → ⊥
+    no_block : (position : ℕ) (frame child : FrameId) → has_returned cluster frame (first position course) ≡ true
+        → BlockOf cluster (first position course) frame child → ⊥
     no_block zero frame child has block = subst (λ it. BlockOf cluster it frame child) (first_none course) block
     no_block (suc position) frame child has block = on (at course position) refl has block (λ child. no_block position frame child)
       where
-        on : (option : Option Moved) → at course position ≡ option → has_returned cluster frame (first (suc position) course) ≡ true → BlockOf cluster (first (suc position) course) frame child
+        on : (option : Option Moved) → at course position ≡ option → has_returned cluster frame (first (suc position) course) ≡ true
+            → BlockOf cluster (first (suc position) course) frame child
             → ((child : FrameId) → has_returned cluster frame (first position course) ≡ true → BlockOf cluster (first position course) frame child → ⊥) → ⊥
         on None none has block rest =
             rest child (subst (λ it. has_returned cluster frame it ≡ true) (first_same position course none) has)
@@ -100,7 +104,8 @@ module _ (cluster : Cluster) (turns : List WholeTurn) (lawful : IsLawful cluster
                 (λ other older. rest other (subst (λ it. has_returned cluster frame it ≡ true) (sym (first_at position course moved found)) earlier)
                 (subst (λ it. BlockOf cluster it frame other) (sym (first_at position course moved found)) older)) here
             by (inr now) =
-                standing_none (moved ∷ before course position) (subst Counted (first_next position course moved found) (counted (suc position))) frame child now here
+                standing_none (moved ∷ before course position)
+                    (subst Counted (first_next position course moved found) (counted (suc position))) frame child now here
 
     -- A frame that has returned has no child of its block left.
     pub no_children : (now : ℕ) (frame child : FrameId) → returns_of cluster course now frame ≡ true → BlockChild (ev cluster turns lawful) now frame child → ⊥

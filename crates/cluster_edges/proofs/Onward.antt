@@ -78,9 +78,11 @@ Answers node past (Ended end) life answer = ⊥
 -- a closure, of the one that it answers, and of a child.
 pub record Keeps (node : Node) (past : Past) (event : Event) (P Q : Saying) : Type 0 where
   pub same : (id : FrameId) (goes : Meaning) → P id goes → Q id goes
-  pub closes : (id : FrameId) (goes other : Meaning) (kept : List Deposit) → ((answers : List Answer) → other answers ≡ goes (at_sync kept answers)) → P id goes → Q id other
+  pub closes : (id : FrameId) (goes other : Meaning) (kept : List Deposit) → ((answers : List Answer) → other answers ≡ goes (at_sync kept answers)) → P id goes
+      → Q id other
   pub acts : (life : Life) (answer : Answer) → Answers node past event life answer → P life.id life.goes → Q life.id (after life.goes answer)
-  pub born : (frame : FrameId) (index : ℕ) (child : FrameId) (procedure : ℕ) (arguments : List ℤ) (life : Life) → event ≡ Did (item.Act frame index (act.Spawn child procedure arguments))
+  pub born : (frame : FrameId) (index : ℕ) (child : FrameId) (procedure : ℕ) (arguments : List ℤ) (life : Life)
+      → event ≡ Did (item.Act frame index (act.Spawn child procedure arguments))
       → Acts node past frame life → MaySpawn node past child procedure arguments life → Q child (starts node.code (suc life.depth) procedure arguments)
 
 module _ (node : Node) (past : Past) (P Q : Saying) where
@@ -98,7 +100,8 @@ module _ (node : Node) (past : Past) (P Q : Saying) where
 
   -- ---- items
 
-  with_stack_each : (event : Event) → Keeps node past event P Q → (stack : List Life) → Each Q stack → InFrames node.code P frames → InFrames node.code Q (record frames { stack = stack })
+  with_stack_each : (event : Event) → Keeps node past event P Q → (stack : List Life) → Each Q stack → InFrames node.code P frames
+      → InFrames node.code Q (record frames { stack = stack })
   with_stack_each event keeps stack all before =
       let rest = all_same event keeps frames before in record { stack = all; ready = rest.ready; parked = rest.parked }
 
@@ -109,33 +112,40 @@ module _ (node : Node) (past : Past) (P Q : Saying) where
       let first = first_is (live (stack_of node past)) life acts.is in
       (first.0, first.1, subst (Each P) first.1 (live_each P (stack_of node past) all))
 
-  act_each : (frame : FrameId) (index : ℕ) (done : LoggedAct) → Keeps node past (Did (item.Act frame index done)) P Q → MayAct node past frame index done → Each P (stack_of node past)
+  act_each : (frame : FrameId) (index : ℕ) (done : LoggedAct) → Keeps node past (Did (item.Act frame index done)) P Q → MayAct node past frame index done
+      → Each P (stack_of node past)
       → Each Q (after_act node done (live (stack_of node past)))
   act_each frame index done keeps may all =
       let first = first_live frame may.life may.acts all in
       subst (λ stack. Each Q (after_act node done stack)) (sym first.1)
       (by_act done keeps may.life may.acts may.makes first.0 first.2)
     where
-      by_act : (done : LoggedAct) → Keeps node past (Did (item.Act frame index done)) P Q → (life : Life) → Acts node past frame life → MayMake node past done life → (below : List Life)
+      by_act : (done : LoggedAct) → Keeps node past (Did (item.Act frame index done)) P Q → (life : Life) → Acts node past frame life
+          → MayMake node past done life → (below : List Life)
           → Each P (life ∷ below) → Each Q (after_act node done (life ∷ below))
       by_act (act.Read word value) keeps life acts makes below all =
           (keeps.acts life (Value value) (acts, makes, refl) all.0, each_same (Did (item.Act frame index (act.Read word value))) keeps below all.1)
-      by_act (act.Write word value) keeps life acts makes below all = (keeps.acts life Done (acts, makes, refl) all.0, each_same (Did (item.Act frame index (act.Write word value))) keeps below all.1)
-      by_act (act.Print value) keeps life acts makes below all = (keeps.acts life Done (acts, makes, refl) all.0, each_same (Did (item.Act frame index (act.Print value))) keeps below all.1)
+      by_act (act.Write word value) keeps life acts makes below all =
+          (keeps.acts life Done (acts, makes, refl) all.0, each_same (Did (item.Act frame index (act.Write word value))) keeps below all.1)
+      by_act (act.Print value) keeps life acts makes below all =
+          (keeps.acts life Done (acts, makes, refl) all.0, each_same (Did (item.Act frame index (act.Print value))) keeps below all.1)
       by_act (act.Spawn child procedure arguments) keeps life acts makes below all = (
         keeps.born frame index child procedure arguments life refl acts makes,
         (keeps.acts life Done (acts, makes, refl) all.0, each_same (Did (item.Act frame index (act.Spawn child procedure arguments))) keeps below all.1),
       )
-      by_act act.Sync keeps life acts makes below all = (keeps.acts life (Children life.kept) (acts, makes, refl) all.0, each_same (Did (item.Act frame index act.Sync)) keeps below all.1)
+      by_act act.Sync keeps life acts makes below all =
+          (keeps.acts life (Children life.kept) (acts, makes, refl) all.0, each_same (Did (item.Act frame index act.Sync)) keeps below all.1)
 
-  taken_up_each : (event : Event) → Keeps node past event P Q → (stack ready : List Life) (parked : List Parked) → InFrames node.code P (record { stack = stack; ready = ready; parked = parked })
+  taken_up_each : (event : Event) → Keeps node past event P Q → (stack ready : List Life) (parked : List Parked)
+      → InFrames node.code P (record { stack = stack; ready = ready; parked = parked })
       → InFrames node.code Q (taken_up stack ready parked)
   taken_up_each event keeps stack [] parked all = all_same event keeps (record { stack = stack; ready = []; parked = parked }) all
   taken_up_each event keeps stack (life ∷ ready) parked all =
       let rest = all_same event keeps (record { stack = stack; ready = life ∷ ready; parked = parked }) all in
       record { stack = (rest.ready.0, tt); ready = rest.ready.1; parked = rest.parked }
 
-  item_each : (done : Item) → Keeps node past (Did done) P Q → (rest : List Item) (posts : List Msg) → IsOwed node past done ⊎ (IsFree past × MayDo node past done rest posts)
+  item_each : (done : Item) → Keeps node past (Did done) P Q → (rest : List Item) (posts : List Msg)
+      → IsOwed node past done ⊎ (IsFree past × MayDo node past done rest posts)
       → InFrames node.code P frames → InFrames node.code Q (frames_item node done past frames)
   item_each (item.Act frame index done) keeps rest posts (inl owed) all = absurd owed
   item_each (item.Act frame index done) keeps rest posts (inr both) all =
@@ -150,7 +160,8 @@ module _ (node : Node) (past : Past) (P Q : Saying) where
   item_each (item.Drop page) keeps rest posts may all = all_same (Did (item.Drop page)) keeps frames all
   item_each (item.TakeUp frame) keeps rest posts may all = taken_up_each (Did (item.TakeUp frame)) keeps frames.stack frames.ready frames.parked all
   item_each (item.OwnFetch page words) keeps rest posts may all =
-      with_stack_each (Did (item.OwnFetch page words)) keeps (live frames.stack) (each_same (Did (item.OwnFetch page words)) keeps (live frames.stack) (live_each P frames.stack all.stack)) all
+      with_stack_each (Did (item.OwnFetch page words)) keeps (live frames.stack)
+          (each_same (Did (item.OwnFetch page words)) keeps (live frames.stack) (live_each P frames.stack all.stack)) all
   item_each (item.OwnReconcile part) keeps rest posts may all = all_same (Did (item.OwnReconcile part)) keeps frames all
   item_each (item.Served frame index word old addend) keeps rest posts (inl serves) all =
       rw serves.oldest (all_same (Did (item.Served frame index word old addend)) keeps frames all)
@@ -160,17 +171,20 @@ module _ (node : Node) (past : Past) (P Q : Saying) where
       rw both.0.none_owed
       (with_stack_each (Did (item.Served frame index word old addend)) keeps (added old (live frames.stack))
       (subst (λ stack. Each Q (added old stack)) (sym first.1)
-      (keeps.acts may.life (Value old) (may.acts, may.wanted, refl) first.2.0, each_same (Did (item.Served frame index word old addend)) keeps first.0 first.2.1)) all)
+      (keeps.acts may.life (Value old) (may.acts, may.wanted, refl) first.2.0,
+          each_same (Did (item.Served frame index word old addend)) keeps first.0 first.2.1)) all)
 
   -- ---- posts
 
-  granted_each : (receiver : ℕ) (closure : Closure) → MayGrant node past receiver closure → Each P (stack_of node past) → Each P (without_bottom closure.join (stack_of node past))
+  granted_each : (receiver : ℕ) (closure : Closure) → MayGrant node past receiver closure → Each P (stack_of node past)
+      → Each P (without_bottom closure.join (stack_of node past))
   granted_each receiver closure may all =
       let parts = each_parts P may.above (may.child ∷ (may.parent ∷ [])) (subst (Each P) may.stack all) in
       subst (Each P) (sym (ap (without_bottom closure.join) may.stack ∙ bottom_gone closure.join may.above may.child may.parent))
       (each_append P may.above (record may.child { link = link_to closure.join } ∷ []) parts.0 (parts.1.0, tt))
 
-  sent_each : (said : Body) (receiver : ℕ) → (replies_in said ≡ true) ⊎ MayPost node past receiver said → Each P (stack_of node past) → Each P (stack_sent said (stack_of node past))
+  sent_each : (said : Body) (receiver : ℕ) → (replies_in said ≡ true) ⊎ MayPost node past receiver said → Each P (stack_of node past)
+      → Each P (stack_sent said (stack_of node past))
   sent_each (body.Fetch page) receiver may all = live_each P (stack_of node past) all
   sent_each (body.Page page words) receiver may all = all
   sent_each (body.Reconcile parts) receiver may all = all
@@ -185,7 +199,8 @@ module _ (node : Node) (past : Past) (P Q : Saying) where
   sent_each (body.Added old) receiver may all = all
 
   -- the frame that leaves
-  leaves : (event : Event) → Keeps node past event P Q → (said : Body) (receiver : ℕ) → (replies_in said ≡ true) ⊎ MayPost node past receiver said → Each P (stack_of node past)
+  leaves : (event : Event) → Keeps node past event P Q → (said : Body) (receiver : ℕ) → (replies_in said ≡ true) ⊎ MayPost node past receiver said
+      → Each P (stack_of node past)
       → OfBody node.code Q said
   leaves event keeps (body.Fetch page) receiver may all = tt
   leaves event keeps (body.Page page words) receiver may all = tt
@@ -209,7 +224,8 @@ module _ (node : Node) (past : Past) (P Q : Saying) where
 
   -- ---- takings
 
-  added_each : (message : Msg) → Keeps node past (Took message) P Q → (old : ℤ) → message.body ≡ body.Added old → (stack : List Life) → stack_of node past ≡ stack → Each P stack
+  added_each : (message : Msg) → Keeps node past (Took message) P Q → (old : ℤ) → message.body ≡ body.Added old → (stack : List Life)
+      → stack_of node past ≡ stack → Each P stack
       → Each Q (added old stack)
   added_each message keeps old says [] is all = tt
   added_each message keeps old says (life ∷ below) is all = (
@@ -217,7 +233,8 @@ module _ (node : Node) (past : Past) (P Q : Saying) where
     each_same (Took message) keeps below all.1,
   )
 
-  took_each : (message : Msg) → Keeps node past (Took message) P Q → (said : Body) → message.body ≡ said → (now : Past) → OfBody node.code P said → InFrames node.code P frames
+  took_each : (message : Msg) → Keeps node past (Took message) P Q → (said : Body) → message.body ≡ said → (now : Past) → OfBody node.code P said
+      → InFrames node.code P frames
       → InFrames node.code Q (frames_took node said now frames)
   took_each message keeps (body.Fetch page) says now brought all = all_same (Took message) keeps frames all
   took_each message keeps (body.Page page words) says now brought all = all_same (Took message) keeps frames all
@@ -226,7 +243,8 @@ module _ (node : Node) (past : Past) (P Q : Saying) where
   took_each message keeps body.Ask says now brought all = all_same (Took message) keeps frames all
   took_each message keeps (body.Grant closure) says now brought all =
       let more : Frames = record frames { ready = frames.ready ++ carried node closure ∷ [] } in
-      all_same (Took message) keeps more (record { stack = all.stack; ready = each_append P frames.ready (carried node closure ∷ []) all.ready (brought, tt); parked = all.parked })
+      all_same (Took message) keeps more
+          (record { stack = all.stack; ready = each_append P frames.ready (carried node closure ∷ []) all.ready (brought, tt); parked = all.parked })
   took_each message keeps body.Refuse says now brought all = all_same (Took message) keeps frames all
   took_each message keeps (body.Done join index value) says now brought all =
       all_same (Took message) keeps (with_joined node now frames) (with_joined_each P node now frames all)
@@ -234,7 +252,8 @@ module _ (node : Node) (past : Past) (P Q : Saying) where
       let more : Frames = record frames { parked = frames.parked ++ record { join = join; closure = closure } ∷ [] } in
       all_same (Took message) keeps (with_joined node now more)
       (with_joined_each P node now more
-      (record { stack = all.stack; ready = all.ready; parked = parked_append P node.code frames.parked (record { join = join; closure = closure } ∷ []) all.parked (brought, tt) }))
+      (record { stack = all.stack; ready =
+          all.ready; parked = parked_append P node.code frames.parked (record { join = join; closure = closure } ∷ []) all.parked (brought, tt) }))
   took_each message keeps (body.Add frame index word addend) says now brought all = all_same (Took message) keeps frames all
   took_each message keeps (body.Added old) says now brought all =
       with_stack_each (Took message) keeps (added old frames.stack) (added_each message keeps old says frames.stack refl all.stack) all
@@ -254,7 +273,8 @@ module _ (node : Node) (past : Past) (P Q : Saying) where
   event_each (Did done) does keeps brings all = item_each done keeps does.rest does.posts does.may all
   event_each (Sent message) may keeps brings all =
       with_stack_each (Sent message) keeps (stack_sent message.body frames.stack)
-      (each_same (Sent message) keeps (stack_sent message.body frames.stack) (sent_each message.body message.receiver (may_post node past message may) all.stack)) all
+      (each_same (Sent message) keeps (stack_sent message.body frames.stack)
+          (sent_each message.body message.receiver (may_post node past message may) all.stack)) all
   event_each (Took message) may keeps brings all = took_each message keeps message.body refl (Took message ∷ past) brings all
   event_each (Ended end) may keeps brings all = all_same (Ended end) keeps frames all
 
@@ -267,7 +287,8 @@ module _ (cluster : Cluster) (course : Course) (moved : Moved) (stepped : Steppe
   abbrev before_it : Past
   before_it = own moved.node course
 
-  brought : (here : Option PostAt) (event : Event) → Carries course moved.node here event → EachLetter cluster.code P (letters_of course) → Brings mover before_it P Q event
+  brought : (here : Option PostAt) (event : Event) → Carries course moved.node here event → EachLetter cluster.code P (letters_of course)
+      → Brings mover before_it P Q event
   brought here (Did done) carries letters = tt
   brought here (Sent message) carries letters = tt
   brought here (Took message) carries letters =
@@ -275,7 +296,8 @@ module _ (cluster : Cluster) (course : Course) (moved : Moved) (stepped : Steppe
       (letters_hold cluster course stepped carries.place message carries.was_posted carries.not_taken) letters
   brought here (Ended end) carries letters = tt
 
-  letters_same : (event : Event) → Keeps mover before_it event P Q → (letters : List Letter) → EachLetter cluster.code P letters → EachLetter cluster.code Q letters
+  letters_same : (event : Event) → Keeps mover before_it event P Q → (letters : List Letter) → EachLetter cluster.code P letters
+      → EachLetter cluster.code Q letters
   letters_same event keeps letters all = letters_both P P Q (λ id goes first second. keeps.same id goes first) cluster.code letters all all
 
   letters_each : (here : Option PostAt) (event : Event) → IsAllowed mover before_it event → Keeps mover before_it event P Q → Each P (stack_of mover before_it)
@@ -301,11 +323,13 @@ module _ (cluster : Cluster) (course : Course) (moved : Moved) (stepped : Steppe
     where
       here : InFrames cluster.code Q (frames_of mover (own moved.node (moved ∷ course)))
       here = subst (λ past. InFrames cluster.code Q (frames_of mover past)) (sym (own_first moved course))
-          (event_each mover before_it P Q moved.event step.allowed keeps (brought moved.message moved.event step.carries all.letters) (all.at moved.node step.within))
+          (event_each mover before_it P Q moved.event step.allowed keeps (brought moved.message moved.event step.carries all.letters)
+              (all.at moved.node step.within))
 
       on : (number : ℕ) → number < cluster.config.nodes → (number ≡ moved.node) ⊎ (number ≢ moved.node)
           → InFrames cluster.code Q (frames_of (node_at cluster number) (own number (moved ∷ course)))
       on number less (inl same) = subst (λ it. InFrames cluster.code Q (frames_of (node_at cluster it) (own it (moved ∷ course)))) (sym same) here
       on number less (inr other) =
           subst (λ past. InFrames cluster.code Q (frames_of (node_at cluster number) past)) (sym (own_other number moved course other))
-          (frames_both P P Q (λ id goes first second. keeps.same id goes first) cluster.code (frames_of (node_at cluster number) (own number course)) (all.at number less) (all.at number less))
+          (frames_both P P Q (λ id goes first second. keeps.same id goes first) cluster.code (frames_of (node_at cluster number) (own number course))
+              (all.at number less) (all.at number less))

@@ -81,16 +81,20 @@ pub record Brought (cluster : Cluster) (course : Course) : Type 0 where
 -- ---- an event that says nothing of a frame
 
 module _ (cluster : Cluster) (node : ℕ) (moved : Moved) (course : Course) where
-  pub stack_kept : (id : FrameId) (join : Option JoinId) → OnStack cluster node course id join → news_on id moved ≡ None → OnStack cluster node (moved ∷ course) id join
+  pub stack_kept : (id : FrameId) (join : Option JoinId) → OnStack cluster node course id join → news_on id moved ≡ None
+      → OnStack cluster node (moved ∷ course) id join
   stack_kept id join before none = record {
     news = elim before.news [ inl nothing ↦ inl (last_kept id moved course none ∙ nothing) | inr up ↦ inr (last_kept id moved course none ∙ up) ];
     joined = λ is. elim (before.joined is) [ inl not ↦ inl (granted_kept id moved course none not) | inr risen ↦ inr (risen_kept id moved course none risen) ];
     named = named_more cluster moved course id before.named;
   }
 
-  pub ready_kept : (id : FrameId) (join : Option JoinId) → OnReady cluster node course id join → news_on id moved ≡ None → OnReady cluster node (moved ∷ course) id join
+  pub ready_kept : (id : FrameId) (join : Option JoinId) → OnReady cluster node course id join → news_on id moved ≡ None
+      → OnReady cluster node (moved ∷ course) id join
   ready_kept id join before none = record {
-    news = elim before.news [ inl both ↦ inl (both.0, last_kept id moved course none ∙ both.1) | inr both ↦ inr (both.0, last_kept id moved course none ∙ both.1) ];
+    news =
+        elim before.news [ inl both ↦ inl (both.0, last_kept id moved course none ∙ both.1) | inr both ↦
+            inr (both.0, last_kept id moved course none ∙ both.1) ];
     named = named_more cluster moved course id before.named;
   }
 
@@ -105,7 +109,13 @@ module _ (cluster : Cluster) (node : ℕ) (moved : Moved) (course : Course) wher
 
   pub placed_kept : (frames : Frames) → Placed cluster node course frames → Untold frames → Placed cluster node (moved ∷ course) frames
   placed_kept frames placed none = record {
-    stack = each_change (OnStack cluster node course) (λ id join. news_on id moved ≡ None) (OnStack cluster node (moved ∷ course)) stack_kept frames.stack placed.stack none.stack;
-    ready = each_change (OnReady cluster node course) (λ id join. news_on id moved ≡ None) (OnReady cluster node (moved ∷ course)) ready_kept frames.ready placed.ready none.ready;
-    parked = parked_change (AtJoin cluster node course) (λ id. news_on id moved ≡ None) (AtJoin cluster node (moved ∷ course)) join_kept frames.parked placed.parked none.parked;
+    stack =
+        each_change (OnStack cluster node course) (λ id join. news_on id moved ≡ None)
+            (OnStack cluster node (moved ∷ course)) stack_kept frames.stack placed.stack none.stack;
+    ready =
+        each_change (OnReady cluster node course) (λ id join. news_on id moved ≡ None)
+            (OnReady cluster node (moved ∷ course)) ready_kept frames.ready placed.ready none.ready;
+    parked =
+        parked_change (AtJoin cluster node course) (λ id. news_on id moved ≡ None)
+            (AtJoin cluster node (moved ∷ course)) join_kept frames.parked placed.parked none.parked;
   }

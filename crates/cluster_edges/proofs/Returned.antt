@@ -37,7 +37,8 @@ module _ {A : Type 0} (test : A → Bool) where
       on true is any rest = ([], item, list, refl, is)
       on false is any rest = let it = rest any in (item ∷ it.0, it.1, it.2, ap (λ more. item ∷ more) it.3, it.4)
 
-range_out : (test : ℕ → Bool) (start count : ℕ) → list_any test (range_with_len start count) ≡ true → (number : ℕ) × (number < start + count) × (test number ≡ true)
+range_out : (test : ℕ → Bool) (start count : ℕ) → list_any test (range_with_len start count) ≡ true
+    → (number : ℕ) × (number < start + count) × (test number ≡ true)
 range_out test start zero any = absurd (cc)
 range_out test start (suc count) any = on (test start) refl any (range_out test (start + 1) count)
   where
@@ -87,7 +88,8 @@ held_there cluster course frame number less front back life parts is =
     let sum = sum_one cluster.config.nodes (at_node cluster course (named frame)) number less in
     omega (arith, here, sum)
 
-standing_known : (cluster : Cluster) (frame : FrameId) (course : Course) → Stepped cluster course → stands_returned cluster frame course ≡ true → Unknown cluster course frame → ⊥
+standing_known : (cluster : Cluster) (frame : FrameId) (course : Course) → Stepped cluster course → stands_returned cluster frame course ≡ true
+    → Unknown cluster course frame → ⊥
 standing_known cluster frame course stepped stands unknown =
     let it = stands_so cluster frame course stands in
     let some = held_there cluster course frame it.number it.within it.front it.back it.life it.parts it.name in
@@ -95,7 +97,8 @@ standing_known cluster frame course stepped stands unknown =
     omega (arith, some, none)
 
 -- A frame that has no name yet has not returned.
-pub known_returned : (cluster : Cluster) (frame : FrameId) (course : Course) → Stepped cluster course → has_returned cluster frame course ≡ true → Unknown cluster course frame → ⊥
+pub known_returned : (cluster : Cluster) (frame : FrameId) (course : Course) → Stepped cluster course → has_returned cluster frame course ≡ true
+    → Unknown cluster course frame → ⊥
 known_returned cluster frame [] stepped has unknown = standing_known cluster frame [] stepped has unknown
 known_returned cluster frame (moved ∷ course) stepped has unknown =
     on (either (has_returned cluster frame course) (stands_returned cluster frame (moved ∷ course)) has) (known_returned cluster frame course stepped.0)
@@ -115,25 +118,32 @@ abbrev pub StaysReturned : Cluster → Course → Saying
 StaysReturned cluster course id goes = has_returned cluster id course ≡ true → IsReturned goes
 
 -- so is one that stands returned
-pub standing_everywhere : (cluster : Cluster) (course : Course) → Stepped cluster course → Everywhere cluster course (λ id goes. stands_returned cluster id course ≡ true → IsReturned goes)
+pub standing_everywhere : (cluster : Cluster) (course : Course) → Stepped cluster course
+    → Everywhere cluster course (λ id goes. stands_returned cluster id course ≡ true → IsReturned goes)
 standing_everywhere cluster course stepped =
-    everywhere_for (λ id goes. stands_returned cluster id course ≡ true → IsReturned goes) cluster course (λ frame. on frame (stands_returned cluster frame course) refl)
+    everywhere_for (λ id goes. stands_returned cluster id course ≡ true → IsReturned goes) cluster course
+        (λ frame. on frame (stands_returned cluster frame course) refl)
   where
-    on : (frame : FrameId) (b : Bool) → stands_returned cluster frame course ≡ b → Everywhere cluster course (If frame (λ id goes. stands_returned cluster id course ≡ true → IsReturned goes))
+    on : (frame : FrameId) (b : Bool) → stands_returned cluster frame course ≡ b
+        → Everywhere cluster course (If frame (λ id goes. stands_returned cluster id course ≡ true → IsReturned goes))
     on frame true stands =
         let it = stands_so cluster frame course stands in
         let alone = lone frame IsReturned it.front it.back it.life it.name it.is cluster course stepped it.number it.within it.parts in
-        everywhere_both (λ id goes. id ≡ frame → IsReturned goes) (λ id goes. Unit {0}) (If frame (λ id goes. stands_returned cluster id course ≡ true → IsReturned goes))
+        everywhere_both (λ id goes. id ≡ frame → IsReturned goes) (λ id goes. Unit {0})
+            (If frame (λ id goes. stands_returned cluster id course ≡ true → IsReturned goes))
         (λ id goes first second same here. first same) cluster course alone (everywhere_always (λ id goes. Unit {0}) (λ id goes. tt) cluster course)
     on frame false other =
         everywhere_always (If frame (λ id goes. stands_returned cluster id course ≡ true → IsReturned goes))
-        (λ id goes same stands. (let not : stands_returned cluster id course ≡ false = ap (λ it. stands_returned cluster it course) same ∙ other in absurd (cc))) cluster course
+        (λ id goes same stands. (let not : stands_returned cluster id course ≡ false =
+            ap (λ it. stands_returned cluster it course) same ∙ other in absurd (cc))) cluster course
 
 -- one event more
-pub grown : (cluster : Cluster) (course : Course) (moved : Moved) → Stepped cluster (moved ∷ course) → Everywhere cluster (moved ∷ course) (StaysReturned cluster course)
+pub grown : (cluster : Cluster) (course : Course) (moved : Moved) → Stepped cluster (moved ∷ course)
+    → Everywhere cluster (moved ∷ course) (StaysReturned cluster course)
     → Everywhere cluster (moved ∷ course) (StaysReturned cluster (moved ∷ course))
 grown cluster course moved stepped before =
-    everywhere_both (StaysReturned cluster course) (λ id goes. stands_returned cluster id (moved ∷ course) ≡ true → IsReturned goes) (StaysReturned cluster (moved ∷ course))
+    everywhere_both (StaysReturned cluster course) (λ id goes. stands_returned cluster id (moved ∷ course) ≡ true → IsReturned goes)
+        (StaysReturned cluster (moved ∷ course))
     (λ id goes first second has. by first second (either (has_returned cluster id course) (stands_returned cluster id (moved ∷ course)) has))
     cluster (moved ∷ course) before (standing_everywhere cluster (moved ∷ course) stepped)
   where
@@ -153,7 +163,8 @@ makes_none node past (act.Spawn child procedure arguments) life makes is = wants
 makes_none node past act.Sync life makes is = wants_none life want.Sync makes.wanted is
 
 -- the name of a child is new
-pub child_unknown : (cluster : Cluster) (course : Course) (number : ℕ) (child : FrameId) → child ≡ record { node = number; number = next_frame (node_at cluster number) (own number course) }
+pub child_unknown : (cluster : Cluster) (course : Course) (number : ℕ) (child : FrameId)
+    → child ≡ record { node = number; number = next_frame (node_at cluster number) (own number course) }
     → Unknown cluster course child
 child_unknown cluster course number child name =
     subst (Unknown cluster course) (sym name) (omega (arith))

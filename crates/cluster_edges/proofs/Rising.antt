@@ -40,7 +40,8 @@ use Rattle.cluster_edges.proofs.Firsts.{first_count, first_next, first_stays, at
 use Rattle.cluster_edges.proofs.Saying.{Says, SaysPark, says, Said, said, grant_event, park_event}
 use Rattle.cluster_edges.proofs.Staging.{any_life, since_next, since_none, untaken, any_first, any_rest_on, grant_stage, park_stage, stage_later}
 
-taken_item : (node : Node) (past : Past) (frame : FrameId) (rest : List Item) (posts : List Msg) → IsOwed node past (item.TakeUp frame) ⊎ (IsFree past × MayDo node past (item.TakeUp frame) rest posts)
+taken_item : (node : Node) (past : Past) (frame : FrameId) (rest : List Item) (posts : List Msg)
+    → IsOwed node past (item.TakeUp frame) ⊎ (IsFree past × MayDo node past (item.TakeUp frame) rest posts)
     → MayTakeUp node past frame rest
 taken_item node past frame rest posts (inl owed) = absurd owed
 taken_item node past frame rest posts (inr both) = both.1
@@ -62,21 +63,25 @@ module _ (cluster : Cluster) (course : Course) (post : ℕ) (less : post < lengt
       let taken = up_on (list_any (takes_up frame) (since_position post course))
       (list_any (λ life. same_frame life.id frame) ((frames_of (node_at cluster receiver) (own receiver course)).ready)) is in
       let still : list_any (takes_up frame) (since_position post (moved ∷ course)) ≡ true =
-      ap (list_any (takes_up frame)) (since_next post moved course less) ∙ any_rest_on (takes_up frame moved) (list_any (takes_up frame) (since_position post course)) taken in
+      ap (list_any (takes_up frame)) (since_next post moved course less)
+          ∙ any_rest_on (takes_up frame moved) (list_any (takes_up frame) (since_position post course)) taken in
       ap (λ b. stage_on b (list_any (λ life. same_frame life.id frame) ((frames_of (node_at cluster receiver) (own receiver (moved ∷ course))).ready))) still
 
   -- it is up where it is taken up
   pub of_up : (receiver : ℕ) (frame : FrameId) → moved.event ≡ Did (item.TakeUp frame) → stage_of cluster (moved ∷ course) post receiver frame ≡ Up
   of_up receiver frame is =
       let still : list_any (takes_up frame) (since_position post (moved ∷ course)) ≡ true =
-      ap (list_any (takes_up frame)) (since_next post moved course less) ∙ any_first (takes_up frame) moved (since_position post course) (takes_itself frame moved is) in
+      ap (list_any (takes_up frame)) (since_next post moved course less)
+          ∙ any_first (takes_up frame) moved (since_position post course) (takes_itself frame moved is) in
       ap (λ b. stage_on b (list_any (λ life. same_frame life.id frame) ((frames_of (node_at cluster receiver) (own receiver (moved ∷ course))).ready))) still
 
-  sent_stays : (receiver : ℕ) (frame : Option FrameId) → stage_sent cluster course post receiver frame ≡ Up → stage_sent cluster (moved ∷ course) post receiver frame ≡ Up
+  sent_stays : (receiver : ℕ) (frame : Option FrameId) → stage_sent cluster course post receiver frame ≡ Up
+      → stage_sent cluster (moved ∷ course) post receiver frame ≡ Up
   sent_stays receiver None is = absurd (cc)
   sent_stays receiver (Some frame) is = of_stays receiver frame is
 
-  event_stays : (number : ℕ) (event : Event) (here : Option PostAt) → stage_by cluster course post (Some (record { node = number; event = event; message = here })) ≡ Up
+  event_stays : (number : ℕ) (event : Event) (here : Option PostAt)
+      → stage_by cluster course post (Some (record { node = number; event = event; message = here })) ≡ Up
       → stage_by cluster (moved ∷ course) post (Some (record { node = number; event = event; message = here })) ≡ Up
   event_stays number (Did done) here is = absurd (cc)
   event_stays number (Sent message) here is = sent_stays message.receiver (frame_in message.body) is
@@ -106,7 +111,8 @@ module _ (cluster : Cluster) (course : Course) (stepped : Stepped cluster course
       let not : leb (suc now) post ≡ false = grind (arith, nat_tests) in
       let count = first_count course now moved found in
       let less : post < length (first now course) = grind (arith, nat_tests) in
-      rw not (ap (λ it. stage_by cluster it post (at course post)) (first_next course now moved found) ∙ by_stays cluster (first now course) post less moved (at course post) up)
+      rw not (ap (λ it. stage_by cluster it post (at course post)) (first_next course now moved found)
+          ∙ by_stays cluster (first now course) post less moved (at course post) up)
 
   -- what is up stays so
   pub stays_up : (now post : ℕ) → stage now post ≡ Up → stage (suc now) post ≡ Up
@@ -156,7 +162,8 @@ module _ (cluster : Cluster) (course : Course) (stepped : Stepped cluster course
       since_none frame post (first now course) (λ later other behind found. untaken frame other (none later other behind found)) in
       let here : list_any (λ life. same_frame life.id frame) ((frames_of (node_at cluster node) (own node (first now course))).ready) ≡ true =
       ap (list_any (λ life. same_frame life.id frame)) takes.oldest
-      ∙ any_first (λ life. same_frame life.id frame) takes.life takes.younger (subst (λ it. same_frame takes.life.id it ≡ true) (sym takes.named) (same_self takes.life.id)) in
+      ∙ any_first (λ life. same_frame life.id frame) takes.life takes.younger
+          (subst (λ it. same_frame takes.life.id it ≡ true) (sym takes.named) (same_self takes.life.id)) in
       rw (untaken_since, here) refl
 
   rises_by : (now node : ℕ) (frame : FrameId) (news : News) (takes : Takes now node frame) (it : Said frame news (first now course))
@@ -178,17 +185,20 @@ module _ (cluster : Cluster) (course : Course) (stepped : Stepped cluster course
             ∙ of_up cluster (first now course) it.post inside takes.moved node frame takes.event_is;
       }
 
-  rises_on : (now node : ℕ) (frame : FrameId) → Takes now node frame → (last_news frame (first now course) ≡ Some (ByGrant node)) ⊎ (last_news frame (first now course) ≡ Some (ByPark node))
+  rises_on : (now node : ℕ) (frame : FrameId) → Takes now node frame
+      → (last_news frame (first now course) ≡ Some (ByGrant node)) ⊎ (last_news frame (first now course) ≡ Some (ByPark node))
       → Rises events stage now node frame
   rises_on now node frame takes (inl is) =
       let it = said frame (ByGrant node) (first now course) is in
       let sent = says frame it.moved (ByGrant node) it.says in
-      rises_by now node frame (ByGrant node) takes it (inl (grant_event cluster course it.post it.moved frame node (at_whole course now it.post it.moved it.is) sent))
+      rises_by now node frame (ByGrant node) takes it
+          (inl (grant_event cluster course it.post it.moved frame node (at_whole course now it.post it.moved it.is) sent))
       (λ later. grant_stage cluster later it.post it.moved frame node sent)
   rises_on now node frame takes (inr is) =
       let it = said frame (ByPark node) (first now course) is in
       let sent = says frame it.moved (ByPark node) it.says in
-      rises_by now node frame (ByPark node) takes it (inr (park_event cluster course it.post it.moved frame node (at_whole course now it.post it.moved it.is) sent))
+      rises_by now node frame (ByPark node) takes it
+          (inr (park_event cluster course it.post it.moved frame node (at_whole course now it.post it.moved it.is) sent))
       (λ later. park_stage cluster later it.post it.moved frame node sent)
 
   -- what is taken up was sent to the node, and was ready
@@ -196,7 +206,8 @@ module _ (cluster : Cluster) (course : Course) (stepped : Stepped cluster course
   up now node frame is =
       let takes = takes_at now node frame is in
       let before = (brought cluster (first now course) (stepped_first cluster course now stepped)).frames node in
-      let all : EachLife (OnReady cluster node (first now course)) (takes.life ∷ takes.younger) = subst (EachLife (OnReady cluster node (first now course))) takes.oldest before.ready in
+      let all : EachLife (OnReady cluster node (first now course)) (takes.life ∷ takes.younger) =
+          subst (EachLife (OnReady cluster node (first now course))) takes.oldest before.ready in
       rises_on now node frame takes (sent_news node frame takes.life.join (first now course)
       (subst (λ it. OnReady cluster node (first now course) it takes.life.join) (sym takes.named) all.0))
 
@@ -223,7 +234,8 @@ module _ (cluster : Cluster) (course : Course) (stepped : Stepped cluster course
   not_both frame node sender earlier (inr one) (inr two) = absurd (cc)
 
   -- a frame that is parked is not ready then
-  not_listed : (post node sender : ℕ) (closure : Closure) (join : JoinId) (moved : Moved) (message : Msg) → at course post ≡ Some moved → moved.node ≡ sender → moved.event ≡ Sent message
+  not_listed : (post node sender : ℕ) (closure : Closure) (join : JoinId) (moved : Moved) (message : Msg) → at course post ≡ Some moved → moved.node ≡ sender
+      → moved.event ≡ Sent message
       → message.body ≡ body.Park join closure
       → list_any (λ life. same_frame life.id closure.id) ((frames_of (node_at cluster node) (own node (moved ∷ first post course))).ready) ≡ true → ⊥
   not_listed post node sender closure join moved message found by is body_is any =
@@ -234,8 +246,10 @@ module _ (cluster : Cluster) (course : Course) (stepped : Stepped cluster course
       let may = may_post (node_at cluster moved.node) (own moved.node earlier) message (body.Park join closure) body_is refl
       (subst (λ event. IsAllowed (node_at cluster moved.node) (own moved.node earlier) event) is step.allowed) in
       let once = one_place cluster earlier whole in
-      let some = park_count cluster earlier moved.node moved.message (before.frames moved.node) (once.within moved.node step.within) message.receiver join closure may in
-      let up = (counted_some (OnStack cluster moved.node earlier) closure.id ((frames_of (node_at cluster moved.node) (own moved.node earlier)).stack) (before.frames moved.node).stack some).1.news in
+      let some = park_count cluster earlier moved.node moved.message (before.frames moved.node)
+          (once.within moved.node step.within) message.receiver join closure may in
+      let up = (counted_some (OnStack cluster moved.node earlier) closure.id ((frames_of (node_at cluster moved.node) (own moved.node earlier)).stack)
+          (before.frames moved.node).stack some).1.news in
       let still = ready_kept earlier moved message is node (one_or_two moved.node node) in
       let listed = any_life (OnReady cluster node earlier) closure.id ((frames_of (node_at cluster node) (own node earlier)).ready) (before.frames node).ready
       (sym (ap (list_any (λ life. same_frame life.id closure.id)) still) ∙ any) in
@@ -254,8 +268,10 @@ module _ (cluster : Cluster) (course : Course) (stepped : Stepped cluster course
       let park = park_is cluster sender (before course post) frame (it.1.body) it.4 in
       let sent : Says frame found.moved (ByPark node) = SaysPark it.1 park.0 park.1 found.event_is park.2 park.3 (ap ByPark (sym it.3)) in
       let stage_is : stage_of cluster (found.moved ∷ first post course) post node frame ≡ Ready =
-      sym (stage_later cluster course (suc post) post found.moved (omega arith) found.is ∙ park_stage cluster (first (suc post) course) post found.moved frame node sent
+      sym (stage_later cluster course (suc post) post found.moved (omega arith) found.is
+          ∙ park_stage cluster (first (suc post) course) post found.moved frame node sent
       ∙ ap (λ later. stage_of cluster later post node frame) (first_next course post found.moved found.is)) ∙ ready in
       let listed = stage_ready _ _ stage_is in
       not_listed post node sender park.1 park.0 found.moved it.1 found.is found.by found.event_is park.2
-      (subst (λ it. list_any (λ life. same_frame life.id it) ((frames_of (node_at cluster node) (own node (found.moved ∷ first post course))).ready) ≡ true) (sym park.3) listed)
+      (subst (λ it. list_any (λ life. same_frame life.id it) ((frames_of (node_at cluster node) (own node (found.moved ∷ first post course))).ready) ≡ true)
+          (sym park.3) listed)

@@ -15,7 +15,7 @@ use Rattle.cluster_rules.specs.Runs.{Cluster}
 use Rattle.cluster_rules.proofs.Marks.{same_self, same_name}
 use Rattle.backer_order.specs.Log.{Events, Post, TakeUp, Grant, Park}
 use Rattle.backer_order.specs.Moments.{NoneBetween}
-use Rattle.backer_order.specs.Edges.{TakesUp, FromGrant, FromPark, Joined}
+use Rattle.backer_order.specs.Edges.{TakesUp, FromPark, Joined}
 use Rattle.cluster_order.specs.Reading.{note_of, happens_to, events_of}
 use Rattle.cluster_order.specs.Standing.{first}
 use Rattle.cluster_order.proofs.Growing.{within, at_last, before_last, before_behind, before_grown, at_behind}
@@ -25,7 +25,8 @@ use Rattle.cluster_edges.proofs.Firsts.{first_before, first_grown, at_first, at_
 
 -- ---- what an event says
 
-in_some : (frame : FrameId) (it : Told) (news : News) (b : Bool) → same_frame it.frame frame ≡ b → cond b (Some it.news) None ≡ Some news → (it.frame ≡ frame) × (it.news ≡ news)
+in_some : (frame : FrameId) (it : Told) (news : News) (b : Bool) → same_frame it.frame frame ≡ b → cond b (Some it.news) None ≡ Some news
+    → (it.frame ≡ frame) × (it.news ≡ news)
 in_some frame it news true is said = let same : it.news ≡ news = cc in (same_name it.frame frame is, same)
 in_some frame it news false is said = absurd (cc)
 
@@ -46,14 +47,17 @@ sent_says frame receiver (body.Grant closure) news says =
 sent_says frame receiver body.Refuse news says = absurd (cc)
 sent_says frame receiver (body.Done join index value) news says = absurd (cc)
 sent_says frame receiver (body.Park join closure) news says =
-    let it : Told = record { frame = closure.id; news = ByPark receiver } in let both = in_told frame it news says in inr (sym both.1, join, closure, refl, both.0)
+    let it : Told = record { frame = closure.id; news = ByPark receiver } in
+    let both = in_told frame it news says in inr (sym both.1, join, closure, refl, both.0)
 sent_says frame receiver (body.Add other index word addend) news says = absurd (cc)
 sent_says frame receiver (body.Added old) news says = absurd (cc)
 
 -- what an event says of a frame: it is sent, or taken up
 pub data Says (frame : FrameId) (moved : Moved) (news : News) : Type 0 where
-  SaysGrant : (message : Msg) (closure : Closure) → moved.event ≡ Sent message → message.body ≡ body.Grant closure → closure.id ≡ frame → news ≡ ByGrant message.receiver → Says frame moved news
-  SaysPark : (message : Msg) (join : JoinId) (closure : Closure) → moved.event ≡ Sent message → message.body ≡ body.Park join closure → closure.id ≡ frame → news ≡ ByPark message.receiver
+  SaysGrant : (message : Msg) (closure : Closure) → moved.event ≡ Sent message → message.body ≡ body.Grant closure → closure.id ≡ frame
+      → news ≡ ByGrant message.receiver → Says frame moved news
+  SaysPark : (message : Msg) (join : JoinId) (closure : Closure) → moved.event ≡ Sent message → message.body ≡ body.Park join closure → closure.id ≡ frame
+      → news ≡ ByPark message.receiver
       → Says frame moved news
   SaysUp : moved.event ≡ Did (item.TakeUp frame) → news ≡ IsUp moved.node → Says frame moved news
 
@@ -64,7 +68,8 @@ sent_on : (frame : FrameId) (moved : Moved) (news : News) (message : Msg) → mo
 sent_on frame moved news message is (inl all) = SaysGrant message all.1 is all.2 all.3 all.0
 sent_on frame moved news message is (inr all) = SaysPark message all.1 all.2 is all.3 all.4 all.0
 
-says_on : (frame : FrameId) (moved : Moved) (news : News) (event : Event) → moved.event ≡ event → news_in frame (told_event moved.node event) ≡ Some news → Says frame moved news
+says_on : (frame : FrameId) (moved : Moved) (news : News) (event : Event) → moved.event ≡ event → news_in frame (told_event moved.node event) ≡ Some news
+    → Says frame moved news
 says_on frame moved news (Did (item.Act other index act)) is says = absurd (cc)
 says_on frame moved news (Did (item.Tick other)) is says = absurd (cc)
 says_on frame moved news (Did (item.Drop page)) is says = absurd (cc)
@@ -92,7 +97,8 @@ pub record Said (frame : FrameId) (news : News) (course : Course) : Type 0 where
   pub says : news_on frame moved ≡ Some news
   pub none : (later : ℕ) (other : Moved) → post < later → at course later ≡ Some other → news_on frame other ≡ None
 
-said_on : (frame : FrameId) (news : News) (moved : Moved) (course : Course) (here : Option News) → news_on frame moved ≡ here → or_else here (last_news frame course) ≡ Some news
+said_on : (frame : FrameId) (news : News) (moved : Moved) (course : Course) (here : Option News) → news_on frame moved ≡ here
+    → or_else here (last_news frame course) ≡ Some news
     → (last_news frame course ≡ Some news → Said frame news course) → Said frame news (moved ∷ course)
 said_on frame news moved course (Some other) is says rest =
     let same : other ≡ news = cc in record {
@@ -112,7 +118,8 @@ said_on frame news moved course None is says rest =
       none = λ later second behind found. on later second behind (eqb later (length course)) refl found before.none;
     }
   where
-    on : {post : ℕ} (later : ℕ) (second : Moved) → post < later → (b : Bool) → eqb later (length course) ≡ b → cond b (Some moved) (at course later) ≡ Some second
+    on : {post : ℕ} (later : ℕ) (second : Moved) → post < later → (b : Bool) → eqb later (length course) ≡ b
+        → cond b (Some moved) (at course later) ≡ Some second
         → ((later : ℕ) (other : Moved) → post < later → at course later ≡ Some other → news_on frame other ≡ None) → news_on frame second ≡ None
     on later second behind true same found none = let one : moved ≡ second = cc in subst (λ it. news_on frame it ≡ None) one is
     on later second behind false same found none = none later second behind found
@@ -130,7 +137,8 @@ pub record Rose (frame : FrameId) (course : Course) : Type 0 where
   pub parked : last_news frame (before course up) ≡ Some (ByPark moved.node)
   pub none : (later : ℕ) (other : Moved) (node : ℕ) → up < later → at course later ≡ Some other → news_on frame other ≡ Some (IsUp node) → ⊥
 
-rose_later : (frame : FrameId) (moved : Moved) (course : Course) → ((node : ℕ) → news_on frame moved ≡ Some (IsUp node) → ⊥) → Rose frame course → Rose frame (moved ∷ course)
+rose_later : (frame : FrameId) (moved : Moved) (course : Course) → ((node : ℕ) → news_on frame moved ≡ Some (IsUp node) → ⊥) → Rose frame course
+    → Rose frame (moved ∷ course)
 rose_later frame moved course not rose =
     let inside = within course rose.up rose.moved rose.is in record {
       up = rose.up;
@@ -141,8 +149,10 @@ rose_later frame moved course not rose =
       none = λ later second node behind found. on later second node behind (eqb later (length course)) refl found rose.none;
     }
   where
-    on : {up : ℕ} (later : ℕ) (second : Moved) (node : ℕ) → up < later → (b : Bool) → eqb later (length course) ≡ b → cond b (Some moved) (at course later) ≡ Some second
-        → ((later : ℕ) (other : Moved) (node : ℕ) → up < later → at course later ≡ Some other → news_on frame other ≡ Some (IsUp node) → ⊥) → news_on frame second ≡ Some (IsUp node) → ⊥
+    on : {up : ℕ} (later : ℕ) (second : Moved) (node : ℕ) → up < later → (b : Bool) → eqb later (length course) ≡ b
+        → cond b (Some moved) (at course later) ≡ Some second
+        → ((later : ℕ) (other : Moved) (node : ℕ) → up < later → at course later ≡ Some other → news_on frame other ≡ Some (IsUp node) → ⊥)
+        → news_on frame second ≡ Some (IsUp node) → ⊥
     on later second node behind true same found none = let one : moved ≡ second = cc in subst (λ it. news_on frame it ≡ Some (IsUp node) → ⊥) one (not node)
     on later second node behind false same found none = none later second node behind found
 
@@ -151,7 +161,8 @@ up_event frame moved node (SaysGrant message closure is body_is id news) = absur
 up_event frame moved node (SaysPark message join closure is body_is id news) = absurd (cc)
 up_event frame moved node (SaysUp is news) = is
 
-rose_on : (frame : FrameId) (moved : Moved) (course : Course) (here : Option News) → news_on frame moved ≡ here → risen_on moved.node here (last_news frame course) (Risen frame course)
+rose_on : (frame : FrameId) (moved : Moved) (course : Course) (here : Option News) → news_on frame moved ≡ here
+    → risen_on moved.node here (last_news frame course) (Risen frame course)
     → (Risen frame course → Rose frame course) → Rose frame (moved ∷ course)
 rose_on frame moved course None is risen rest = rose_later frame moved course (λ node up. absurd (cc)) (rest risen)
 rose_on frame moved course (Some (ByGrant other)) is risen rest = rose_later frame moved course (λ node up. absurd (cc)) (rest risen)
@@ -186,7 +197,8 @@ module _ (cluster : Cluster) (course : Course) where
       → events post ≡ Post moved.node node (Grant frame)
   grant_event post moved frame node found (SaysGrant message closure is body_is id news) =
       let to : message.receiver ≡ node = cc in
-      sent_event post moved message (body.Grant closure) found is body_is ∙ ap (λ it. Post moved.node it (Grant closure.id)) to ∙ ap (λ it. Post moved.node node (Grant it)) id
+      sent_event post moved message (body.Grant closure) found is body_is ∙ ap (λ it. Post moved.node it (Grant closure.id)) to
+          ∙ ap (λ it. Post moved.node node (Grant it)) id
   grant_event post moved frame node found (SaysPark message join closure is body_is id news) = absurd (cc)
   grant_event post moved frame node found (SaysUp is news) = absurd (cc)
 
@@ -195,10 +207,12 @@ module _ (cluster : Cluster) (course : Course) where
   park_event post moved frame node found (SaysGrant message closure is body_is id news) = absurd (cc)
   park_event post moved frame node found (SaysPark message join closure is body_is id news) =
       let to : message.receiver ≡ node = cc in
-      sent_event post moved message (body.Park join closure) found is body_is ∙ ap (λ it. Post moved.node it (Park closure.id)) to ∙ ap (λ it. Post moved.node node (Park it)) id
+      sent_event post moved message (body.Park join closure) found is body_is ∙ ap (λ it. Post moved.node it (Park closure.id)) to
+          ∙ ap (λ it. Post moved.node node (Park it)) id
   park_event post moved frame node found (SaysUp is news) = absurd (cc)
 
-  up_at : (post : ℕ) (moved : Moved) (frame : FrameId) → at course post ≡ Some moved → moved.event ≡ Did (item.TakeUp frame) → events post ≡ TakeUp moved.node frame
+  up_at : (post : ℕ) (moved : Moved) (frame : FrameId) → at course post ≡ Some moved → moved.event ≡ Did (item.TakeUp frame)
+      → events post ≡ TakeUp moved.node frame
   up_at post moved frame found is =
       event_at cluster course post moved found ∙ ap (λ event. happens_to cluster (before course post) moved.node moved.message event) is
 
@@ -206,28 +220,18 @@ module _ (cluster : Cluster) (course : Course) where
   up_says frame moved is = rw (is, same_self frame) refl
 
   -- where a frame is taken up something is said of it
-  pub taken_says : (position node : ℕ) (frame : FrameId) → events position ≡ TakeUp node frame → (moved : Moved) × (at course position ≡ Some moved) × (news_on frame moved ≡ Some (IsUp moved.node))
+  pub taken_says : (position node : ℕ) (frame : FrameId) → events position ≡ TakeUp node frame
+      → (moved : Moved) × (at course position ≡ Some moved) × (news_on frame moved ≡ Some (IsUp moved.node))
   taken_says position node frame is =
       let happens = took_up_is cluster course position node frame is in (happens.moved, happens.is, up_says frame happens.moved happens.event_is)
 
-  none_since : (now post : ℕ) (frame : FrameId) → ((later : ℕ) (other : Moved) → post < later → at (first now course) later ≡ Some other → news_on frame other ≡ None)
+  none_since : (now post : ℕ) (frame : FrameId)
+      → ((later : ℕ) (other : Moved) → post < later → at (first now course) later ≡ Some other → news_on frame other ≡ None)
       → NoneBetween (TakesUp events frame) post now
   none_since now post frame none = λ position behind less takes.
       let found = taken_says position takes.0 frame takes.1 in
       let nothing = none position found.0 behind (at_first course now position found.0 less found.1) in
       let up = found.2 in absurd (cc)
-
-  -- it was granted to the node, and was not taken up since
-  pub from_grant : (now node : ℕ) (frame : FrameId) → last_news frame (first now course) ≡ Some (ByGrant node) → FromGrant events now node frame
-  from_grant now node frame is =
-      let it = said frame (ByGrant node) (first now course) is in
-      let found = at_whole course now it.post it.moved it.is in record {
-        post = it.post;
-        sender = it.moved.node;
-        is = grant_event it.post it.moved frame node found (says frame it.moved (ByGrant node) it.says);
-        before = before_position course now it.post it.moved it.is;
-        none = none_since now it.post frame it.none;
-      }
 
   -- so with a Park
   pub from_park : (now node : ℕ) (frame : FrameId) → last_news frame (first now course) ≡ Some (ByPark node) → FromPark events now node frame

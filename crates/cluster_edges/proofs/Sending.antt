@@ -26,11 +26,13 @@ pub told_last : (moved : Moved) (course : Course) (it : Told) → told moved ≡
 told_last moved course it is = rw (is, same_self it.frame) refl
 
 -- a count goes by names alone
-left_count : (frame : FrameId) (above : List Life) (first second : Life) → first.id ≡ second.id → count frame (marks (above ++ (first ∷ []))) ≡ count frame (marks (above ++ (second ∷ [])))
+left_count : (frame : FrameId) (above : List Life) (first second : Life) → first.id ≡ second.id
+    → count frame (marks (above ++ (first ∷ []))) ≡ count frame (marks (above ++ (second ∷ [])))
 left_count frame [] first second is = ap (λ id. one (same_frame id frame) + 0) is
 left_count frame (life ∷ above) first second is = ap (λ it. one (same_frame life.id frame) + it) (left_count frame above first second is)
 
-module _ (cluster : Cluster) (course : Course) (number : ℕ) (here : Option PostAt) (placed : Placed cluster number course (frames_of (node_at cluster number) (own number course)))
+module _ (cluster : Cluster) (course : Course) (number : ℕ) (here : Option PostAt)
+    (placed : Placed cluster number course (frames_of (node_at cluster number) (own number course)))
     (once : (frame : FrameId) → count frame (marks_at cluster course number) ≤ 1) where
   abbrev node : Node
   node = node_at cluster number
@@ -56,7 +58,8 @@ module _ (cluster : Cluster) (course : Course) (number : ℕ) (here : Option Pos
     named = named_more cluster (rising life.id) course life.id ready.named;
   }
     where
-      parked : life.join ≡ None → ((life.join ≡ None) × (last_news life.id course ≡ Some (ByPark number))) ⊎ ((is_some life.join ≡ true) × (last_news life.id course ≡ Some (ByGrant number)))
+      parked : life.join ≡ None → ((life.join ≡ None) × (last_news life.id course ≡ Some (ByPark number)))
+          ⊎ ((is_some life.join ≡ true) × (last_news life.id course ≡ Some (ByGrant number)))
           → last_news life.id course ≡ Some (ByPark number)
       parked none (inl both) = both.1
       parked none (inr both) = let not : is_some life.join ≡ false = ap is_some none in absurd (cc)
@@ -68,7 +71,8 @@ module _ (cluster : Cluster) (course : Course) (number : ℕ) (here : Option Pos
       let all : EachLife (OnReady cluster number course) (life ∷ younger) = subst (EachLife (OnReady cluster number course)) is placed.ready in
       let least = once life.id in
       let total = counts life.id frames in
-      let here_count : count life.id (marks frames.ready) ≡ one (same_frame life.id life.id) + count life.id (marks younger) = ap (λ it. count life.id (marks it)) is in
+      let here_count : count life.id (marks frames.ready) ≡ one (same_frame life.id life.id) + count life.id (marks younger) =
+          ap (λ it. count life.id (marks it)) is in
       let self = one_same life.id life.id refl in
       let no_more : count life.id (marks younger) ≡ 0 = omega (arith, least, total, here_count, self) in
       let none_parked : count life.id (parked_marks frames.parked) ≡ 0 = omega (arith, least, total, here_count, self) in
@@ -84,12 +88,14 @@ module _ (cluster : Cluster) (course : Course) (number : ℕ) (here : Option Pos
       → Placed cluster number (rising frame ∷ course) (taken_up frames.stack frames.ready frames.parked)
   up_placed frame rest may =
       subst (λ it. Placed cluster number (rising it ∷ course) (taken_up frames.stack frames.ready frames.parked)) (sym may.named)
-      (subst (λ it. Placed cluster number (rising may.life.id ∷ course) (taken_up frames.stack it frames.parked)) (sym may.oldest) (up_first may.life may.younger may.oldest))
+      (subst (λ it. Placed cluster number (rising may.life.id ∷ course) (taken_up frames.stack it frames.parked)) (sym may.oldest)
+          (up_first may.life may.younger may.oldest))
 
   pub up_counted : (frame : FrameId) (rest : List Item) → MayTakeUp node past frame rest → 1 ≤ count frame (marks_of frames)
   up_counted frame rest may =
       let total = counts frame frames in
-      let here_count : count frame (marks frames.ready) ≡ one (same_frame may.life.id frame) + count frame (marks may.younger) = ap (λ it. count frame (marks it)) may.oldest in
+      let here_count : count frame (marks frames.ready) ≡ one (same_frame may.life.id frame) + count frame (marks may.younger) =
+          ap (λ it. count frame (marks it)) may.oldest in
       let self = one_same may.life.id frame (sym may.named) in omega (arith, total, here_count, self)
 
   -- ---- Grants
@@ -101,7 +107,8 @@ module _ (cluster : Cluster) (course : Course) (number : ℕ) (here : Option Pos
   grant_counted receiver closure may =
       let total = counts closure.id frames in
       let bottom = count_bottom closure.id may.above may.child may.parent in
-      let here_count : count closure.id (marks frames.stack) ≡ count closure.id (marks (may.above ++ (may.child ∷ (may.parent ∷ [])))) = ap (λ it. count closure.id (marks it)) may.stack in
+      let here_count : count closure.id (marks frames.stack) ≡ count closure.id (marks (may.above ++ (may.child ∷ (may.parent ∷ [])))) =
+          ap (λ it. count closure.id (marks it)) may.stack in
       let self = one_same may.parent.id closure.id (sym may.state.id) in omega (arith, total, bottom, here_count, self)
 
   pub grant_placed : (message : Msg) (receiver : ℕ) (closure : Closure) → told (sending message) ≡ Some (record { frame = closure.id; news = ByGrant receiver })
@@ -111,15 +118,19 @@ module _ (cluster : Cluster) (course : Course) (number : ℕ) (here : Option Pos
       let moved = sending message in
       let child : Life = record may.child { link = link_to closure.join } in
       let left = may.above ++ (child ∷ []) in
-      let left_is : without_bottom closure.join frames.stack ≡ left = ap (without_bottom closure.join) may.stack ∙ bottom_gone closure.join may.above may.child may.parent in
-      let all = each_parts (OnStack cluster number course) may.above (may.child ∷ (may.parent ∷ [])) (subst (EachLife (OnStack cluster number course)) may.stack placed.stack) in
+      let left_is : without_bottom closure.join frames.stack ≡ left =
+          ap (without_bottom closure.join) may.stack ∙ bottom_gone closure.join may.above may.child may.parent in
+      let all = each_parts (OnStack cluster number course) may.above (may.child ∷ (may.parent ∷ []))
+          (subst (EachLife (OnStack cluster number course)) may.stack placed.stack) in
       let still : EachLife (OnStack cluster number course) left = each_append (OnStack cluster number course) may.above (child ∷ []) all.0 (all.1.0, tt) in
       let least = once closure.id in
       let total = counts closure.id frames in
       let bottom = count_bottom closure.id may.above may.child may.parent in
-      let here_count : count closure.id (marks frames.stack) ≡ count closure.id (marks (may.above ++ (may.child ∷ (may.parent ∷ [])))) = ap (λ it. count closure.id (marks it)) may.stack in
+      let here_count : count closure.id (marks frames.stack) ≡ count closure.id (marks (may.above ++ (may.child ∷ (may.parent ∷ [])))) =
+          ap (λ it. count closure.id (marks it)) may.stack in
       let self = one_same may.parent.id closure.id (sym may.state.id) in
-      let same : count closure.id (marks left) ≡ count closure.id (marks (may.above ++ (may.child ∷ []))) = left_count closure.id may.above child may.child refl in
+      let same : count closure.id (marks left) ≡ count closure.id (marks (may.above ++ (may.child ∷ []))) =
+          left_count closure.id may.above child may.child refl in
       let none_left : count closure.id (marks left) ≡ 0 = omega (arith, least, total, bottom, here_count, self, same) in
       let none_ready : count closure.id (marks frames.ready) ≡ 0 = omega (arith, least, total, bottom, here_count, self) in
       let none_parked : count closure.id (parked_marks frames.parked) ≡ 0 = omega (arith, least, total, bottom, here_count, self) in
@@ -137,14 +148,16 @@ module _ (cluster : Cluster) (course : Course) (number : ℕ) (here : Option Pos
 
   pub park_count : (receiver : ℕ) (join : JoinId) (closure : Closure) → MayPark node past receiver join closure → 1 ≤ count closure.id (marks frames.stack)
   park_count receiver join closure may =
-      let alone : count closure.id (marks (live frames.stack)) ≡ one (same_frame may.life.id closure.id) + 0 = ap (λ it. count closure.id (marks it)) may.at_join.alone in
+      let alone : count closure.id (marks (live frames.stack)) ≡ one (same_frame may.life.id closure.id) + 0 =
+          ap (λ it. count closure.id (marks it)) may.at_join.alone in
       let less = count_live closure.id frames.stack in
       let self = one_same may.life.id closure.id (sym may.state.id) in omega (arith, alone, less, self)
 
   pub park_counted : (receiver : ℕ) (join : JoinId) (closure : Closure) → MayPark node past receiver join closure → 1 ≤ count closure.id (marks_of frames)
   park_counted receiver join closure may = let total = counts closure.id frames in let some = park_count receiver join closure may in omega (arith, total, some)
 
-  pub park_placed : (message : Msg) (receiver : ℕ) (join : JoinId) (closure : Closure) → told (sending message) ≡ Some (record { frame = closure.id; news = ByPark receiver })
+  pub park_placed : (message : Msg) (receiver : ℕ) (join : JoinId) (closure : Closure)
+      → told (sending message) ≡ Some (record { frame = closure.id; news = ByPark receiver })
       → MayPark node past receiver join closure → Placed cluster number (sending message ∷ course) (with_stack [] frames)
   park_placed message receiver join closure is may =
       let it : Told = record { frame = closure.id; news = ByPark receiver } in

@@ -45,7 +45,8 @@ module _ (cluster : Cluster) (course : Course) where
   -- ---- the first frame acts
 
   -- behind its Sync no child is away
-  pub synced : (life : Life) → ((child : FrameId) → Gone cluster course life.id child → ⊥) → Standing cluster course (tie_of life) → Standing cluster course (tie_of (acted act.Sync life))
+  pub synced : (life : Life) → ((child : FrameId) → Gone cluster course life.id child → ⊥) → Standing cluster course (tie_of life)
+      → Standing cluster course (tie_of (acted act.Sync life))
   synced life none standing = record {
     fits = record {
       known = standing.fits.known;
@@ -59,7 +60,8 @@ module _ (cluster : Cluster) (course : Course) where
 
   -- a child at its start
   pub born_standing : (node : Node) (child : FrameId) (procedure : ℕ) (arguments : List ℤ) (parent : Life) → Known cluster child course
-      → ((other : FrameId) → Gone cluster course child other → ⊥) → (Parking child course → ⊥) → Standing cluster course (tie_of (newborn node child procedure arguments parent))
+      → ((other : FrameId) → Gone cluster course child other → ⊥) → (Parking child course → ⊥)
+      → Standing cluster course (tie_of (newborn node child procedure arguments parent))
   born_standing node child procedure arguments parent known none not_parked = record {
     fits = record {
       known = known;
@@ -85,7 +87,8 @@ module _ (cluster : Cluster) (course : Course) where
   acted_stacked node (act.Read word value) life below acting stacked = stacked
   acted_stacked node (act.Write word value) life below acting stacked = stacked
   acted_stacked node (act.Print value) life below acting stacked = stacked
-  acted_stacked node (act.Spawn child procedure arguments) life below acting stacked = (born_standing node child procedure arguments life acting.1 acting.2 acting.3, acting.0, stacked)
+  acted_stacked node (act.Spawn child procedure arguments) life below acting stacked =
+      (born_standing node child procedure arguments life acting.1 acting.2 acting.3, acting.0, stacked)
   acted_stacked node act.Sync life below acting stacked = (synced life acting stacked.0, stacked.1, stacked.2)
 
   -- ---- ready lists

@@ -33,7 +33,8 @@ none_on : (b rest : Bool) → b ≡ false → rest ≡ false → b || rest ≡ f
 none_on true rest here is = absurd (cc)
 none_on false rest here is = is
 
-pub any_life : (Holds : Property) (frame : FrameId) (lives : List Life) → EachLife Holds lives → list_any (λ life. same_frame life.id frame) lives ≡ true → (join : Option JoinId) × Holds frame join
+pub any_life : (Holds : Property) (frame : FrameId) (lives : List Life) → EachLife Holds lives → list_any (λ life. same_frame life.id frame) lives ≡ true
+    → (join : Option JoinId) × Holds frame join
 any_life Holds frame [] all any = absurd (cc)
 any_life Holds frame (life ∷ lives) all any = on (same_frame life.id frame) refl any (any_life Holds frame lives all.1)
   where
@@ -47,19 +48,22 @@ any_life Holds frame (life ∷ lives) all any = on (same_frame life.id frame) re
 pub since_next : (post : ℕ) (moved : Moved) (course : Course) → post < length course → since_position post (moved ∷ course) ≡ moved ∷ since_position post course
 since_next post moved course less = let not : leb (length course) post ≡ false = grind (arith, nat_tests) in rw (not, since_position) refl
 
-since_none_on : (frame : FrameId) (post : ℕ) (moved : Moved) (course : Course) (b : Bool) → leb (length course) post ≡ b → (post < length course → takes_up frame moved ≡ false)
+since_none_on : (frame : FrameId) (post : ℕ) (moved : Moved) (course : Course) (b : Bool) → leb (length course) post ≡ b
+    → (post < length course → takes_up frame moved ≡ false)
     → list_any (takes_up frame) (since_position post course) ≡ false
     → list_any (takes_up frame) (elim b [ true ↦ [] | false ↦ moved ∷ since_position post course ]) ≡ false
 since_none_on frame post moved course true is here rest = refl
 since_none_on frame post moved course false is here rest =
     none_on (takes_up frame moved) (list_any (takes_up frame) (since_position post course)) (here (grind (arith, nat_tests))) rest
 
-pub since_none : (frame : FrameId) (post : ℕ) (course : Course) → ((later : ℕ) (other : Moved) → post < later → at course later ≡ Some other → takes_up frame other ≡ false)
+pub since_none : (frame : FrameId) (post : ℕ) (course : Course)
+    → ((later : ℕ) (other : Moved) → post < later → at course later ≡ Some other → takes_up frame other ≡ false)
     → list_any (takes_up frame) (since_position post course) ≡ false
 since_none frame post [] none = refl
 since_none frame post (moved ∷ course) none =
     since_none_on frame post moved course (leb (length course) post) refl (λ less. none (length course) moved less (at_last moved course))
-    (since_none frame post course (λ later other behind found. none later other behind (at_behind (moved ∷ []) course later (within course later other found) ∙ found)))
+    (since_none frame post course
+        (λ later other behind found. none later other behind (at_behind (moved ∷ []) course later (within course later other found) ∙ found)))
 
 -- an event that says nothing of a frame does not take it up
 untaken_item : (frame : FrameId) (node : ℕ) (done : Item) → news_in frame (told_item node done) ≡ None → takes_up_item frame done ≡ false
@@ -87,7 +91,8 @@ untaken frame moved none = untaken_event frame moved.node moved.event moved.mess
 
 -- ---- the stage of what was sent
 
-stage_sends : (cluster : Cluster) (course : Course) (post : ℕ) (moved : Moved) (message : Msg) (frame : FrameId) → moved.event ≡ Sent message → frame_in message.body ≡ Some frame
+stage_sends : (cluster : Cluster) (course : Course) (post : ℕ) (moved : Moved) (message : Msg) (frame : FrameId) → moved.event ≡ Sent message
+    → frame_in message.body ≡ Some frame
     → stage_by cluster course post (Some moved) ≡ stage_of cluster course post message.receiver frame
 stage_sends cluster course post moved message frame is brings = rw is (ap (stage_sent cluster course post message.receiver) brings)
 

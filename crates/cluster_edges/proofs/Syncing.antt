@@ -63,11 +63,13 @@ since_later events now frame not since = record {
   none = λ position behind less syncing. on position (one_or_less position now less) behind syncing since.none;
 }
   where
-    on : {post : ℕ} (position : ℕ) → (position ≡ now) ⊎ (position < now) → post < position → Syncs events frame position → NoneBetween (Syncs events frame) post now → ⊥
+    on : {post : ℕ} (position : ℕ) → (position ≡ now) ⊎ (position < now) → post < position → Syncs events frame position
+        → NoneBetween (Syncs events frame) post now → ⊥
     on position (inl same) behind syncing none = not (subst (Syncs events frame) same syncing)
     on position (inr less) behind syncing none = none position behind less syncing
 
-since_now : (events : Events) (now sender receiver : ℕ) (frame : FrameId) → events now ≡ Post sender receiver (Grant frame) → GrantedSince events (suc now) frame
+since_now : (events : Events) (now sender receiver : ℕ) (frame : FrameId) → events now ≡ Post sender receiver (Grant frame)
+    → GrantedSince events (suc now) frame
 since_now events now sender receiver frame is = record {
   post = now;
   sender = sender;
@@ -77,37 +79,59 @@ since_now events now sender receiver frame is = record {
   none = λ position behind less syncing. omega (arith, behind, less);
 }
 
-away_on : (events : Events) (stack : Stacks) (now : ℕ) (frame child : FrameId) (event : log.Event) → events now ≡ event → away_after stack now event (Away events stack now) frame child
+away_on : (events : Events) (stack : Stacks) (now : ℕ) (frame child : FrameId) (event : log.Event) → events now ≡ event
+    → away_after stack now event (Away events stack now) frame child
     → (Away events stack now frame child → GrantedSince events now frame) → GrantedSince events (suc now) frame
 away_on events stack now frame child log.Nothing is away rest = since_later events now frame (λ syncing. let sync = syncing.1 in absurd (cc)) (rest away)
-away_on events stack now frame child (log.Tick number other) is away rest = since_later events now frame (λ syncing. let sync = syncing.1 in absurd (cc)) (rest away)
-away_on events stack now frame child (log.Drop number page) is away rest = since_later events now frame (λ syncing. let sync = syncing.1 in absurd (cc)) (rest away)
-away_on events stack now frame child (log.TakeUp number other) is away rest = since_later events now frame (λ syncing. let sync = syncing.1 in absurd (cc)) (rest away)
-away_on events stack now frame child (log.OwnFetch number page words) is away rest = since_later events now frame (λ syncing. let sync = syncing.1 in absurd (cc)) (rest away)
-away_on events stack now frame child (log.OwnReconcile number part) is away rest = since_later events now frame (λ syncing. let sync = syncing.1 in absurd (cc)) (rest away)
-away_on events stack now frame child (log.Took number post) is away rest = since_later events now frame (λ syncing. let sync = syncing.1 in absurd (cc)) (rest away)
+away_on events stack now frame child (log.Tick number other) is away rest =
+    since_later events now frame (λ syncing. let sync = syncing.1 in absurd (cc)) (rest away)
+away_on events stack now frame child (log.Drop number page) is away rest =
+    since_later events now frame (λ syncing. let sync = syncing.1 in absurd (cc)) (rest away)
+away_on events stack now frame child (log.TakeUp number other) is away rest =
+    since_later events now frame (λ syncing. let sync = syncing.1 in absurd (cc)) (rest away)
+away_on events stack now frame child (log.OwnFetch number page words) is away rest =
+    since_later events now frame (λ syncing. let sync = syncing.1 in absurd (cc)) (rest away)
+away_on events stack now frame child (log.OwnReconcile number part) is away rest =
+    since_later events now frame (λ syncing. let sync = syncing.1 in absurd (cc)) (rest away)
+away_on events stack now frame child (log.Took number post) is away rest =
+    since_later events now frame (λ syncing. let sync = syncing.1 in absurd (cc)) (rest away)
 away_on events stack now frame child (log.End number) is away rest = since_later events now frame (λ syncing. let sync = syncing.1 in absurd (cc)) (rest away)
-away_on events stack now frame child (Acts number parent (log.Read word value)) is away rest = since_later events now frame (λ syncing. let sync = syncing.1 in absurd (cc)) (rest away)
-away_on events stack now frame child (Acts number parent (log.Write word value)) is away rest = since_later events now frame (λ syncing. let sync = syncing.1 in absurd (cc)) (rest away)
-away_on events stack now frame child (Acts number parent (log.Add word old addend)) is away rest = since_later events now frame (λ syncing. let sync = syncing.1 in absurd (cc)) (rest away)
-away_on events stack now frame child (Acts number parent (log.Print value)) is away rest = since_later events now frame (λ syncing. let sync = syncing.1 in absurd (cc)) (rest away)
-away_on events stack now frame child (Acts number parent (log.Spawn spawned)) is away rest = since_later events now frame (λ syncing. let sync = syncing.1 in absurd (cc)) (rest away)
+away_on events stack now frame child (Acts number parent (log.Read word value)) is away rest =
+    since_later events now frame (λ syncing. let sync = syncing.1 in absurd (cc)) (rest away)
+away_on events stack now frame child (Acts number parent (log.Write word value)) is away rest =
+    since_later events now frame (λ syncing. let sync = syncing.1 in absurd (cc)) (rest away)
+away_on events stack now frame child (Acts number parent (log.Add word old addend)) is away rest =
+    since_later events now frame (λ syncing. let sync = syncing.1 in absurd (cc)) (rest away)
+away_on events stack now frame child (Acts number parent (log.Print value)) is away rest =
+    since_later events now frame (λ syncing. let sync = syncing.1 in absurd (cc)) (rest away)
+away_on events stack now frame child (Acts number parent (log.Spawn spawned)) is away rest =
+    since_later events now frame (λ syncing. let sync = syncing.1 in absurd (cc)) (rest away)
 away_on events stack now frame child (Acts number parent log.Sync) is away rest =
     since_later events now frame (λ syncing. let sync = syncing.1 in let same : parent ≡ frame = cc in away.1 same) (rest away.0)
-away_on events stack now frame child (Post number receiver (log.Fetch page)) is away rest = since_later events now frame (λ syncing. let sync = syncing.1 in absurd (cc)) (rest away)
-away_on events stack now frame child (Post number receiver (log.Page page words)) is away rest = since_later events now frame (λ syncing. let sync = syncing.1 in absurd (cc)) (rest away)
-away_on events stack now frame child (Post number receiver (log.Reconcile parts)) is away rest = since_later events now frame (λ syncing. let sync = syncing.1 in absurd (cc)) (rest away)
-away_on events stack now frame child (Post number receiver log.Ack) is away rest = since_later events now frame (λ syncing. let sync = syncing.1 in absurd (cc)) (rest away)
-away_on events stack now frame child (Post number receiver log.Ask) is away rest = since_later events now frame (λ syncing. let sync = syncing.1 in absurd (cc)) (rest away)
+away_on events stack now frame child (Post number receiver (log.Fetch page)) is away rest =
+    since_later events now frame (λ syncing. let sync = syncing.1 in absurd (cc)) (rest away)
+away_on events stack now frame child (Post number receiver (log.Page page words)) is away rest =
+    since_later events now frame (λ syncing. let sync = syncing.1 in absurd (cc)) (rest away)
+away_on events stack now frame child (Post number receiver (log.Reconcile parts)) is away rest =
+    since_later events now frame (λ syncing. let sync = syncing.1 in absurd (cc)) (rest away)
+away_on events stack now frame child (Post number receiver log.Ack) is away rest =
+    since_later events now frame (λ syncing. let sync = syncing.1 in absurd (cc)) (rest away)
+away_on events stack now frame child (Post number receiver log.Ask) is away rest =
+    since_later events now frame (λ syncing. let sync = syncing.1 in absurd (cc)) (rest away)
 away_on events stack now frame child (Post number receiver (log.Grant granted)) is (inl away) rest =
     since_later events now frame (λ syncing. let sync = syncing.1 in absurd (cc)) (rest away)
 away_on events stack now frame child (Post number receiver (log.Grant granted)) is (inr both) rest =
     since_now events now number receiver frame (is ∙ ap (λ it. Post number receiver (Grant it)) both.0)
-away_on events stack now frame child (Post number receiver log.Refuse) is away rest = since_later events now frame (λ syncing. let sync = syncing.1 in absurd (cc)) (rest away)
-away_on events stack now frame child (Post number receiver (log.Done parent done)) is away rest = since_later events now frame (λ syncing. let sync = syncing.1 in absurd (cc)) (rest away)
-away_on events stack now frame child (Post number receiver (log.Park parked)) is away rest = since_later events now frame (λ syncing. let sync = syncing.1 in absurd (cc)) (rest away)
-away_on events stack now frame child (Post number receiver (log.AddTo adder word addend)) is away rest = since_later events now frame (λ syncing. let sync = syncing.1 in absurd (cc)) (rest away)
-away_on events stack now frame child (Post number receiver (log.Added old)) is away rest = since_later events now frame (λ syncing. let sync = syncing.1 in absurd (cc)) (rest away)
+away_on events stack now frame child (Post number receiver log.Refuse) is away rest =
+    since_later events now frame (λ syncing. let sync = syncing.1 in absurd (cc)) (rest away)
+away_on events stack now frame child (Post number receiver (log.Done parent done)) is away rest =
+    since_later events now frame (λ syncing. let sync = syncing.1 in absurd (cc)) (rest away)
+away_on events stack now frame child (Post number receiver (log.Park parked)) is away rest =
+    since_later events now frame (λ syncing. let sync = syncing.1 in absurd (cc)) (rest away)
+away_on events stack now frame child (Post number receiver (log.AddTo adder word addend)) is away rest =
+    since_later events now frame (λ syncing. let sync = syncing.1 in absurd (cc)) (rest away)
+away_on events stack now frame child (Post number receiver (log.Added old)) is away rest =
+    since_later events now frame (λ syncing. let sync = syncing.1 in absurd (cc)) (rest away)
 
 -- A frame from below which a child was separated was granted in this block.
 pub away_granted : (events : Events) (stack : Stacks) (now : ℕ) (frame child : FrameId) → Away events stack now frame child → GrantedSince events now frame
@@ -122,13 +146,15 @@ pub record SyncsBy (frame : FrameId) (event : Event) : Type 0 where
   pub index : ℕ
   pub is : event ≡ Did (item.Act frame index act.Sync)
 
-act_syncs : (frame other : FrameId) (index : ℕ) (done : LoggedAct) (b : Bool) → same_frame other frame ≡ b → cond b (is_sync done) false ≡ true → SyncsBy frame (Did (item.Act other index done))
+act_syncs : (frame other : FrameId) (index : ℕ) (done : LoggedAct) (b : Bool) → same_frame other frame ≡ b → cond b (is_sync done) false ≡ true
+    → SyncsBy frame (Did (item.Act other index done))
 act_syncs frame other index done false is syncing = absurd (cc)
 act_syncs frame other index (act.Read word value) true is syncing = absurd (cc)
 act_syncs frame other index (act.Write word value) true is syncing = absurd (cc)
 act_syncs frame other index (act.Print value) true is syncing = absurd (cc)
 act_syncs frame other index (act.Spawn child procedure arguments) true is syncing = absurd (cc)
-act_syncs frame other index act.Sync true is syncing = record { index = index; is = ap (λ (it : FrameId). Did (item.Act it index act.Sync)) (same_name other frame is) }
+act_syncs frame other index act.Sync true is syncing =
+    record { index = index; is = ap (λ (it : FrameId). Did (item.Act it index act.Sync)) (same_name other frame is) }
 
 event_syncs : (frame : FrameId) (event : Event) → syncs_event frame event ≡ true → SyncsBy frame event
 event_syncs frame (Did (item.Act other index done)) syncing = act_syncs frame other index done (same_frame other frame) refl syncing
@@ -146,7 +172,8 @@ block_grant : (b : Bool) (rest : Bool) → rest ≡ true → block_on false b re
 block_grant true rest is = refl
 block_grant false rest is = is
 
-granted_on : (frame : FrameId) (moved : Moved) (course : Course) (post : ℕ) (grant : Moved) (b : Bool) → eqb post (length course) ≡ b → cond b (Some moved) (at course post) ≡ Some grant
+granted_on : (frame : FrameId) (moved : Moved) (course : Course) (post : ℕ) (grant : Moved) (b : Bool) → eqb post (length course) ≡ b
+    → cond b (Some moved) (at course post) ≡ Some grant
     → is_grant (news_on frame grant) ≡ true → syncs frame grant ≡ false
     → ((later : ℕ) (other : Moved) → post < later → at (moved ∷ course) later ≡ Some other → syncs frame other ≡ false)
     → (at course post ≡ Some grant → granted_here frame course ≡ true) → granted_here frame (moved ∷ course) ≡ true
@@ -161,7 +188,8 @@ granted_on frame moved course post grant false is found grants apart none rest =
     let before = rest found in
     rw silent (block_grant (is_grant (news_on frame moved)) (granted_here frame course) before)
 
-granted_at : (frame : FrameId) (course : Course) (post : ℕ) (grant : Moved) → at course post ≡ Some grant → is_grant (news_on frame grant) ≡ true → syncs frame grant ≡ false
+granted_at : (frame : FrameId) (course : Course) (post : ℕ) (grant : Moved) → at course post ≡ Some grant → is_grant (news_on frame grant) ≡ true
+    → syncs frame grant ≡ false
     → ((later : ℕ) (other : Moved) → post < later → at course later ≡ Some other → syncs frame other ≡ false) → granted_here frame course ≡ true
 granted_at frame [] post grant found grants apart none = absurd (cc)
 granted_at frame (moved ∷ course) post grant found grants apart none =
@@ -189,16 +217,19 @@ module _ (cluster : Cluster) (course : Course) (stepped : Stepped cluster course
       let says : news_on frame found.moved ≡ Some (ByGrant it.1.receiver) =
       ap (λ event. news_in frame (told_event found.moved.node event)) found.event_is ∙ ap (λ said. news_in frame (told_sent it.1.receiver said)) grant.1
       ∙ ap (λ b. cond b (Some (ByGrant it.1.receiver)) None) (subst (λ id. same_frame grant.0.id id ≡ true) grant.2 (same_self grant.0.id)) in
-      granted_at frame (first now course) since.post found.moved (at_first course now since.post found.moved since.before found.is) (ap is_grant says) (ap (syncs_event frame) found.event_is)
+      granted_at frame (first now course) since.post found.moved (at_first course now since.post found.moved since.before found.is) (ap is_grant says)
+          (ap (syncs_event frame) found.event_is)
       (λ later other behind there. on later other behind there (syncs frame other) refl)
     where
       on : (later : ℕ) (other : Moved) → since.post < later → at (first now course) later ≡ Some other → (b : Bool) → syncs frame other ≡ b → b ≡ false
       on later other behind there true syncing =
-          absurd (since.none later behind (before_position course now later other there) (sync_at later frame other (at_whole course now later other there) (event_syncs frame other.event syncing)))
+          absurd (since.none later behind (before_position course now later other there)
+              (sync_at later frame other (at_whole course now later other there) (event_syncs frame other.event syncing)))
       on later other behind there false syncing = refl
 
   acts_so : (node : Node) (past : Past) (frame : FrameId) (index : ℕ) (done : LoggedAct) (rest : List Item) (posts : List Msg)
-      → IsOwed node past (item.Act frame index done) ⊎ (IsFree past × MayDo node past (item.Act frame index done) rest posts) → MayAct node past frame index done
+      → IsOwed node past (item.Act frame index done) ⊎ (IsFree past × MayDo node past (item.Act frame index done) rest posts)
+      → MayAct node past frame index done
   acts_so node past frame index done rest posts (inl owed) = absurd owed
   acts_so node past frame index done rest posts (inr both) = both.1
 
@@ -214,7 +245,8 @@ module _ (cluster : Cluster) (course : Course) (stepped : Stepped cluster course
       let top : OnStack cluster node earlier may.life.id may.life.join = (subst (EachLife (OnStack cluster node earlier)) first.1 all).0 in
       subst (λ it. (granted_here it earlier ≡ false) ⊎ Risen it earlier) (sym may.acts.named) (top.joined may.makes.joined)
 
-  sync_does : (now node : ℕ) (frame : FrameId) → events now ≡ Acts node frame Sync → (index : ℕ) × DoesItem (node_at cluster node) (own node (first now course)) (item.Act frame index act.Sync)
+  sync_does : (now node : ℕ) (frame : FrameId) → events now ≡ Acts node frame Sync
+      → (index : ℕ) × DoesItem (node_at cluster node) (own node (first now course)) (item.Act frame index act.Sync)
   sync_does now node frame is = on (acted_is cluster course now node frame Sync is)
     where
       on : Acted cluster course now node frame Sync ⊎ Served cluster course now node frame Sync
@@ -225,7 +257,8 @@ module _ (cluster : Cluster) (course : Course) (stepped : Stepped cluster course
           let does : IsAllowed (node_at cluster node) (own node (first now course)) (Did (item.Act frame acted.index acted.act)) =
           subst (λ event. IsAllowed (node_at cluster node) (own node (first now course)) event) happens.event_is
           (subst (λ it. IsAllowed (node_at cluster it) (own it (first now course)) happens.moved.event) happens.by step.allowed) in
-          (acted.index, subst (λ it. DoesItem (node_at cluster node) (own node (first now course)) (item.Act frame acted.index it)) (sync_is acted.act acted.act_is) does)
+          (acted.index, subst (λ it. DoesItem (node_at cluster node) (own node (first now course)) (item.Act frame acted.index it))
+              (sync_is acted.act acted.act_is) does)
       on (inr served) = let not = served.act_is in absurd (cc)
 
   -- At a Sync of a frame that was granted in its block, its last take-up was from its join.
@@ -238,5 +271,6 @@ module _ (cluster : Cluster) (course : Course) (stepped : Stepped cluster course
       on (inr risen) = from_join cluster course now frame risen
 
   -- so it is where a child was separated from it
-  pub sync_joined : (stack : Stacks) (now node : ℕ) (frame child : FrameId) → events now ≡ Acts node frame Sync → Away events stack now frame child → Joined events now frame
+  pub sync_joined : (stack : Stacks) (now node : ℕ) (frame child : FrameId) → events now ≡ Acts node frame Sync → Away events stack now frame child
+      → Joined events now frame
   sync_joined stack now node frame child is away = sync_joined_if now node frame is (away_granted events stack now frame child away)

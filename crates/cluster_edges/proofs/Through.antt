@@ -39,7 +39,8 @@ pub each_always : (Holds : Property) → ((id : FrameId) (join : Option JoinId) 
 each_always Holds always [] = tt
 each_always Holds always (life ∷ lives) = (always life.id life.join, each_always Holds always lives)
 
-pub parked_append_each : (Holds : FrameId → Type 0) (front back : List Parked) → EachParked Holds front → EachParked Holds back → EachParked Holds (front ++ back)
+pub parked_append_each : (Holds : FrameId → Type 0) (front back : List Parked) → EachParked Holds front → EachParked Holds back
+    → EachParked Holds (front ++ back)
 parked_append_each Holds [] back first second = second
 parked_append_each Holds (one ∷ front) back first second = (first.0, parked_append_each Holds front back first.1 second)
 
@@ -80,7 +81,8 @@ each_added Holds old (life ∷ below) all = all
 -- ---- complete joins
 
 joined_on : (Holds : Property) (node : Node) (past : Past) (first : Parked) (parked : List Parked) (b : Bool) → Holds first.closure.id None
-    → EachLife Holds (all_joined node past parked) → EachLife Holds (cond b (joined node past first ∷ all_joined node past parked) (all_joined node past parked))
+    → EachLife Holds (all_joined node past parked)
+    → EachLife Holds (cond b (joined node past first ∷ all_joined node past parked) (all_joined node past parked))
 joined_on Holds node past first parked true here all = (here, all)
 joined_on Holds node past first parked false here all = all
 

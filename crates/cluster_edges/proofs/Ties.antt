@@ -99,11 +99,13 @@ gone_on (Ended end) stack IsGone frame child = IsGone frame child
 -- the child was separated from the frame since its last Sync
 abbrev pub Gone : Cluster → Course → FrameId → FrameId → Type 0
 Gone cluster [] frame child = ⊥
-Gone cluster (moved ∷ course) frame child = gone_on moved.event (stack_of (node_at cluster moved.node) (own moved.node course)) (Gone cluster course) frame child
+Gone cluster (moved ∷ course) frame child =
+    gone_on moved.event (stack_of (node_at cluster moved.node) (own moved.node course)) (Gone cluster course) frame child
 
 -- a Done that says so is posted
 abbrev pub Tells : Cluster → Course → Moved → FrameId → FrameId → Type 0
-Tells cluster course moved frame child = (message : Msg) × (moved.event ≡ Sent message) × (note_of cluster moved.node course message.body ≡ log.Done frame child)
+Tells cluster course moved frame child =
+    (message : Msg) × (moved.event ≡ Sent message) × (note_of cluster moved.node course message.body ≡ log.Done frame child)
 
 -- the child has told its return to the join of the frame
 abbrev pub Told : Cluster → Course → FrameId → FrameId → Type 0
@@ -111,7 +113,8 @@ Told cluster [] frame child = ⊥
 Told cluster (moved ∷ course) frame child = Tells cluster course moved frame child ⊎ Told cluster course frame child
 
 abbrev pub Parks : FrameId → Event → Type 0
-Parks frame event = (message : Msg) × (join : JoinId) × (closure : Closure) × (event ≡ Sent message) × (message.body ≡ body.Park join closure) × (closure.id ≡ frame)
+Parks frame event =
+    (message : Msg) × (join : JoinId) × (closure : Closure) × (event ≡ Sent message) × (message.body ≡ body.Park join closure) × (closure.id ≡ frame)
 
 -- the frame was parked, and not taken up since
 abbrev pub Parking : FrameId → Course → Type 0
@@ -233,5 +236,6 @@ pub record Tied (cluster : Cluster) (course : Course) : Type 0 where
   pub gone : (frame child : FrameId) → Gone cluster course frame child → Known cluster frame course
   pub parking : (frame : FrameId) → Parking frame course → Known cluster frame course
   pub says : (place : PostAt) (message : Msg) → WasPosted course place message → Saying cluster course message.body
-  pub carries : (place : PostAt) (message : Msg) → WasPosted course place message → list_any (takes_place place) course ≡ false → Carrying cluster course message.body
+  pub carries : (place : PostAt) (message : Msg) → WasPosted course place message → list_any (takes_place place) course ≡ false
+      → Carrying cluster course message.body
   pub nodes : (number : ℕ) → number < cluster.config.nodes → Keeps cluster course (frames_of (node_at cluster number) (own number course))

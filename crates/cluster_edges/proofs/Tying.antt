@@ -49,7 +49,8 @@ some_or_not (Some other) frame = on (same_frame other frame) refl
   where
     on : (b : Bool) → same_frame other frame ≡ b → (Some other ≡ Some frame) ⊎ (Some other ≡ Some frame → ⊥)
     on true is = inl (ap Some (same_name other frame is))
-    on false is = inr (λ some. let same : other ≡ frame = cc in let is_same : same_frame other frame ≡ true = ap (λ it. same_frame it frame) same ∙ same_self frame in absurd (cc))
+    on false is = inr (λ some. let same : other ≡ frame =
+        cc in let is_same : same_frame other frame ≡ true = ap (λ it. same_frame it frame) same ∙ same_self frame in absurd (cc))
 
 -- ---- one event
 
@@ -98,18 +99,21 @@ module _ (cluster : Cluster) (moved : Moved) (course : Course) (stepped : Steppe
   still_keeps : leaves moved.event ≡ None → Keeps cluster (moved ∷ course) frames
   still_keeps none = keeps_more frames (lonely_all none frames) (tied.nodes moved.node stepped.1.within)
 
-  restacked : (stack : List Life) → Keeps cluster (moved ∷ course) frames → Stacked cluster (moved ∷ course) stack → Keeps cluster (moved ∷ course) (with_stack stack frames)
+  restacked : (stack : List Life) → Keeps cluster (moved ∷ course) frames → Stacked cluster (moved ∷ course) stack
+      → Keeps cluster (moved ∷ course) (with_stack stack frames)
   restacked stack keeps stacked = record { stack = stacked; ready = keeps.ready; parked = keeps.parked }
 
   -- ---- messages
 
-  carrying_more : (said : Body) → ((frame : FrameId) → frame_in said ≡ Some frame → leaves moved.event ≡ Some frame → ⊥) → Carrying cluster course said → Carrying cluster (moved ∷ course) said
+  carrying_more : (said : Body) → ((frame : FrameId) → frame_in said ≡ Some frame → leaves moved.event ≡ Some frame → ⊥) → Carrying cluster course said
+      → Carrying cluster (moved ∷ course) said
   carrying_more (body.Fetch page) not it = tt
   carrying_more (body.Page page words) not it = tt
   carrying_more (body.Reconcile parts) not it = tt
   carrying_more body.Ack not it = tt
   carrying_more body.Ask not it = tt
-  carrying_more (body.Grant closure) not it = standing_more cluster moved course stays (tie_in closure) (apart_if cluster moved course closure.id (not closure.id refl)) it
+  carrying_more (body.Grant closure) not it =
+      standing_more cluster moved course stays (tie_in closure) (apart_if cluster moved course closure.id (not closure.id refl)) it
   carrying_more body.Refuse not it = tt
   carrying_more (body.Done join index value) not it = tt
   carrying_more (body.Park join closure) not it =
@@ -150,7 +154,8 @@ module _ (cluster : Cluster) (moved : Moved) (course : Course) (stepped : Steppe
 
   -- ---- frames that leave are known
 
-  sent_known : (message : Msg) (said : Body) (frame : FrameId) → moved.event ≡ Sent message → message.body ≡ said → frame_in said ≡ Some frame → Known cluster frame course
+  sent_known : (message : Msg) (said : Body) (frame : FrameId) → moved.event ≡ Sent message → message.body ≡ said → frame_in said ≡ Some frame
+      → Known cluster frame course
   sent_known message (body.Fetch page) frame is says left = absurd (cc)
   sent_known message (body.Page page words) frame is says left = absurd (cc)
   sent_known message (body.Reconcile parts) frame is says left = absurd (cc)
@@ -161,7 +166,8 @@ module _ (cluster : Cluster) (moved : Moved) (course : Course) (stepped : Steppe
   sent_known message body.Refuse frame is says left = absurd (cc)
   sent_known message (body.Done join index value) frame is says left = absurd (cc)
   sent_known message (body.Park join closure) frame is says left =
-      let same : closure.id ≡ frame = cc in subst (λ id. Known cluster id course) same (park_known cluster moved course stepped.1 tied message is join closure says)
+      let same : closure.id ≡ frame = cc in
+      subst (λ id. Known cluster id course) same (park_known cluster moved course stepped.1 tied message is join closure says)
   sent_known message (body.Add asker index word addend) frame is says left = absurd (cc)
   sent_known message (body.Added old) frame is says left = absurd (cc)
 
@@ -188,10 +194,12 @@ module _ (cluster : Cluster) (moved : Moved) (course : Course) (stepped : Steppe
   -- ---- the node of the event
 
   module _ (once : BearsOnce (moved ∷ course)) where
-    all_joined_keeps : (message : Msg) → moved.event ≡ Took message → (any : Frames) → Keeps cluster (moved ∷ course) any → Keeps cluster (moved ∷ course) (with_joined node (Took message ∷ past) any)
+    all_joined_keeps : (message : Msg) → moved.event ≡ Took message → (any : Frames) → Keeps cluster (moved ∷ course) any
+        → Keeps cluster (moved ∷ course) (with_joined node (Took message ∷ past) any)
     all_joined_keeps message is any keeps =
         let all : own moved.node (moved ∷ course) ≡ Took message ∷ past = own_first moved.node moved course refl ∙ ap (λ event. event ∷ past) is in
-        subst (λ it. Keeps cluster (moved ∷ course) (with_joined node it any)) all (joined_keeps cluster (moved ∷ course) stepped once says_more moved.node any keeps)
+        subst (λ it. Keeps cluster (moved ∷ course) (with_joined node it any)) all
+            (joined_keeps cluster (moved ∷ course) stepped once says_more moved.node any keeps)
 
     waiting_append : (parked : List Parked) (one : Parked) → AllWaiting cluster (moved ∷ course) parked → Waiting cluster (moved ∷ course) one.join one.closure
         → AllWaiting cluster (moved ∷ course) (parked ++ one ∷ [])
@@ -207,7 +215,9 @@ module _ (cluster : Cluster) (moved : Moved) (course : Course) (stepped : Steppe
     took_keeps message body.Ask is carrying keeps = keeps
     took_keeps message (body.Grant closure) is carrying keeps = record {
       stack = keeps.stack;
-      ready = lying_append cluster (moved ∷ course) frames.ready (carried node closure ∷ []) keeps.ready (standing_lies cluster (moved ∷ course) (tie_in closure) carrying, tt);
+      ready =
+          lying_append cluster (moved ∷ course) frames.ready (carried node closure ∷ []) keeps.ready
+              (standing_lies cluster (moved ∷ course) (tie_in closure) carrying, tt);
       parked = keeps.parked;
     }
     took_keeps message body.Refuse is carrying keeps = keeps
@@ -224,23 +234,27 @@ module _ (cluster : Cluster) (moved : Moved) (course : Course) (stepped : Steppe
         let taking : Takes course moved.node moved.message message = subst (Carries course moved.node moved.message) is stepped.1.carries in
         carrying_more message.body (λ frame inside. none_leaves (ap leaves is) frame) (tied.carries taking.place message taking.was_posted taking.not_taken)
 
-    sent_keeps : (message : Msg) (said : Body) → moved.event ≡ Sent message → message.body ≡ said → LonelyAt moved (with_stack (stack_sent said frames.stack) frames)
+    sent_keeps : (message : Msg) (said : Body) → moved.event ≡ Sent message → message.body ≡ said
+        → LonelyAt moved (with_stack (stack_sent said frames.stack) frames)
         → Keeps cluster (moved ∷ course) (with_stack (stack_sent said frames.stack) frames)
     sent_keeps message (body.Fetch page) is says lonely =
-        let keeps = still_keeps (ap leaves is ∙ ap frame_in says) in restacked (live frames.stack) keeps (live_stacked cluster (moved ∷ course) frames.stack keeps.stack)
+        let keeps = still_keeps (ap leaves is ∙ ap frame_in says) in
+        restacked (live frames.stack) keeps (live_stacked cluster (moved ∷ course) frames.stack keeps.stack)
     sent_keeps message (body.Page page words) is says lonely = still_keeps (ap leaves is ∙ ap frame_in says)
     sent_keeps message (body.Reconcile parts) is says lonely = still_keeps (ap leaves is ∙ ap frame_in says)
     sent_keeps message body.Ack is says lonely = still_keeps (ap leaves is ∙ ap frame_in says)
     sent_keeps message body.Ask is says lonely = still_keeps (ap leaves is ∙ ap frame_in says)
     sent_keeps message (body.Grant closure) is says lonely =
-        let stacked = grant_stacked cluster moved course stepped.1 tied message closure is says (granted cluster moved course stepped.1 tied message closure is says) lonely.stack in
+        let stacked = grant_stacked cluster moved course stepped.1 tied message closure is says
+            (granted cluster moved course stepped.1 tied message closure is says) lonely.stack in
         let keeps = tied.nodes moved.node stepped.1.within in
         keeps_left (without_bottom closure.join frames.stack) lonely stacked keeps
       where
         keeps_left : (stack : List Life) → LonelyAt moved (with_stack stack frames) → Stacked cluster (moved ∷ course) stack
             → Keeps cluster course frames → Keeps cluster (moved ∷ course) (with_stack stack frames)
         keeps_left stack lonely stacked keeps =
-            let others = keeps_more (with_stack [] frames) (record { stack = tt; ready = lonely.ready; parked = lonely.parked }) (record { stack = tt; ready = keeps.ready; parked = keeps.parked }) in
+            let others = keeps_more (with_stack [] frames) (record { stack = tt; ready = lonely.ready; parked = lonely.parked })
+                (record { stack = tt; ready = keeps.ready; parked = keeps.parked }) in
             record { stack = stacked; ready = others.ready; parked = others.parked }
     sent_keeps message body.Refuse is says lonely = still_keeps (ap leaves is ∙ ap frame_in says)
     sent_keeps message (body.Done join index value) is says lonely = restacked [] (still_keeps (ap leaves is ∙ ap frame_in says)) tt
@@ -248,10 +262,12 @@ module _ (cluster : Cluster) (moved : Moved) (course : Course) (stepped : Steppe
         let keeps = tied.nodes moved.node stepped.1.within in
         keeps_more (with_stack [] frames) lonely (record { stack = tt; ready = keeps.ready; parked = keeps.parked })
     sent_keeps message (body.Add frame index word addend) is says lonely =
-        let keeps = still_keeps (ap leaves is ∙ ap frame_in says) in restacked (live frames.stack) keeps (live_stacked cluster (moved ∷ course) frames.stack keeps.stack)
+        let keeps = still_keeps (ap leaves is ∙ ap frame_in says) in
+        restacked (live frames.stack) keeps (live_stacked cluster (moved ∷ course) frames.stack keeps.stack)
     sent_keeps message (body.Added old) is says lonely = still_keeps (ap leaves is ∙ ap frame_in says)
 
-    event_keeps : (event : Event) → moved.event ≡ event → LonelyAt moved (frames_on node event past frames) → Keeps cluster (moved ∷ course) (frames_on node event past frames)
+    event_keeps : (event : Event) → moved.event ≡ event → LonelyAt moved (frames_on node event past frames)
+        → Keeps cluster (moved ∷ course) (frames_on node event past frames)
     event_keeps (Did item) is lonely =
         let does : DoesItem node past item = subst (IsAllowed node past) is stepped.1.allowed in
         item_keeps cluster moved course tied item is does.rest does.posts does.may (still_keeps (ap leaves is))
@@ -273,20 +289,24 @@ module _ (cluster : Cluster) (moved : Moved) (course : Course) (stepped : Steppe
 
       own_keeps : Keeps cluster (moved ∷ course) (frames_of node (own moved.node (moved ∷ course)))
       own_keeps =
-          subst (Keeps cluster (moved ∷ course)) (sym frames_now) (event_keeps moved.event refl (subst (LonelyAt moved) frames_now (lonely.nodes moved.node stepped.1.within)))
+          subst (Keeps cluster (moved ∷ course)) (sym frames_now)
+              (event_keeps moved.event refl (subst (LonelyAt moved) frames_now (lonely.nodes moved.node stepped.1.within)))
 
-      other_keeps : (number : ℕ) → number < cluster.config.nodes → eqb moved.node number ≡ false → Keeps cluster (moved ∷ course) (frames_of (node_at cluster number) (own number (moved ∷ course)))
+      other_keeps : (number : ℕ) → number < cluster.config.nodes → eqb moved.node number ≡ false
+          → Keeps cluster (moved ∷ course) (frames_of (node_at cluster number) (own number (moved ∷ course)))
       other_keeps number less other =
           let same = own_other number moved course other in
           keeps_more (frames_of (node_at cluster number) (own number (moved ∷ course))) (lonely.nodes number less)
           (subst (λ past. Keeps cluster course (frames_of (node_at cluster number) past)) (sym same) (tied.nodes number less))
 
-      node_keeps : (number : ℕ) → number < cluster.config.nodes → Keeps cluster (moved ∷ course) (frames_of (node_at cluster number) (own number (moved ∷ course)))
+      node_keeps : (number : ℕ) → number < cluster.config.nodes
+          → Keeps cluster (moved ∷ course) (frames_of (node_at cluster number) (own number (moved ∷ course)))
       node_keeps number less = on (eqb moved.node number) refl
         where
           on : (b : Bool) → eqb moved.node number ≡ b → Keeps cluster (moved ∷ course) (frames_of (node_at cluster number) (own number (moved ∷ course)))
           on true is =
-              let same : moved.node ≡ number = grind (arith, nat_tests) in subst (λ it. Keeps cluster (moved ∷ course) (frames_of (node_at cluster it) (own it (moved ∷ course)))) same own_keeps
+              let same : moved.node ≡ number = grind (arith, nat_tests) in
+              subst (λ it. Keeps cluster (moved ∷ course) (frames_of (node_at cluster it) (own it (moved ∷ course)))) same own_keeps
           on false is = other_keeps number less is
 
       tied_more : Tied cluster (moved ∷ course)
