@@ -21,12 +21,9 @@ use Rattle.one_node.specs.Alone.{Within, EndsAs, OneNode, Elision, AloneSerial}
 use Rattle.one_node.specs.Deep.{live, IsTop, Deep}
 use Rattle.determinacy.specs.Ending.{is_item, all_ticks, ItsRow, OneHistory}
 use Rattle.determinacy.specs.Replies.{Trace, by, want_at, Answers, Born}
-use Rattle.determinacy.specs.Serial.{SerialReads, RaceFree, Serially}
+use Rattle.determinacy.specs.Serial.{SerialReads}
 use Rattle.page_messages.specs.declared.closure.FrameId.{FrameId}
 use Rattle.span_tree.specs.Program.{Starts}
-
-trap_return : (kind : TrapKind) (value : ℤ) → Some (Traps kind) ≡ Some (Returns value) → ⊥
-trap_return kind value is = cc
 
 trap_request : (kind : TrapKind) (request : Request) → Some (Traps kind) ≡ Some (Asks request) → ⊥
 trap_request kind request is = cc
@@ -220,17 +217,6 @@ race_of starts main run serial memory budget finish end alone elision = record {
   within = alone.within;
   within_there = elision.within;
   items = elision.items;
-}
-
--- an elision that finishes without race is such a serial execution as runs without race follow
-pub finished_elision : (starts : Starts) (main : ℕ) (trace : Trace) (memory : SharedMemory) (budget finish : ℕ) →
-    Elision starts main trace memory budget finish Finished → RaceFree trace.events finish → Serially starts main trace memory finish
-finished_elision starts main trace memory budget finish elision free = record {
-  obeys = elision.obeys;
-  reads = elision.reads;
-  result = elision.ends.0;
-  finished = elision.ends.1;
-  free = free;
 }
 
 pub alone_serial : AloneSerial
