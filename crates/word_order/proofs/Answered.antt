@@ -27,7 +27,8 @@ last_of_both word value (act ∷ front) back = last_of_both word (unwrap_or (lef
 abbrev pub AddsUp : SharedMemory → Type 0
 AddsUp memory = (old addend : ℤ) → memory.sum old addend ≡ (if fits (old +ℤ addend) then Some (old +ℤ addend) else None)
 
-module _ (events : Events) (memory : SharedMemory) (caching : Caching events memory) (sums : AddsUp memory) (now : ℕ) (frames : List FrameId) (history : History)
+module _ (events : Events) (memory : SharedMemory) (caching : Caching events memory) (sums : AddsUp memory) (now : ℕ) (frames : List FrameId)
+    (history : History)
     (rows : AreRows events now frames history) (word : ℕ) where
   abbrev Access : Type 0
   Access = Entry events now word
@@ -40,7 +41,8 @@ module _ (events : Events) (memory : SharedMemory) (caching : Caching events mem
 
   -- ---- what an act leaves
 
-  leaves_on : (node at : ℕ) (frame : FrameId) (done : log.Act) (value : ℤ) → events at ≡ log.Acts node frame done → left_in word (shown frames done) ≡ Some value
+  leaves_on : (node at : ℕ) (frame : FrameId) (done : log.Act) (value : ℤ) → events at ≡ log.Acts node frame done
+      → left_in word (shown frames done) ≡ Some value
       → Leaves events memory node word at value
   leaves_on node at frame (log.Read other value') value is left = absurd cc
   leaves_on node at frame (log.Write other value') value is left = on (eqb word other) refl left
@@ -50,19 +52,24 @@ module _ (events : Events) (memory : SharedMemory) (caching : Caching events mem
           let value_is : value' ≡ value = cc in
           OfWrite (record {
             frame = frame;
-            is = is ∙ ap (λ one. log.Acts node frame (log.Write one value')) (sym (word_is word other same)) ∙ ap (λ one. log.Acts node frame (log.Write word one)) value_is;
+            is =
+                is ∙ ap (λ one. log.Acts node frame (log.Write one value')) (sym (word_is word other same))
+                    ∙ ap (λ one. log.Acts node frame (log.Write word one)) value_is;
           })
       on false same left = absurd cc
   leaves_on node at frame (log.Add other old addend) value is left = on (eqb word other) refl left
     where
-      on : (b : Bool) → eqb word other ≡ b → cond b (if fits (old +ℤ addend) then Some (old +ℤ addend) else None) None ≡ Some value → Leaves events memory node word at value
-      on true same left = OfAdd frame old addend (is ∙ ap (λ one. log.Acts node frame (log.Add one old addend)) (sym (word_is word other same))) (sums old addend ∙ left)
+      on : (b : Bool) → eqb word other ≡ b → cond b (if fits (old +ℤ addend) then Some (old +ℤ addend) else None) None ≡ Some value
+          → Leaves events memory node word at value
+      on true same left =
+          OfAdd frame old addend (is ∙ ap (λ one. log.Acts node frame (log.Add one old addend)) (sym (word_is word other same))) (sums old addend ∙ left)
       on false same left = absurd cc
   leaves_on node at frame (log.Print value') value is left = absurd cc
   leaves_on node at frame (log.Spawn child) value is left = absurd cc
   leaves_on node at frame log.Sync value is left = absurd cc
 
-  left_on : (node at : ℕ) (frame : FrameId) (done : log.Act) (value : ℤ) → events at ≡ log.Acts node frame done → (other : ℕ) → Leaves events memory other word at value
+  left_on : (node at : ℕ) (frame : FrameId) (done : log.Act) (value : ℤ) → events at ≡ log.Acts node frame done → (other : ℕ)
+      → Leaves events memory other word at value
       → left_in word (shown frames done) ≡ Some value
   left_on node at frame done value is other (OfWrite wrote) =
       let two = wrote.is in
@@ -70,12 +77,14 @@ module _ (events : Events) (memory : SharedMemory) (caching : Caching events mem
       ap (λ one. left_in word (shown frames one)) done_is ∙ ap (λ b. cond b (Some value) None) (word_test word)
   left_on node at frame done value is other (OfAdd frame' old addend two sum) =
       let done_is : done ≡ log.Add word old addend = cc in
-      ap (λ one. left_in word (shown frames one)) done_is ∙ ap (λ b. cond b (if fits (old +ℤ addend) then Some (old +ℤ addend) else None) None) (word_test word) ∙ sym (sums old addend) ∙ sum
+      ap (λ one. left_in word (shown frames one)) done_is ∙ ap (λ b. cond b (if fits (old +ℤ addend) then Some (old +ℤ addend) else None) None) (word_test word)
+          ∙ sym (sums old addend) ∙ sum
 
   pub leaves_of : (entry : Access) (value : ℤ) → left_in word (shown_by entry) ≡ Some value → Leaves events memory entry.node word entry.at value
   leaves_of entry value left = by (act_of events now frames word entry) left
     where
-      by : (one : Accesses events now frames word entry.node entry.at) → left_in word (shown frames one.done) ≡ Some value → Leaves events memory entry.node word entry.at value
+      by : (one : Accesses events now frames word entry.node entry.at) → left_in word (shown frames one.done) ≡ Some value
+          → Leaves events memory entry.node word entry.at value
       by one left = leaves_on entry.node entry.at one.frame one.done value one.is left
 
   pub left_of : (entry : Access) (node : ℕ) (value : ℤ) → Leaves events memory node word entry.at value → left_in word (shown_by entry) ≡ Some value
@@ -87,7 +96,8 @@ module _ (events : Events) (memory : SharedMemory) (caching : Caching events mem
   left_or_none : (entry : Access) → ((value : ℤ) × (left_in word (shown_by entry) ≡ Some value)) ⊎ (left_in word (shown_by entry) ≡ None)
   left_or_none entry = on (left_in word (shown_by entry)) refl
     where
-      on : (left : Option ℤ) → left_in word (shown_by entry) ≡ left → ((value : ℤ) × (left_in word (shown_by entry) ≡ Some value)) ⊎ (left_in word (shown_by entry) ≡ None)
+      on : (left : Option ℤ) → left_in word (shown_by entry) ≡ left
+          → ((value : ℤ) × (left_in word (shown_by entry) ≡ Some value)) ⊎ (left_in word (shown_by entry) ≡ None)
       on None is = inr is
       on (Some value) is = inl (value, is)
 
@@ -114,7 +124,8 @@ module _ (events : Events) (memory : SharedMemory) (caching : Caching events mem
   pub cut_at : (list : List Access) (front back : List Act) (act : Act) → map shown_by list ≡ front ++ act ∷ back → Cut list front act
   cut_at [] [] back act is = absurd cc
   cut_at [] (one ∷ front) back act is = absurd cc
-  cut_at (first ∷ list) [] back act is = let same : shown_by first ≡ act = cc in record { before = []; entry = first; behind = list; parts = refl; front_is = refl; act_is = same }
+  cut_at (first ∷ list) [] back act is =
+      let same : shown_by first ≡ act = cc in record { before = []; entry = first; behind = list; parts = refl; front_is = refl; act_is = same }
   cut_at (first ∷ list) (one ∷ front) back act is =
       let same : shown_by first ≡ one = cc in
       let rest : map shown_by list ≡ front ++ act ∷ back = cc in
@@ -132,10 +143,12 @@ module _ (events : Events) (memory : SharedMemory) (caching : Caching events mem
   pub acts_are : (list : List Access) → filter_map (act_at history) (places_of events now frames word history rows list) ≡ map shown_by list
   acts_are [] = refl
   acts_are (first ∷ list) =
-      ap (λ act. cons_option act (filter_map (act_at history) (places_of events now frames word history rows list))) (act_is events now frames word history rows first)
+      ap (λ act. cons_option act (filter_map (act_at history) (places_of events now frames word history rows list)))
+          (act_is events now frames word history rows first)
       ∙ ap (λ list. shown_by first ∷ list) (acts_are list)
 
-  pub split_at : (list : List Access) (at : ℕ) → Has at list → (before : List Access) × (entry : Access) × (behind : List Access) × (list ≡ before ++ entry ∷ behind) × (entry.at ≡ at)
+  pub split_at : (list : List Access) (at : ℕ) → Has at list
+      → (before : List Access) × (entry : Access) × (behind : List Access) × (list ≡ before ++ entry ∷ behind) × (entry.at ≡ at)
   split_at [] at has = absurd has
   split_at (first ∷ list) at (inl same) = ([], first, list, refl, same)
   split_at (first ∷ list) at (inr has) = let it = split_at list at has in (first ∷ it.0, it.1, it.2, ap (λ list. first ∷ list) (it.3), it.4)
@@ -145,17 +158,20 @@ module _ (events : Events) (memory : SharedMemory) (caching : Caching events mem
 
   pub sorted_front : (front back : List Access) → IsSorted (front ++ back) → IsSorted front
   sorted_front [] back sorted = tt
-  sorted_front (first ∷ front) back sorted = ((λ later has. sorted.0 later (has_front events now frames word front back later.at has)), sorted_front front back (sorted.1))
+  sorted_front (first ∷ front) back sorted =
+      ((λ later has. sorted.0 later (has_front events now frames word front back later.at has)), sorted_front front back (sorted.1))
 
   pub sorted_back : (front back : List Access) → IsSorted (front ++ back) → IsSorted back
   sorted_back [] back sorted = sorted
   sorted_back (first ∷ front) back sorted = sorted_back front back (sorted.1)
 
   -- what stands in front of an entry is earlier
-  pub in_front : (front : List Access) (entry : Access) (back : List Access) → IsSorted (front ++ entry ∷ back) → (one : Access) → Has one.at front → IsEarlier one entry
+  pub in_front : (front : List Access) (entry : Access) (back : List Access) → IsSorted (front ++ entry ∷ back) → (one : Access) → Has one.at front
+      → IsEarlier one entry
   in_front [] entry back sorted one has = absurd has
   in_front (first ∷ front) entry back sorted one (inl same) =
-      earlier_as events now frames word memory caching first entry one entry same refl (sorted.0 entry (has_back events now frames word front (entry ∷ back) entry.at (inl refl)))
+      earlier_as events now frames word memory caching first entry one entry same refl
+          (sorted.0 entry (has_back events now frames word front (entry ∷ back) entry.at (inl refl)))
   in_front (first ∷ front) entry back sorted one (inr has) = in_front front entry back (sorted.1) one has
 
   -- what is earlier stands in front
@@ -163,7 +179,8 @@ module _ (events : Events) (memory : SharedMemory) (caching : Caching events mem
       → (one : Access) → Has one.at (front ++ entry ∷ back) → IsEarlier one entry → Has one.at front
   stands_in_front front entry back sorted one has earlier = elim (has_either events now frames word front (entry ∷ back) one.at has) [
     | inl here ↦ here
-    | inr (inl same) ↦ absurd (not_earlier events now frames word memory caching entry (earlier_as events now frames word memory caching one entry entry entry (sym same) refl earlier))
+    | inr (inl same) ↦ absurd (not_earlier events now frames word memory caching entry
+        (earlier_as events now frames word memory caching one entry entry entry (sym same) refl earlier))
     | inr (inr later) ↦ absurd (
         let behind = (sorted_back front (entry ∷ back) sorted).0 one later in
         not_earlier events now frames word memory caching entry (earlier_on events now frames word memory caching entry one entry behind earlier))

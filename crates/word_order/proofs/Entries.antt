@@ -37,7 +37,8 @@ module _ (events : Events) (now : ℕ) (frames : List FrameId) (word : ℕ) wher
   act_in node at (inr add) = record { frame = add.1.frame; done = log.Add word add.0 add.1.addend; is = add.1.is; accesses_word = word_test word }
 
   -- and the other way round
-  pub access_of : (node at : ℕ) (frame : FrameId) (done : log.Act) → events at ≡ log.Acts node frame done → accesses word (shown frames done) ≡ true → IsAccess events node word at
+  pub access_of : (node at : ℕ) (frame : FrameId) (done : log.Act) → events at ≡ log.Acts node frame done → accesses word (shown frames done) ≡ true
+      → IsAccess events node word at
   access_of node at frame (log.Read other value) is it =
       inl (inr (value, record { frame = frame; is = is ∙ ap (λ one. log.Acts node frame (log.Read one value)) (sym (word_is word other it)) }))
   access_of node at frame (log.Write other value) is it =
@@ -105,7 +106,8 @@ module _ (events : Events) (now : ℕ) (frames : List FrameId) (word : ℕ) wher
         on None found is = absurd cc
         on (Some act) found is =
             let it = comes events now frames history rows place act found in
-            let entry : Entry events now word = record { node = it.node; at = it.at; inside = it.inside; is = access_of it.node it.at it.frame it.done it.is (ap (accesses word) it.act_is ∙ is) } in
+            let entry : Entry events now word = record { node =
+                it.node; at = it.at; inside = it.inside; is = access_of it.node it.at it.frame it.done it.is (ap (accesses word) it.act_is ∙ is) } in
             (entry, place_back events now frames history rows place act it ∙ same it entry (act_of entry) refl)
           where
             same : (it : Comes events now frames history rows place act) (entry : Entry events now word) (one : Accesses entry.node entry.at) → it.at ≡ entry.at
@@ -113,7 +115,8 @@ module _ (events : Events) (now : ℕ) (frames : List FrameId) (word : ℕ) wher
             same it entry one at =
                 let is = sym (it.is) ∙ ap events at ∙ one.is in
                 let frame : it.frame ≡ one.frame = cc in
-                ap (λ one. place_for events now frames history rows one it.at) frame ∙ ap (λ position. place_for events now frames history rows one.frame position) at
+                ap (λ one. place_for events now frames history rows one it.at) frame
+                    ∙ ap (λ position. place_for events now frames history rows one.frame position) at
 
   -- ---- the order of the accesses
 

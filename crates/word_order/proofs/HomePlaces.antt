@@ -69,7 +69,8 @@ module _ (cluster : Cluster) (frames : List FrameId) (frame : FrameId) where
       let next = more (def.acts frame moved.event) (acts_of frame course) in
       omega (arith, both, sum, here, rest, next)
 
-  older : (moved : Moved) (course : Course) (position : ℕ) → position < length course → events_of cluster (moved ∷ course) position ≡ events_of cluster course position
+  older : (moved : Moved) (course : Course) (position : ℕ) → position < length course
+      → events_of cluster (moved ∷ course) position ≡ events_of cluster course position
   older moved course position less =
       ap (λ it. event_of cluster it (at (moved ∷ course) position)) (before_behind (moved ∷ []) course position less)
       ∙ ap (event_of cluster (before course position)) (at_behind (moved ∷ []) course position less)
@@ -77,13 +78,16 @@ module _ (cluster : Cluster) (frames : List FrameId) (frame : FrameId) where
   older_acts : (moved : Moved) (course : Course) (position now : ℕ) → now < length course + 1
       → acts_before frames (events_of cluster (moved ∷ course)) frame now ≡ acts_before frames (events_of cluster course) frame now
   older_acts moved course position now within =
-      same_before cluster frames frame (events_of cluster (moved ∷ course)) (events_of cluster course) now (λ position less. older moved course position (omega (arith, less, within)))
+      same_before cluster frames frame (events_of cluster (moved ∷ course)) (events_of cluster course) now
+          (λ position less. older moved course position (omega (arith, less, within)))
 
-  pub place_is : (course : Course) (position : ℕ) → position < length course → place_in frames (events_of cluster course) frame position ≡ acts_of frame (before course position)
+  pub place_is : (course : Course) (position : ℕ) → position < length course
+      → place_in frames (events_of cluster course) frame position ≡ acts_of frame (before course position)
   place_is [] position less = absurd (omega (arith, less))
   place_is (moved ∷ course) position less = on (eqb position (length course)) refl (place_is course position)
     where
-      on : (b : Bool) → eqb position (length course) ≡ b → (position < length course → place_in frames (events_of cluster course) frame position ≡ acts_of frame (before course position))
+      on : (b : Bool) → eqb position (length course) ≡ b
+          → (position < length course → place_in frames (events_of cluster course) frame position ≡ acts_of frame (before course position))
           → place_in frames (events_of cluster (moved ∷ course)) frame position ≡ acts_of frame (cond b course (before course position))
       on true is rest =
           let same : position ≡ length course = grind (arith, nat_tests) in
@@ -97,10 +101,12 @@ module _ (cluster : Cluster) (frames : List FrameId) (frame : FrameId) where
 
   -- ---- the frame of the act at a position
 
-  frame_by : (past course : Course) (number : ℕ) (place : Option PostAt) (event : Event) (node : ℕ) (done : log.Act) → happens_to cluster past number place event ≡ log.Acts node frame done
+  frame_by : (past course : Course) (number : ℕ) (place : Option PostAt) (event : Event) (node : ℕ) (done : log.Act)
+      → happens_to cluster past number place event ≡ log.Acts node frame done
       → place_of_event frames course event ≡ place_behind frames course frame
   frame_by past course number place (Did (item.Act other index act)) node done is = let same : other ≡ frame = cc in ap (place_behind frames course) same
-  frame_by past course number place (Did (item.Served other index word old addend)) node done is = let same : other ≡ frame = cc in ap (place_behind frames course) same
+  frame_by past course number place (Did (item.Served other index word old addend)) node done is =
+      let same : other ≡ frame = cc in ap (place_behind frames course) same
   frame_by past course number place (Did (item.Tick other)) node done is = absurd cc
   frame_by past course number place (Did (item.Drop page)) node done is = absurd cc
   frame_by past course number place (Did (item.TakeUp other)) node done is = absurd cc
@@ -110,12 +116,14 @@ module _ (cluster : Cluster) (frames : List FrameId) (frame : FrameId) where
   frame_by past course number place (Took message) node done is = absurd cc
   frame_by past course number place (Ended end) node done is = absurd cc
 
-  frame_at : (past : Course) (here : Option Moved) (node : ℕ) (done : log.Act) → event_of cluster past here ≡ log.Acts node frame done → place_of frames past here ≡ place_behind frames past frame
+  frame_at : (past : Course) (here : Option Moved) (node : ℕ) (done : log.Act) → event_of cluster past here ≡ log.Acts node frame done
+      → place_of frames past here ≡ place_behind frames past frame
   frame_at past None node done is = absurd cc
   frame_at past (Some moved) node done is = frame_by past past moved.node moved.message moved.event node done is
 
   -- The place of what the frame did at a position.
-  pub place_there : (course : Course) (position node : ℕ) (done : log.Act) → position < length course → events_of cluster course position ≡ log.Acts node frame done
+  pub place_there : (course : Course) (position node : ℕ) (done : log.Act) → position < length course
+      → events_of cluster course position ≡ log.Acts node frame done
       → record { row = row_number frames frame; act = place_in frames (events_of cluster course) frame position } ≡ def.place_at frames course position
   place_there course position node done less is =
       ap (λ act. record { row = row_number frames frame; act = act }) (place_is course position less)
@@ -123,7 +131,8 @@ module _ (cluster : Cluster) (frames : List FrameId) (frame : FrameId) where
 
 -- ---- the places of a list
 
-module _ (cluster : Cluster) (course : Course) (frames : List FrameId) (word : ℕ) (history : History) (rows : AreRows (events_of cluster course) (length course) frames history) where
+module _ (cluster : Cluster) (course : Course) (frames : List FrameId) (word : ℕ) (history : History)
+    (rows : AreRows (events_of cluster course) (length course) frames history) where
   entry_place : (entry : Entry (events_of cluster course) (length course) word)
       → entries.place_at (events_of cluster course) (length course) frames word history rows entry ≡ def.place_at frames course entry.at
   entry_place entry =
@@ -140,5 +149,6 @@ module _ (cluster : Cluster) (course : Course) (frames : List FrameId) (word : �
   same_places (entry ∷ list) (one ∷ order) same =
       let here : entry.at ≡ one.position = cc in
       let rest : map (λ entry. entry.at) list ≡ map (λ one. one.position) order = cc in
-      ap (λ place. place ∷ places_of (events_of cluster course) (length course) frames word history rows list) (entry_place entry ∙ ap (def.place_at frames course) here)
+      ap (λ place. place ∷ places_of (events_of cluster course) (length course) frames word history rows list)
+          (entry_place entry ∙ ap (def.place_at frames course) here)
       ∙ ap (λ places. def.place_at frames course one.position ∷ places) (same_places list order rest)

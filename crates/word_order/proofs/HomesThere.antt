@@ -18,7 +18,8 @@ use Rattle.cluster_order.proofs.Meeting.{one_owner, moment_at, moment_there}
 use Rattle.cluster_order.proofs.Touching.{same_happening}
 
 -- what is alike for each moment is one
-same_option : (one other : Option ℕ) → ((moment : ℕ) → one ≡ Some moment → other ≡ Some moment) → ((moment : ℕ) → other ≡ Some moment → one ≡ Some moment) → one ≡ other
+same_option : (one other : Option ℕ) → ((moment : ℕ) → one ≡ Some moment → other ≡ Some moment) → ((moment : ℕ) → other ≡ Some moment → one ≡ Some moment)
+    → one ≡ other
 same_option None None there back = refl
 same_option None (Some moment) there back = back moment refl
 same_option (Some moment) other there back = sym (there moment refl)
@@ -60,9 +61,11 @@ module _ (cluster : Cluster) (turns : List WholeTurn) (lawful : IsLawful cluster
 
   -- ---- the order
 
-  moment_of : (one : Listed) (it : Known one) (moment : ℕ) → Moment events (memory_of cluster) (owner one it) word one.position moment → one.moment ≡ Some moment
+  moment_of : (one : Listed) (it : Known one) (moment : ℕ) → Moment events (memory_of cluster) (owner one it) word one.position moment
+      → one.moment ≡ Some moment
   moment_of one it moment is =
-      (it.moments moment).0 (moment_there cluster turns lawful (owner one it) one.node word one.position it.event it.is (access_of cluster turns lawful word one it).is moment is)
+      (it.moments moment).0 (moment_there cluster turns lawful (owner one it) one.node word one.position it.event it.is
+          (access_of cluster turns lawful word one it).is moment is)
 
   none_of : (one : Listed) (it : Known one) → HasNone events (memory_of cluster) now (owner one it) word one.position → one.moment ≡ None
   none_of one it none = on one.moment refl
@@ -72,9 +75,11 @@ module _ (cluster : Cluster) (turns : List WholeTurn) (lawful : IsLawful cluster
       on (Some moment) is =
           let there = (it.moments moment).1 is in
           absurd (none moment (moment_within cluster turns lawful word one.node one.position moment there)
-          (moment_at cluster turns lawful (owner one it) one.node word one.position it.event it.is (access_of cluster turns lawful word one it).is moment there))
+          (moment_at cluster turns lawful (owner one it) one.node word one.position it.event it.is
+              (access_of cluster turns lawful word one it).is moment there))
 
-  by_moments : (first second : Listed) (one other : Option ℕ) → first.moment ≡ one → second.moment ≡ other → EarlierBy one other first second → IsEarlier first second
+  by_moments : (first second : Listed) (one other : Option ℕ) → first.moment ≡ one → second.moment ≡ other → EarlierBy one other first second
+      → IsEarlier first second
   by_moments first second one other is is' earlier =
       subst (λ it. EarlierBy it second.moment first second) (sym is) (subst (λ it. EarlierBy one it first second) (sym is') earlier)
 
@@ -82,7 +87,8 @@ module _ (cluster : Cluster) (turns : List WholeTurn) (lawful : IsLawful cluster
   before_earlier : (first second : Listed) (one : Known first) (other : Known second)
       → Before events (memory_of cluster) now word (owner first one) first.position (owner second other) second.position → IsEarlier first second
   before_earlier first second one other (inl (inl both)) =
-      by_moments first second (Some both.first) (Some both.second) (moment_of first one both.first both.first_is) (moment_of second other both.second both.second_is) both.order
+      by_moments first second (Some both.first) (Some both.second) (moment_of first one both.first both.first_is)
+          (moment_of second other both.second both.second_is) both.order
   before_earlier first second one other (inl (inr it)) =
       by_moments first second (Some it.first) None (moment_of first one it.first it.first_is) (none_of second other it.second_is) tt
   before_earlier first second one other (inr none) =
@@ -90,7 +96,8 @@ module _ (cluster : Cluster) (turns : List WholeTurn) (lawful : IsLawful cluster
       let none_there = none_of second other none.second_is in
       by_moments first second None None none_here none_there
       (subst (λ it. (it < second.node) ⊎ ((it ≡ second.node) × (first.position < second.position))) (own_of_none cluster turns lawful word first one none_here)
-      (subst (λ it. (owner first one < it) ⊎ ((owner first one ≡ it) × (first.position < second.position))) (own_of_none cluster turns lawful word second other none_there) none.order))
+      (subst (λ it. (owner first one < it) ⊎ ((owner first one ≡ it) × (first.position < second.position)))
+          (own_of_none cluster turns lawful word second other none_there) none.order))
 
   -- ---- the list
 
@@ -118,7 +125,8 @@ module _ (cluster : Cluster) (turns : List WholeTurn) (lawful : IsLawful cluster
   each_there (entry ∷ list) one it (inr has) = later_in (listing entry).0 (listed list) one (each_there list one it has)
 
   -- the node of an entry is the owner of its access
-  earlier_entries : (first second : Entry events now word) → Before events (memory_of cluster) now word first.node first.at second.node second.at → IsEarlier (listing first).0 (listing second).0
+  earlier_entries : (first second : Entry events now word) → Before events (memory_of cluster) now word first.node first.at second.node second.at
+      → IsEarlier (listing first).0 (listing second).0
   earlier_entries first second before = on (listing first) (listing second)
     where
       owned : (entry : Entry events now word) (one : Listing entry) → entry.node ≡ owner one.0 one.2
@@ -151,4 +159,5 @@ module _ (cluster : Cluster) (turns : List WholeTurn) (lawful : IsLawful cluster
       )
     where
       all_has : (home : HomeList events (memory_of cluster) now word) (one : Listed) → Known one → Has one.position home.list
-      all_has home one it = home.all (owner one it) one.position (within (course_of turns) one.position it.is.moved it.is.is) (access_of cluster turns lawful word one it).is
+      all_has home one it =
+          home.all (owner one it) one.position (within (course_of turns) one.position it.is.moved it.is.is) (access_of cluster turns lawful word one it).is

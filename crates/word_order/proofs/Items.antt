@@ -44,12 +44,14 @@ done_in (moved ∷ course) = done_in course ++ done_by moved.event
 
 done_items : (node : ℕ) (items : List Item) (course : Course) → done_in (with_items node items course) ≡ done_in course ++ items
 done_items node [] course = sym (nothing_more (done_in course))
-done_items node (one ∷ items) course = done_items node items (record { node = node; event = Did one; message = None } ∷ course) ∙ append_assoc (done_in course) (one ∷ []) items
+done_items node (one ∷ items) course =
+    done_items node items (record { node = node; event = Did one; message = None } ∷ course) ∙ append_assoc (done_in course) (one ∷ []) items
 
 done_posts : (node : ℕ) (place : PostAt) (messages : List Msg) (course : Course) → done_in (with_posts node place messages course) ≡ done_in course
 done_posts node place [] course = refl
 done_posts node place (message ∷ messages) course =
-    done_posts node (record place { index = place.index + 1 }) messages (record { node = node; event = Sent message; message = Some place } ∷ course) ∙ nothing_more (done_in course)
+    done_posts node (record place { index = place.index + 1 }) messages (record { node = node; event = Sent message; message = Some place } ∷ course)
+        ∙ nothing_more (done_in course)
 
 done_taking : (node : ℕ) (place : Option PostAt) (message : Option Msg) (course : Course) → done_in (with_taking node place message course) ≡ done_in course
 done_taking node place None course = refl
@@ -59,7 +61,8 @@ done_end : (node : ℕ) (end : Option NodeEnd) (course : Course) → done_in (wi
 done_end node None course = refl
 done_end node (Some end) course = nothing_more (done_in course)
 
-done_turn : (number : ℕ) (turn : WholeTurn) (message : Option Msg) (course : Course) → done_in (with_turn number turn message course) ≡ done_in course ++ turn.items
+done_turn : (number : ℕ) (turn : WholeTurn) (message : Option Msg) (course : Course)
+    → done_in (with_turn number turn message course) ≡ done_in course ++ turn.items
 done_turn number turn message course =
     let items = with_items turn.node turn.items course in
     let posts = with_posts turn.node (record { turn = number; index = 0 }) turn.posts items in
@@ -84,11 +87,13 @@ done_is (turn ∷ older) =
     ∙ ap (λ list. items_of (map logged list)) (sym (reverse-append (turn ∷ []) older))
 
 -- what happened at a position was done in the course
-pub done_at : (course : Course) (position : ℕ) (moved : Moved) (one : Item) → at course position ≡ Some moved → moved.event ≡ Did one → Contains (done_in course) one
+pub done_at : (course : Course) (position : ℕ) (moved : Moved) (one : Item) → at course position ≡ Some moved → moved.event ≡ Did one
+    → Contains (done_in course) one
 done_at [] position moved one found is = absurd cc
 done_at (first ∷ course) position moved one found is = on (eqb position (length course)) found (done_at course position moved one)
   where
-    on : (b : Bool) → cond b (Some first) (at course position) ≡ Some moved → (at course position ≡ Some moved → moved.event ≡ Did one → Contains (done_in course) one)
+    on : (b : Bool) → cond b (Some first) (at course position) ≡ Some moved
+        → (at course position ≡ Some moved → moved.event ≡ Did one → Contains (done_in course) one)
         → Contains (done_in course ++ done_by first.event) one
     on true found rest =
         let same : first ≡ moved = cc in
@@ -106,7 +111,8 @@ same_act frames (act.Spawn child procedure arguments) = refl
 same_act frames act.Sync = refl
 
 module _ (cluster : Cluster) (frames : List FrameId) (frame : FrameId) where
-  same_by : (course : Course) (node : ℕ) (place : Option PostAt) (event : Event) → act_by frames frame (happens_to cluster course node place event) ≡ filter_map (act_in frames frame) (done_by event)
+  same_by : (course : Course) (node : ℕ) (place : Option PostAt) (event : Event)
+      → act_by frames frame (happens_to cluster course node place event) ≡ filter_map (act_in frames frame) (done_by event)
   same_by course node place (Did (item.Act other index done)) = on (same_frame other frame)
     where
       on : (b : Bool) → cond b (shown frames (reading.act_of done) ∷ []) [] ≡ cons_option (cond b (Some (histories.act_of frames done)) None) []
@@ -126,7 +132,8 @@ module _ (cluster : Cluster) (frames : List FrameId) (frame : FrameId) where
   same_by course node place (Took message) = refl
   same_by course node place (Ended end) = refl
 
-  pub same_before : (first second : Events) (now : ℕ) → ((position : ℕ) → position < now → first position ≡ second position) → acts_before frames first frame now ≡ acts_before frames second frame now
+  pub same_before : (first second : Events) (now : ℕ) → ((position : ℕ) → position < now → first position ≡ second position)
+      → acts_before frames first frame now ≡ acts_before frames second frame now
   unfolding acts_before
   same_before first second zero same = refl
   same_before first second (suc now) same =
@@ -134,13 +141,15 @@ module _ (cluster : Cluster) (frames : List FrameId) (frame : FrameId) where
       ∙ ap (λ event. acts_before frames second frame now ++ act_by frames frame event) (same now (omega arith))
 
   -- The acts of the frame in the events are those among the items.
-  pub acts_are_done : (course : Course) → acts_before frames (events_of cluster course) frame (length course) ≡ filter_map (act_in frames frame) (done_in course)
+  pub acts_are_done : (course : Course) → acts_before frames (events_of cluster course) frame (length course)
+      ≡ filter_map (act_in frames frame) (done_in course)
   unfolding acts_before
   acts_are_done [] = refl
   acts_are_done (moved ∷ course) =
       ap (λ list. list ++ act_by frames frame (events_of cluster (moved ∷ course) (length course)))
       (same_before (events_of cluster (moved ∷ course)) (events_of cluster course) (length course) older ∙ acts_are_done course)
-      ∙ ap (λ list. filter_map (act_in frames frame) (done_in course) ++ list) (ap (act_by frames frame) here ∙ same_by course moved.node moved.message moved.event)
+      ∙ ap (λ list. filter_map (act_in frames frame) (done_in course) ++ list)
+          (ap (act_by frames frame) here ∙ same_by course moved.node moved.message moved.event)
       ∙ sym (filter_map-append (act_in frames frame) (done_in course) (done_by moved.event))
     where
       here : events_of cluster (moved ∷ course) (length course) ≡ happens_to cluster course moved.node moved.message moved.event

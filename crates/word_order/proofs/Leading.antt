@@ -18,7 +18,8 @@ Leads history row (act ∷ (next ∷ rest)) place =
     (child : ℕ) × (act_at history (record { row = row; act = act }) ≡ Some (Spawn child)) × Leads history child (next ∷ rest) place
 
 -- an act stands at the first place of a way to an act
-pub leads_from_act : (history : History) (row act : ℕ) (rest : List ℕ) (place : Place) (found : Act) → act_at history place ≡ Some found → Leads history row (act ∷ rest) place
+pub leads_from_act : (history : History) (row act : ℕ) (rest : List ℕ) (place : Place) (found : Act) → act_at history place ≡ Some found
+    → Leads history row (act ∷ rest) place
     → (first : Act) × (act_at history (record { row = row; act = act }) ≡ Some first)
 leads_from_act history row act [] place found is leads = (found, ap (act_at history) (sym leads) ∙ is)
 leads_from_act history row act (next ∷ rest) place found is leads = (Spawn (leads.0), leads.1)
@@ -35,30 +36,35 @@ module _ (history : History) (numbered : IsNumbered history) where
       sym (append_assoc (row_way history numbered up.row) (up.act ∷ []) rest)
       ∙ ap (λ front. front ++ rest) (sym (row_way_is history numbered row up parent ∙ way_is history numbered up (omega (arith, within, before))))
 
-  leads_on : (row : ℕ) (up : Place) (rest : List ℕ) (place : Place) → act_at history up ≡ Some (Spawn row) → Leads history row rest place → Leads history up.row (up.act ∷ rest) place
+  leads_on : (row : ℕ) (up : Place) (rest : List ℕ) (place : Place) → act_at history up ≡ Some (Spawn row) → Leads history row rest place
+      → Leads history up.row (up.act ∷ rest) place
   leads_on row up [] place spawns leads = absurd leads
   leads_on row up (next ∷ rest) place spawns leads = (row, spawns, leads)
 
-  leads_within : (bound row : ℕ) (rest : List ℕ) (place : Place) → row < bound → row < length history → Leads history row rest place → Leads history 0 (row_way history numbered row ++ rest) place
+  leads_within : (bound row : ℕ) (rest : List ℕ) (place : Place) → row < bound → row < length history → Leads history row rest place
+      → Leads history 0 (row_way history numbered row ++ rest) place
   leads_within zero row rest place less within leads = absurd (omega (arith, less))
   leads_within (suc bound) row rest place less within leads = on (row_at history row).parent refl
       (λ up before leads. leads_within bound up.row (up.act ∷ rest) place (omega (arith, before, less)) (omega (arith, before, within)) leads)
     where
       on : (parent : Option Place) → (row_at history row).parent ≡ parent
-          → ((up : Place) → up.row < row → Leads history up.row (up.act ∷ rest) place → Leads history 0 (row_way history numbered up.row ++ up.act ∷ rest) place)
+          → ((up : Place) → up.row < row → Leads history up.row (up.act ∷ rest) place
+              → Leads history 0 (row_way history numbered up.row ++ up.act ∷ rest) place)
           → Leads history 0 (row_way history numbered row ++ rest) place
       on None parent up =
           subst (λ front. Leads history 0 (front ++ rest) place) (sym (ap (way_on (way history)) parent))
           (subst (λ number. Leads history number rest place) (row_is_main row within parent) leads)
       on (Some above) parent up =
           let is = parent_of history numbered row above parent in
-          subst (λ whole. Leads history 0 whole place) (way_more row above rest within parent) (up above is.before (leads_on row above rest place is.spawns leads))
+          subst (λ whole. Leads history 0 whole place) (way_more row above rest within parent)
+              (up above is.before (leads_on row above rest place is.spawns leads))
 
   -- the way of a place leads to it
   pub way_leads : (place : Place) → IsPlace history place → Leads history 0 (way history place) place
   way_leads place is =
       let within = row_within history numbered place.row place refl is in
-      subst (λ whole. Leads history 0 whole place) (sym (way_is history numbered place within)) (leads_within (suc place.row) place.row (place.act ∷ []) place (omega arith) within refl)
+      subst (λ whole. Leads history 0 whole place) (sym (way_is history numbered place within))
+          (leads_within (suc place.row) place.row (place.act ∷ []) place (omega arith) within refl)
 
 -- ---- a Sync between two acts
 
@@ -81,13 +87,15 @@ pub sync_or_none : (acts : List Act) (first last : ℕ) → first < last → Syn
 sync_or_none acts first zero less = absurd (omega (arith, less))
 sync_or_none acts first (suc last) less = on (is_sync (slice_get acts (suc last))) (cases_lt first last) (λ less. sync_or_none acts first last less)
   where
-    none : (slice_get acts (suc last) ≡ Some Sync → ⊥) → ((place : ℕ) → first < place → place ≤ last → slice_get acts place ≡ Some Sync → ⊥) → NoSync acts first (suc last)
+    none : (slice_get acts (suc last) ≡ Some Sync → ⊥) → ((place : ℕ) → first < place → place ≤ last → slice_get acts place ≡ Some Sync → ⊥)
+        → NoSync acts first (suc last)
     none not rest = λ place behind up_to is. elim (cases_lt place (suc last)) [
       | inl earlier ↦ rest place behind (omega (arith, earlier)) is
       | inr here ↦ not (let same : place ≡ suc last = omega (arith, here, up_to) in subst (λ it. slice_get acts it ≡ Some Sync) same is)
     ]
 
-    on : (slice_get acts (suc last) ≡ Some Sync) ⊎ (slice_get acts (suc last) ≡ Some Sync → ⊥) → (first < last) ⊎ (last ≤ first) → (first < last → SyncBetween acts first last ⊎ NoSync acts first last)
+    on : (slice_get acts (suc last) ≡ Some Sync) ⊎ (slice_get acts (suc last) ≡ Some Sync → ⊥) → (first < last) ⊎ (last ≤ first)
+        → (first < last → SyncBetween acts first last ⊎ NoSync acts first last)
         → SyncBetween acts first (suc last) ⊎ NoSync acts first (suc last)
     on (inl is) which rest = inl (record { at = suc last; behind = less; up_to = omega arith; is = is })
     on (inr not) (inr past) rest = inr (none not (λ place behind up_to is. absurd (omega (arith, past, behind, up_to))))

@@ -24,20 +24,23 @@ module _ (events : Events) (now : ℕ) (frames : List FrameId) (history : Histor
   place_of row act = record { row = row; act = act }
 
   -- what stands at the first place of a way
-  first_there : (row act : ℕ) (rest : List ℕ) (place : Place) (at : ℕ) → Is place at → Leads history row (act ∷ rest) place → (first : ℕ) × Is (place_of row act) first
+  first_there : (row act : ℕ) (rest : List ℕ) (place : Place) (at : ℕ) → Is place at → Leads history row (act ∷ rest) place
+      → (first : ℕ) × Is (place_of row act) first
   first_there row act rest place at it leads =
       let found = leads_from_act history row act rest place (shown frames it.done) it.act_is leads in
       stands events now frames history rows (place_of row act) (found.0) (found.1)
 
   -- what the way leads to is at its first act, or below it
-  under : (row act : ℕ) (rest : List ℕ) (place : Place) (at first : ℕ) → Is place at → (that : Is (place_of row act) first) → Leads history row (act ∷ rest) place → Under events at that.frame first
+  under : (row act : ℕ) (rest : List ℕ) (place : Place) (at first : ℕ) → Is place at → (that : Is (place_of row act) first)
+      → Leads history row (act ∷ rest) place → Under events at that.frame first
   under row act [] place at first it that leads =
       At (that.node, that.done, that.is) (one_position_at events now frames history rows (place_of row act) at first (subst (λ one. Is one at) leads it) that)
   under row act (next ∷ rest) place at first it that (child, spawns, leads) =
       let spawn = spawned_there events now frames history rows (place_of row act) first child that spawns in
       let below = first_there child next rest place at it leads in
       let same : below.1.frame ≡ spawn.0 = some_same (below.1.frame) (spawn.0) (sym (below.1.number) ∙ spawn.2) in
-      Below that.node (spawn.0) (below.0) (spawn.1) (subst (λ frame. Under events at frame (below.0)) same (under child next rest place at (below.0) it (below.1) leads))
+      Below that.node (spawn.0) (below.0) (spawn.1)
+          (subst (λ frame. Under events at frame (below.0)) same (under child next rest place at (below.0) it (below.1) leads))
 
   -- in one row, the one earlier, and no child or a Sync between
   module _ (row act later_act : ℕ) (first second : ℕ) (it : Is (place_of row act) first) (that : Is (place_of row later_act) second) where
@@ -47,7 +50,8 @@ module _ (events : Events) (now : ℕ) (frames : List FrameId) (history : Histor
     synced : SyncBetween (row_at history row).acts act later_act → SyncAt events it.frame first second
     synced sync =
         let found = stands events now frames history rows (place_of row sync.at) acts.Sync sync.is in
-        let frame : found.1.frame ≡ it.frame = one_frame events now frames history rows (place_of row sync.at) (place_of row act) (found.0) first refl (found.1) it in
+        let frame : found.1.frame ≡ it.frame =
+            one_frame events now frames history rows (place_of row sync.at) (place_of row act) (found.0) first refl (found.1) it in
         record {
           at = found.0;
           node = found.1.node;
@@ -67,12 +71,16 @@ module _ (events : Events) (now : ℕ) (frames : List FrameId) (history : Histor
         is_sync log.Sync is = refl
 
         up_to : (at : ℕ) → Is (place_of row sync.at) at → Order3 sync.at later_act → at ≤ second
-        up_to at found (Less3 less) = let order = order_in_row events now frames history rows (place_of row sync.at) (place_of row later_act) at second refl less found that in omega (arith, order)
+        up_to at found (Less3 less) =
+            let order = order_in_row events now frames history rows (place_of row sync.at) (place_of row later_act) at second refl less found that in
+            omega (arith, order)
         up_to at found (Same3 one) =
-            let here = one_position_at events now frames history rows (place_of row later_act) at second (subst (λ place. Is (place_of row place) at) one found) that in omega (arith, here)
+            let here = one_position_at events now frames history rows (place_of row later_act) at second
+                (subst (λ place. Is (place_of row place) at) one found) that in omega (arith, here)
         up_to at found (More3 more) = let up_to = sync.up_to in absurd (omega (arith, more, up_to))
 
-    across : (x y : ℕ) → act < later_act → Under events x it.frame first → Under events y that.frame second → (x ≡ first) ⊎ SyncAt events it.frame first second → Precedes events x y
+    across : (x y : ℕ) → act < later_act → Under events x it.frame first → Under events y that.frame second → (x ≡ first) ⊎ SyncAt events it.frame first second
+        → Precedes events x y
     across x y less one two serial = inl (record {
       frame = it.frame;
       act = first;
@@ -90,12 +98,14 @@ module _ (events : Events) (now : ℕ) (frames : List FrameId) (history : Histor
   parts row (i ∷ []) (j ∷ ys) x y at later it that one two (inl less) serial =
       let first = first_there row i [] x at it one in
       let second = first_there row j ys y later that two in
-      across row i j (first.0) (second.0) (first.1) (second.1) at later less (under row i [] x at (first.0) it (first.1) one) (under row j ys y later (second.0) that (second.1) two)
+      across row i j (first.0) (second.0) (first.1) (second.1) at later less (under row i [] x at (first.0) it (first.1) one)
+          (under row j ys y later (second.0) that (second.1) two)
       (inl (one_position_at events now frames history rows (place_of row i) at (first.0) (subst (λ place. Is place at) one it) (first.1)))
   parts row (i ∷ (k ∷ xs)) (j ∷ ys) x y at later it that one two (inl less) serial =
       let first = first_there row i (k ∷ xs) x at it one in
       let second = first_there row j ys y later that two in
-      across row i j (first.0) (second.0) (first.1) (second.1) at later less (under row i (k ∷ xs) x at (first.0) it (first.1) one) (under row j ys y later (second.0) that (second.1) two)
+      across row i j (first.0) (second.0) (first.1) (second.1) at later less (under row i (k ∷ xs) x at (first.0) it (first.1) one)
+          (under row j ys y later (second.0) that (second.1) two)
       (elim (sync_or_none (row_at history row).acts i j less) [
         | inl sync ↦ inr (synced row i j (first.0) (second.0) (first.1) (second.1) sync)
         | inr quiet ↦ absurd (serial (inl (less, (λ none. absurd cc), quiet)))
@@ -121,7 +131,8 @@ module _ (events : Events) (now : ℕ) (frames : List FrameId) (history : Histor
       (λ part. serial (inr (level, one.0, one.1, part)))
 
   -- The order of the dag of the history is that of the dag of the events.
-  pub precedes : (x y : Place) (at later : ℕ) → Is x at → Is y later → IsPlace history x → IsPlace history y → dag.Precedes history x y → Precedes events at later
+  pub precedes : (x y : Place) (at later : ℕ) → Is x at → Is y later → IsPlace history x → IsPlace history y → dag.Precedes history x y
+      → Precedes events at later
   precedes x y at later it that is_x is_y before =
       parts 0 (way history x) (way history y) x y at later it that (way_leads history (rows.numbered) x is_x) (way_leads history (rows.numbered) y is_y)
       (earlier_of history (rows.numbered) x y (before.0)) (λ beside. before.1 (inl beside))

@@ -19,12 +19,6 @@ use Rattle.word_order.proofs.Entries.{place_at, is_place, stands_at, is_accessed
 use Rattle.word_order.proofs.Lines.{precedes}
 
 module _ (events : Events) (now : ℕ) (frames : List FrameId) (word : ℕ) where
-  -- an entry at the position of one that the list has
-  pub has_entry : (list : List (Entry events now word)) (at : ℕ) → Has at list → (entry : Entry events now word) × (entry.at ≡ at)
-  has_entry [] at has = absurd has
-  has_entry (first ∷ list) at (inl same) = (first, same)
-  has_entry (first ∷ list) at (inr has) = has_entry list at has
-
   pub has_front : (front back : List (Entry events now word)) (at : ℕ) → Has at front → Has at (front ++ back)
   has_front [] back at has = absurd has
   has_front (first ∷ front) back at (inl same) = inl same
@@ -47,7 +41,8 @@ module _ (events : Events) (now : ℕ) (frames : List FrameId) (word : ℕ) wher
     its_place entry = place_at events now frames word history rows entry
 
     -- a place of the list is that of an entry
-    pub entry_in : (list : List (Entry events now word)) (place : Place) → Contains (places_of list) place → (entry : Entry events now word) × Has entry.at list × (place ≡ its_place entry)
+    pub entry_in : (list : List (Entry events now word)) (place : Place) → Contains (places_of list) place
+        → (entry : Entry events now word) × Has entry.at list × (place ≡ its_place entry)
     entry_in [] place is = absurd (nothing_in_none place is)
     entry_in (first ∷ list) place is = elim (first_or_later (its_place first) (places_of list) place is) [
       | inl same ↦ (first, inl refl, sym same)
@@ -57,7 +52,8 @@ module _ (events : Events) (now : ℕ) (frames : List FrameId) (word : ℕ) wher
     pub place_in : (list : List (Entry events now word)) (entry : Entry events now word) → Has entry.at list → Contains (places_of list) (its_place entry)
     place_in [] entry has = absurd has
     place_in (first ∷ list) entry (inl same) =
-        subst (λ place. Contains (places_of (first ∷ list)) place) (one_place events now frames word history rows first entry same) (is_first (its_place first) (places_of list))
+        subst (λ place. Contains (places_of (first ∷ list)) place) (one_place events now frames word history rows first entry same)
+            (is_first (its_place first) (places_of list))
     place_in (first ∷ list) entry (inr has) = is_later (its_place first) (places_of list) (its_place entry) (place_in list entry has)
 
     pub only_accesses : (list : List (Entry events now word)) (place : Place) → Contains (places_of list) place → is_access history word place ≡ true
@@ -74,11 +70,13 @@ module _ (events : Events) (now : ℕ) (frames : List FrameId) (word : ℕ) wher
       stands_earlier (first ∷ list) sorted x y (inl stands) = let it = entry_in list y (stands.1) in (first, it.0, sym (stands.0), it.2, sorted.0 (it.0) (it.1))
       stands_earlier (first ∷ list) sorted x y (inr stands) = stands_earlier list (sorted.1) x y stands
 
-      pub stands_once : (list : List (Entry events now word)) → Sorted events memory now word list → (place : Place) → StandsBefore (places_of list) place place → ⊥
+      pub stands_once : (list : List (Entry events now word)) → Sorted events memory now word list → (place : Place)
+          → StandsBefore (places_of list) place place → ⊥
       stands_once list sorted place stands =
           let it = stands_earlier list sorted place place stands in
           let same = one_access events now frames word history rows (it.0) (it.1) (sym (it.2) ∙ it.3) in
-          not_earlier events now frames word memory caching (it.1) (earlier_as events now frames word memory caching (it.0) (it.1) (it.1) (it.1) same refl (it.4))
+          not_earlier events now frames word memory caching (it.1)
+              (earlier_as events now frames word memory caching (it.0) (it.1) (it.1) (it.1) same refl (it.4))
 
       -- what the home order has first stands first
       pub stands_as : (list : List (Entry events now word)) → Sorted events memory now word list
@@ -87,7 +85,8 @@ module _ (events : Events) (now : ℕ) (frames : List FrameId) (word : ℕ) wher
       stands_as list sorted first second has has' earlier =
           elim (one_stands_first (places_of list) (its_place first) (its_place second) (place_in list first has) (place_in list second has')) [
             | inl same ↦ absurd (not_earlier events now frames word memory caching second
-                (earlier_as events now frames word memory caching first second second second (one_access events now frames word history rows first second same) refl earlier))
+                (earlier_as events now frames word memory caching first second second second
+                    (one_access events now frames word history rows first second same) refl earlier))
             | inr (inl stands) ↦ stands
             | inr (inr stands) ↦ absurd (
                 let it = stands_earlier list sorted (its_place second) (its_place first) stands in
@@ -122,4 +121,5 @@ module _ (events : Events) (now : ℕ) (frames : List FrameId) (word : ℕ) wher
   all_accesses memory history rows list place is =
       let it = entry_for events now frames word history rows place is in
       let entry = it.0 in
-      subst (λ one. Contains (places_of history rows list.list) one) (sym (it.1)) (place_in history rows list.list entry (list.all entry.node entry.at entry.inside entry.is))
+      subst (λ one. Contains (places_of history rows list.list) one) (sym (it.1))
+          (place_in history rows list.list entry (list.all entry.node entry.at entry.inside entry.is))

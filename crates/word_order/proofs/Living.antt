@@ -38,7 +38,8 @@ module _ (node : Node) (order : AreInOrder 0 node.code.shared) where
   live_fine deposits (life ∷ below) each = on (returned life) (λ deposits. live_fine deposits below (each.1))
     where
       on : (value : Option ℤ) → ((deposits : List Deposit) → EachFine (live_from deposits below))
-          → EachFine (elim value [ None ↦ record life { kept = life.kept ++ deposits } ∷ below | Some value ↦ live_from ((life.spawned.target, value) ∷ []) below ])
+          → EachFine
+              (elim value [ None ↦ record life { kept = life.kept ++ deposits } ∷ below | Some value ↦ live_from ((life.spawned.target, value) ∷ []) below ])
       on None rest = each
       on (Some value) rest = rest ((life.spawned.target, value) ∷ [])
 
@@ -61,7 +62,8 @@ module _ (node : Node) (order : AreInOrder 0 node.code.shared) where
 
   after_act_fine : (done : LoggedAct) (stack : List Life) → EachFine stack → EachFine (after_act node done stack)
   after_act_fine done [] each = tt
-  after_act_fine done (life ∷ below) each = fine_both (children_of node done life) (acted done life ∷ below) (children_fine done life) (acted_fine done life (each.0), each.1)
+  after_act_fine done (life ∷ below) each =
+      fine_both (children_of node done life) (acted done life ∷ below) (children_fine done life) (acted_fine done life (each.0), each.1)
 
   answered_fine : (answer : Answer) (stack : List Life) → EachFine stack → EachFine (with_first (answered answer) stack)
   answered_fine answer [] each = tt
@@ -81,7 +83,8 @@ module _ (node : Node) (order : AreInOrder 0 node.code.shared) where
   joined_fine past [] = tt
   joined_fine past (first ∷ parked) = on (is_complete past first) (joined_fine past parked)
     where
-      on : (b : Bool) → EachFine (all_joined node past parked) → EachFine (cond b (joined node past first ∷ all_joined node past parked) (all_joined node past parked))
+      on : (b : Bool) → EachFine (all_joined node past parked)
+          → EachFine (cond b (joined node past first ∷ all_joined node past parked) (all_joined node past parked))
       on true rest = (wants_within node.code order first.closure.frame.frame, rest)
       on false rest = rest
 
@@ -127,10 +130,12 @@ module _ (node : Node) (order : AreInOrder 0 node.code.shared) where
   took_fine (body.Reconcile parts) past frames each = each
   took_fine body.Ack past frames each = each
   took_fine body.Ask past frames each = each
-  took_fine (body.Grant closure) past frames each = (each.0, fine_both frames.ready (carried node closure ∷ []) (each.1) (wants_within node.code order closure.frame.frame, tt))
+  took_fine (body.Grant closure) past frames each =
+      (each.0, fine_both frames.ready (carried node closure ∷ []) (each.1) (wants_within node.code order closure.frame.frame, tt))
   took_fine body.Refuse past frames each = each
   took_fine (body.Done join index value) past frames each = with_joined_fine past frames each
-  took_fine (body.Park join closure) past frames each = with_joined_fine past (record frames { parked = frames.parked ++ record { join = join; closure = closure } ∷ [] }) each
+  took_fine (body.Park join closure) past frames each =
+      with_joined_fine past (record frames { parked = frames.parked ++ record { join = join; closure = closure } ∷ [] }) each
   took_fine (body.Add frame index word addend) past frames each = each
   took_fine (body.Added old) past frames each = (added_fine old frames.stack (each.0), each.1)
 
@@ -155,4 +160,5 @@ module _ (node : Node) (order : AreInOrder 0 node.code.shared) where
 
   -- the highest frame wants a word that there is, where it wants one
   pub highest_wants : (past : Past) (life : Life) (first : Want) → highest node past ≡ Some life → want_of life ≡ Some first → IsIn all_words first
-  highest_wants past life first is wanted = now_within all_words life.goes first (top_fine (live (stack_of node past)) life (live_fine [] (stack_of node past) ((frames_fine past).0)) is) wanted
+  highest_wants past life first is wanted =
+      now_within all_words life.goes first (top_fine (live (stack_of node past)) life (live_fine [] (stack_of node past) ((frames_fine past).0)) is) wanted

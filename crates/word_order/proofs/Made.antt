@@ -27,7 +27,8 @@ use Rattle.word_order.proofs.Items.{done_in, done_is, done_at, acts_are_done}
 
 -- each frame that makes an act is `main`, or was spawned
 abbrev pub EachIsMade : Events → Type 0
-EachIsMade events = (at node : ℕ) (frame : FrameId) (act : log.Act) → events at ≡ log.Acts node frame act → (frame ≡ main_id) ⊎ ((birth : ℕ) × Spawned events frame birth)
+EachIsMade events =
+    (at node : ℕ) (frame : FrameId) (act : log.Act) → events at ≡ log.Acts node frame act → (frame ≡ main_id) ⊎ ((birth : ℕ) × Spawned events frame birth)
 
 contains_first : {A : Type 0} (first : A) (list : List A) → Contains (first ∷ list) first
 contains_first first list = (0, omega arith, refl)
@@ -63,14 +64,16 @@ row_acts : (frames : List FrameId) (main : ℕ) (birth : Option Birth) (acts : L
 row_acts frames main None acts = refl
 row_acts frames main (Some birth) acts = refl
 
-module _ (cluster : Cluster) (turns : List WholeTurn) (main : ℕ) (frames : List FrameId) (history : History) (is_history : IsHistoryOf main (map logged (reverse turns)) frames history) where
+module _ (cluster : Cluster) (turns : List WholeTurn) (main : ℕ) (frames : List FrameId) (history : History)
+    (is_history : IsHistoryOf main (map logged (reverse turns)) frames history) where
   abbrev items : List Item
   items = items_of (map logged (reverse turns))
 
   abbrev events : Events
   events = events_of cluster (course_of turns)
 
-  acts_there : (number : ℕ) (frame : FrameId) → slice_get frames number ≡ Some frame → (row_at history number).acts ≡ acts_before frames events frame (length (course_of turns))
+  acts_there : (number : ℕ) (frame : FrameId) → slice_get frames number ≡ Some frame
+      → (row_at history number).acts ≡ acts_before frames events frame (length (course_of turns))
   acts_there number frame is =
       ap (λ (row : Row). row.acts) (ap (λ rows. row_at rows number) is_history.rows
       ∙ get_or-map (row_of frames main items) frames number frame no_row (slice_get_within frames number frame is)
@@ -89,7 +92,8 @@ module _ (cluster : Cluster) (turns : List WholeTurn) (main : ℕ) (frames : Lis
         let here : Contains items one = subst (λ list. Contains list one) (done_is turns) done in
         let born : Birth = record { child = frame; parent = parent; index = acted.index; procedure = spawn.0; arguments = spawn.1 } in
         let gives : birth_in one ≡ Some born = ap (λ it. birth_in (item.Act parent acted.index it)) (spawn.2) in
-        contains_later main_id (map (λ (it : Birth). it.child) (births_of items)) frame (mapped_by (λ (it : Birth). it.child) (births_of items) born (given_by birth_in items one born here gives))
+        contains_later main_id (map (λ (it : Birth). it.child) (births_of items)) frame
+            (mapped_by (λ (it : Birth). it.child) (births_of items) born (given_by birth_in items one born here gives))
   ]
 
   -- The history has the rows of the events.

@@ -41,14 +41,18 @@ module _ (events : Events) (now : ℕ) (frames : List FrameId) (history : Histor
 
   pub comes : (place : Place) (act : Act) → act_at history place ≡ Some act → Comes place act
   comes place act is =
-      let within : place.row < length history = row_within history (rows.numbered) (place.row) place refl (slice_get_within (row_at history place.row).acts place.act act is) in
+      let within : place.row < length history =
+          row_within history (rows.numbered) (place.row) place refl (slice_get_within (row_at history place.row).acts place.act act is) in
       let frame : FrameId = slice_index_or frames (place.row) (record { node = 0; number = 0 }) in
       let less : place.row < length frames = let count = rows.count in omega (arith, within, count) in
       let number : slice_get frames (place.row) ≡ Some frame = slice_get-get_or frames (place.row) (record { node = 0; number = 0 }) less in
-      let found = act_found frames events frame now (place.act) act (subst (λ acts. slice_get acts (place.act) ≡ Some act) (rows.acts (place.row) frame number) is) in
-      record { at = found.at; node = found.node; frame = frame; done = found.done; inside = found.inside; is = found.is; number_is = number; place_is = found.place_is; act_is = found.act_is }
+      let found =
+          act_found frames events frame now (place.act) act (subst (λ acts. slice_get acts (place.act) ≡ Some act) (rows.acts (place.row) frame number) is) in
+      record { at = found.at; node = found.node; frame = frame; done = found.done; inside = found.inside; is = found.is; number_is = number;
+          place_is = found.place_is; act_is = found.act_is }
 
-  spawned_number : (done : log.Act) (number : ℕ) → shown frames done ≡ row.Spawn number → (child : FrameId) × (done ≡ log.Spawn child) × (row_number frames child ≡ number)
+  spawned_number : (done : log.Act) (number : ℕ) → shown frames done ≡ row.Spawn number
+      → (child : FrameId) × (done ≡ log.Spawn child) × (row_number frames child ≡ number)
   spawned_number (log.Read word value) number is = absurd cc
   spawned_number (log.Write word value) number is = absurd cc
   spawned_number (log.Add word old addend) number is = absurd cc
@@ -71,20 +75,25 @@ module _ (events : Events) (now : ℕ) (frames : List FrameId) (history : Histor
   pub place_back : (place : Place) (act : Act) (it : Comes place act) → place ≡ place_for it.frame it.at
   place_back place act it =
       let row_is : row_number frames it.frame ≡ place.row = number_is (place.row) (it.frame) (it.number_is) in
-      ap (λ number. record { row = number; act = place.act }) (sym row_is) ∙ ap (λ number. record { row = row_number frames it.frame; act = number }) (sym (it.place_is))
+      ap (λ number. record { row = number; act = place.act }) (sym row_is)
+          ∙ ap (λ number. record { row = row_number frames it.frame; act = number }) (sym (it.place_is))
 
   -- what was done stands in the history
-  pub act_here : (at node : ℕ) (frame : FrameId) (act : log.Act) → at < now → events at ≡ log.Acts node frame act → act_at history (place_for frame at) ≡ Some (shown frames act)
+  pub act_here : (at node : ℕ) (frame : FrameId) (act : log.Act) → at < now → events at ≡ log.Acts node frame act
+      → act_at history (place_for frame at) ≡ Some (shown frames act)
   act_here at node frame act inside is =
       let number = number_get frames frame (rows.named at node frame act inside is) in
       subst (λ acts. slice_get acts (place_in frames events frame at) ≡ Some (shown frames act))
       (sym (rows.acts (row_number frames frame) frame number)) (act_there frames events frame at node now act is inside)
 
   pub place_there : (at node : ℕ) (frame : FrameId) (act : log.Act) → at < now → events at ≡ log.Acts node frame act → IsPlace history (place_for frame at)
-  place_there at node frame act inside is = slice_get_within (row_at history (row_number frames frame)).acts (place_in frames events frame at) (shown frames act) (act_here at node frame act inside is)
+  place_there at node frame act inside is =
+      slice_get_within (row_at history (row_number frames frame)).acts (place_in frames events frame at) (shown frames act)
+          (act_here at node frame act inside is)
 
   -- two positions have two places
-  pub one_position : (at node : ℕ) (frame : FrameId) (act : log.Act) (other_at other : ℕ) (second : FrameId) (next : log.Act) → at < now → events at ≡ log.Acts node frame act
+  pub one_position : (at node : ℕ) (frame : FrameId) (act : log.Act) (other_at other : ℕ) (second : FrameId) (next : log.Act) → at < now
+      → events at ≡ log.Acts node frame act
       → other_at < now → events other_at ≡ log.Acts other second next → place_for frame at ≡ place_for second other_at → at ≡ other_at
   one_position at node frame act other_at other second next inside is other_inside other_is same =
       let row_same : row_number frames frame ≡ row_number frames second = ap (λ (it : Place). it.row) same in
@@ -110,7 +119,8 @@ module _ (events : Events) (now : ℕ) (frames : List FrameId) (history : Histor
   pub stands : (place : Place) (act : Act) → act_at history place ≡ Some act → (at : ℕ) × Stands place at
   stands place act is =
       let it = comes place act is in
-      (it.at, record { node = it.node; frame = it.frame; done = it.done; inside = it.inside; is = it.is; number = it.number_is; place_is = it.place_is; act_is = is ∙ ap Some (sym (it.act_is)) })
+      (it.at, record { node = it.node; frame = it.frame; done = it.done; inside = it.inside; is = it.is; number = it.number_is; place_is = it.place_is;
+          act_is = is ∙ ap Some (sym (it.act_is)) })
 
   pub stands_for : (at node : ℕ) (frame : FrameId) (act : log.Act) → at < now → events at ≡ log.Acts node frame act → Stands (place_for frame at) at
   stands_for at node frame act inside is = record {
@@ -125,17 +135,20 @@ module _ (events : Events) (now : ℕ) (frames : List FrameId) (history : Histor
   }
 
   -- in one row stands one frame
-  pub one_frame : (place other : Place) (at other_at : ℕ) → place.row ≡ other.row → (it : Stands place at) → (that : Stands other other_at) → it.frame ≡ that.frame
+  pub one_frame : (place other : Place) (at other_at : ℕ) → place.row ≡ other.row → (it : Stands place at) → (that : Stands other other_at)
+      → it.frame ≡ that.frame
   one_frame place other at other_at same it that = some_same it.frame that.frame (sym (it.number) ∙ ap (slice_get frames) same ∙ that.number)
 
   pub one_position_at : (place : Place) (at other_at : ℕ) → Stands place at → Stands place other_at → at ≡ other_at
   one_position_at place at other_at it that =
       let same = one_frame place place at other_at refl it that in
-      place_once frames events it.frame at other_at it.node that.node it.done that.done it.is (subst (λ frame. events other_at ≡ log.Acts that.node frame that.done) (sym same) that.is)
+      place_once frames events it.frame at other_at it.node that.node it.done that.done it.is
+          (subst (λ frame. events other_at ≡ log.Acts that.node frame that.done) (sym same) that.is)
       (it.place_is ∙ sym (that.place_is) ∙ ap (λ frame. place_in frames events frame other_at) (sym same))
 
   -- in one row what stands earlier was done earlier
-  pub order_in_row : (place other : Place) (at other_at : ℕ) → place.row ≡ other.row → place.act < other.act → Stands place at → Stands other other_at → at < other_at
+  pub order_in_row : (place other : Place) (at other_at : ℕ) → place.row ≡ other.row → place.act < other.act → Stands place at → Stands other other_at
+      → at < other_at
   order_in_row place other at other_at same less it that =
       let frame = one_frame place other at other_at same it that in
       let one = it.place_is in
@@ -149,4 +162,5 @@ module _ (events : Events) (now : ℕ) (frames : List FrameId) (history : Histor
       let spawn = spawned_number it.done child (some_same (shown frames it.done) (row.Spawn child) (sym (it.act_is) ∙ spawns)) in
       let within : child < length history = (rows.numbered.child place child spawns).0 in
       let less : row_number frames (spawn.0) < length frames = let same = spawn.2 in let count = rows.count in omega (arith, within, same, count) in
-      (spawn.0, subst (λ done. events at ≡ log.Acts it.node it.frame done) (spawn.1) it.is, ap (slice_get frames) (sym (spawn.2)) ∙ number_get frames (spawn.0) less)
+      (spawn.0, subst (λ done. events at ≡ log.Acts it.node it.frame done) (spawn.1) it.is, ap (slice_get frames) (sym (spawn.2))
+          ∙ number_get frames (spawn.0) less)

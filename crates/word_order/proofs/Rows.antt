@@ -1,5 +1,5 @@
 -- The acts of a frame in a line of events, as the rows of a history have them, and which act stands where.
-use Rattle.std.proofs.Common.{◌≡◌, ◌⊎◌, inl, inr, ℕ, zero, suc, ◌<◌, ◌≤◌, List, [], ◌∷◌, ◌++◌, Some, Bool, true, false, cond, length, refl, sym, ◌∙◌, ap, subst, length-append, arith, rules}
+use Rattle.std.proofs.Common.{◌≡◌, inl, inr, ℕ, zero, suc, ◌<◌, ◌≤◌, List, [], ◌∷◌, ◌++◌, Some, Bool, true, false, cond, length, refl, sym, ◌∙◌, ap, subst, length-append, arith, rules}
 use Rattle.std.specs.Prelude.{slice_get}
 use Rattle.page_messages.specs.declared.closure.FrameId.{FrameId}
 use Rattle.span_tree.specs.declared.act.Act.{Act}
@@ -11,15 +11,6 @@ use Rattle.backer_order.specs.Log as log
 use Rattle.backer_order.specs.Log.{Events}
 use Rattle.backer_order.proofs.Search.{Less3, Same3, More3, compare}
 use Rattle.cluster_rules.proofs.Marks.{same_self, same_name}
-
--- ---- one frame or another
-
-pub same_or_other : (first second : FrameId) → (first ≡ second) ⊎ (same_frame first second ≡ false)
-same_or_other first second = on (same_frame first second) refl
-  where
-    on : (b : Bool) → same_frame first second ≡ b → (first ≡ second) ⊎ (same_frame first second ≡ false)
-    on true is = inl (same_name first second is)
-    on false is = inr is
 
 -- ---- the row of a frame
 
@@ -118,7 +109,8 @@ module _ (frames : List FrameId) (events : Events) (frame : FrameId) where
   ]
 
   -- the act that was done at a position stands at its place
-  pub act_there : (at node now : ℕ) (act : log.Act) → events at ≡ log.Acts node frame act → at < now → slice_get (acts now) (place_in at) ≡ Some (shown frames act)
+  pub act_there : (at node now : ℕ) (act : log.Act) → events at ≡ log.Acts node frame act → at < now
+      → slice_get (acts now) (place_in at) ≡ Some (shown frames act)
   unfolding acts_before
   act_there at node zero act is less = absurd (omega (arith, less))
   act_there at node (suc now) act is less = elim (compare at now) [
@@ -145,7 +137,8 @@ module _ (frames : List FrameId) (events : Events) (frame : FrameId) where
       older : slice_get (acts now) place ≡ Some act → Found (suc now) place act
       older found =
           let it = rest found in
-          record { at = it.at; node = it.node; done = it.done; inside = (let less = it.inside in omega (arith, less)); is = it.is; place_is = it.place_is; act_is = it.act_is }
+          record { at = it.at; node = it.node; done = it.done; inside = (let less = it.inside in omega (arith, less)); is = it.is; place_is = it.place_is;
+              act_is = it.act_is }
 
       nothing : (list : List Act) → slice_get (list ++ []) place ≡ Some act → slice_get list place ≡ Some act
       nothing list found = let same : list ++ [] ≡ list = search rules in subst (λ it. slice_get it place ≡ Some act) same found

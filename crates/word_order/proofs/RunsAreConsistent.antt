@@ -27,7 +27,8 @@ use Rattle.word_order.proofs.Made.{EachIsMade}
 use Rattle.word_order.proofs.Ordered.{EachIsShared, orders, history_is_consistent, as_many}
 use Rattle.word_order.proofs.Sharing.{each_is_shared}
 
-module _ (cluster : Cluster) (turns : List WholeTurn) (lawful : IsLawful cluster turns) (program : Program) (stands : StandsFor cluster.code program) (parted : IsParted program) where
+module _ (cluster : Cluster) (turns : List WholeTurn) (lawful : IsLawful cluster turns) (program : Program) (stands : StandsFor cluster.code program)
+    (parted : IsParted program) where
   -- each frame that acts was made before
   pub made_of : EachIsMade (events_of cluster (course_of turns))
   made_of =
@@ -53,7 +54,8 @@ pub turns_are_consistent : (cluster : Cluster) (turns : List WholeTurn) → IsLa
 turns_are_consistent cluster turns lawful order program stands parted main frames history is_history =
     let made = made_of cluster turns lawful program stands parted in
     let consistent = consistent_of cluster turns lawful program stands parted in
-    let shared : EachIsShared (events_of cluster (course_of turns)) (length (course_of turns)) (words_in cluster.code.shared) = each_is_shared cluster turns lawful order in
+    let shared : EachIsShared (events_of cluster (course_of turns)) (length (course_of turns)) (words_in cluster.code.shared) =
+        each_is_shared cluster turns lawful order in
     record {
       orders = orders cluster turns lawful main frames history is_history made consistent (words_in cluster.code.shared) shared;
       is_consistent = history_is_consistent cluster turns lawful main frames history is_history made consistent (words_in cluster.code.shared) shared;
@@ -61,7 +63,8 @@ turns_are_consistent cluster turns lawful order program stands parted main frame
     }
 
 -- and of the log of a run
-pub runs_are_consistent : (cluster : Cluster) (log : List Turn) (run : IsRun cluster log) → AreInOrder 0 cluster.code.shared → (program : Program) → StandsFor cluster.code program → IsParted program
+pub runs_are_consistent : (cluster : Cluster) (log : List Turn) (run : IsRun cluster log) → AreInOrder 0 cluster.code.shared → (program : Program)
+    → StandsFor cluster.code program → IsParted program
     → (main : ℕ) (frames : List FrameId) (history : History) → IsHistoryOf main log frames history → HasOrders cluster history
 runs_are_consistent cluster log run order program stands parted main frames history is_history =
     turns_are_consistent cluster (reverse run.turns) run.lawful order program stands parted main frames history

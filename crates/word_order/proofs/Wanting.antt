@@ -37,7 +37,8 @@ word_in extent (pos number) word is = (number, word_there extent number word (na
 word_in extent (negsuc number) word is = absurd cc
 
 -- a word of an array is one of all words
-word_among : (base : ℕ) (shared : List Extent) → AreInOrder base shared → (array : ℕ) (index : ℤ) (word : ℕ) → word_of (extent_of shared array) index ≡ Ok word → word < base + words_in shared
+word_among : (base : ℕ) (shared : List Extent) → AreInOrder base shared → (array : ℕ) (index : ℤ) (word : ℕ) → word_of (extent_of shared array) index ≡ Ok word
+    → word < base + words_in shared
 word_among base [] order array index word is =
     let found = word_in (record { base = 0; words = 0 }) index word is in
     absurd (omega (arith, (found.1).inside))
@@ -147,11 +148,14 @@ module _ (code : Code) (order : AreInOrder 0 code.shared) where
   act_fair f (Some instr.Ge) = binary_fair f op.Ge
   act_fair f (Some (instr.Jump to)) = tt
   act_fair f (Some (instr.JumpIfZero to)) = pop_fair f.running.operands _ (λ v rest. tt)
-  act_fair f (Some (instr.ReadShared array)) = pop_fair f.running.operands _ (λ i rest. given_fair (word_of (extent_of code.shared array) i) _ (λ word is. among array i word is))
+  act_fair f (Some (instr.ReadShared array)) =
+      pop_fair f.running.operands _ (λ i rest. given_fair (word_of (extent_of code.shared array) i) _ (λ word is. among array i word is))
   act_fair f (Some (instr.WriteShared array)) =
-      pop_fair f.running.operands _ (λ v below. pop_fair below _ (λ i rest. given_fair (word_of (extent_of code.shared array) i) _ (λ word is. among array i word is)))
+      pop_fair f.running.operands _
+          (λ v below. pop_fair below _ (λ i rest. given_fair (word_of (extent_of code.shared array) i) _ (λ word is. among array i word is)))
   act_fair f (Some (instr.AddShared array)) =
-      pop_fair f.running.operands _ (λ v below. pop_fair below _ (λ i rest. given_fair (word_of (extent_of code.shared array) i) _ (λ word is. among array i word is)))
+      pop_fair f.running.operands _
+          (λ v below. pop_fair below _ (λ i rest. given_fair (word_of (extent_of code.shared array) i) _ (λ word is. among array i word is)))
   act_fair f (Some instr.PrintTop) = pop_fair f.running.operands _ (λ v rest. tt)
   act_fair f (Some instr.Turn) = tt
   act_fair f (Some (instr.Call procedure)) = proc_fair (slice_get code.procs procedure) _ (λ proc. trap_fair (length f.callers == limits.calls) TooDeep _ tt)
@@ -167,7 +171,8 @@ module _ (code : Code) (order : AreInOrder 0 code.shared) where
 
   settle_fair : (n : ℕ) (f : Frame) → IsFair (settle code n f)
   settle_fair zero f = tt
-  settle_fair (suc n) f = going_fair (look code f) (settle code n) (trap_fair f.overflowed Overflow _ (act_fair f (slice_get code.instrs f.running.pc))) (settle_fair n)
+  settle_fair (suc n) f =
+      going_fair (look code f) (settle code n) (trap_fair f.overflowed Overflow _ (act_fair f (slice_get code.instrs f.running.pc))) (settle_fair n)
 
   settled_fair : (f : Frame) → IsFair (settled code f)
   settled_fair f = settle_fair (suc (suc (remaining code f))) f
@@ -182,7 +187,8 @@ module _ (code : Code) (order : AreInOrder 0 code.shared) where
   resumed_in None next each = tt
   resumed_in (Some g) next each = each g
 
-  and_in : (move : Move) (answer : Answer) (next : Frame → List Want) → IsFair move → ((g : Frame) → EachIn words (next g)) → EachIn words (want_and move answer next)
+  and_in : (move : Move) (answer : Answer) (next : Frame → List Want) → IsFair move → ((g : Frame) → EachIn words (next g))
+      → EachIn words (want_and move answer next)
   and_in (GoesOn g) answer next fair each = tt
   and_in (Requests request follows) answer next fair each = (fair, resumed_in (follows answer) next each)
   and_in (Ends want) answer next fair each = (fair, tt)
