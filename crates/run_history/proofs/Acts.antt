@@ -86,13 +86,16 @@ module _ (frames : List FrameId) where
   only_one first one (zero, less, is) = is
   only_one first one (suc place, less, is) = absurd (omega (arith, less))
 
-  pub birth_stands : (cluster : Cluster) (course : Course) → Stepped cluster course → (birth : Birth) → Contains (born_in course) birth → StandsBirth course birth
+  pub birth_stands : (cluster : Cluster) (course : Course) → Stepped cluster course → (birth : Birth) → Contains (born_in course) birth
+      → StandsBirth course birth
   birth_stands cluster [] stepped birth is = let less = is.1 in absurd (omega (arith, less))
   birth_stands cluster (moved ∷ course) stepped birth is = on (bears moved.event) (birth_stands cluster course stepped.0 birth)
     where
-      on : BearsNone moved.event ⊎ ((born : Birth) × Bears born moved.event) → (Contains (born_in course) birth → StandsBirth course birth) → StandsBirth (moved ∷ course) birth
+      on : BearsNone moved.event ⊎ ((born : Birth) × Bears born moved.event) → (Contains (born_in course) birth → StandsBirth course birth)
+          → StandsBirth (moved ∷ course) birth
       on (inl none) rest = birth_later moved course birth (rest (subst (λ list. Contains list birth) (born_none moved course none.0) is))
-      on (inr born) rest = elim (Contains-append_cases (born_in course) (born.0 ∷ []) birth (subst (λ list. Contains list birth) (born_one moved course born.0 born.1) is)) [
+      on (inr born) rest =
+          elim (Contains-append_cases (born_in course) (born.0 ∷ []) birth (subst (λ list. Contains list birth) (born_one moved course born.0 born.1) is)) [
         | inl older ↦ birth_later moved course birth (rest older)
         | inr here ↦
             let same : born.0 ≡ birth = only_one born.0 birth here in
@@ -102,6 +105,7 @@ module _ (frames : List FrameId) where
             let place : length (acts_in birth.parent course) ≡ birth.index = acts_counted birth.parent course ∙ sym count in
             let acts = acts_more birth.parent moved course ∙ ap (λ list. acts_in birth.parent course ++ list) (born_act birth moved.event bearing) in
             subst (λ list. slice_get list birth.index ≡ Some (row.Spawn (row_number frames birth.child))) (sym acts)
-            (subst (λ it. slice_get (acts_in birth.parent course ++ row.Spawn (row_number frames birth.child) ∷ []) it ≡ Some (row.Spawn (row_number frames birth.child))) place
+            (subst (λ it. slice_get (acts_in birth.parent course ++ row.Spawn (row_number frames birth.child) ∷ []) it
+                ≡ Some (row.Spawn (row_number frames birth.child))) place
             (get_last (acts_in birth.parent course) (row.Spawn (row_number frames birth.child))))
       ]

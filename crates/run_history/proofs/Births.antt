@@ -34,7 +34,8 @@ pub bears : (event : Event) → BearsNone event ⊎ ((birth : Birth) × Bears bi
 bears (Did (item.Act parent index (act.Read word value))) = inl (refl, λ frame spawns. spawns)
 bears (Did (item.Act parent index (act.Write word value))) = inl (refl, λ frame spawns. spawns)
 bears (Did (item.Act parent index (act.Print value))) = inl (refl, λ frame spawns. spawns)
-bears (Did (item.Act parent index (act.Spawn child procedure arguments))) = inr (record { child = child; parent = parent; index = index; procedure = procedure; arguments = arguments }, refl)
+bears (Did (item.Act parent index (act.Spawn child procedure arguments))) =
+    inr (record { child = child; parent = parent; index = index; procedure = procedure; arguments = arguments }, refl)
 bears (Did (item.Act parent index act.Sync)) = inl (refl, λ frame spawns. spawns)
 bears (Did (item.Tick other)) = inl (refl, λ frame spawns. spawns)
 bears (Did (item.Drop page)) = inl (refl, λ frame spawns. spawns)
@@ -64,7 +65,8 @@ made_one : (frame : FrameId) (moved : Moved) (course : Course) (birth : Birth) �
     → times frame (made_by (born_in (moved ∷ course))) ≡ times frame (made_by (born_in course)) + one (same_frame frame birth.child)
 made_one frame moved course birth is = ap (λ births. times frame (made_by births)) (born_one moved course birth is) ∙ made_times frame (born_in course) birth
 
-made_none : (frame : FrameId) (moved : Moved) (course : Course) → births_by moved.event ≡ [] → times frame (made_by (born_in (moved ∷ course))) ≡ times frame (made_by (born_in course))
+made_none : (frame : FrameId) (moved : Moved) (course : Course) → births_by moved.event ≡ []
+    → times frame (made_by (born_in (moved ∷ course))) ≡ times frame (made_by (born_in course))
 made_none frame moved course is = ap (λ births. times frame (made_by births)) (born_none moved course is)
 
 spawned_child : (frame : FrameId) (birth : Birth) (event : Event) → Bears birth event → Spawns frame event → birth.child ≡ frame
@@ -77,18 +79,21 @@ was_counts : (course : Course) (frame : FrameId) → WasSpawned frame course →
 was_counts [] frame was = absurd was
 was_counts (moved ∷ course) frame was = on (bears moved.event) was (was_counts course frame)
   where
-    on : BearsNone moved.event ⊎ ((birth : Birth) × Bears birth moved.event) → WasSpawned frame (moved ∷ course) → (WasSpawned frame course → 1 ≤ times frame (made_by (born_in course)))
+    on : BearsNone moved.event ⊎ ((birth : Birth) × Bears birth moved.event) → WasSpawned frame (moved ∷ course)
+        → (WasSpawned frame course → 1 ≤ times frame (made_by (born_in course)))
         → 1 ≤ times frame (made_by (born_in (moved ∷ course)))
     on (inl none) (inl spawns) rest = absurd (none.1 frame spawns)
     on (inl none) (inr older) rest = let same = made_none frame moved course none.0 in let before = rest older in omega (arith, same, before)
     on (inr born) (inl spawns) rest =
         let sum = made_one frame moved course born.0 born.1 in
-        let here : one (same_frame frame (born.0).child) ≡ 1 = ap (λ it. one (same_frame frame it)) (spawned_child frame born.0 moved.event born.1 spawns) ∙ ap one (same_self frame) in
+        let here : one (same_frame frame (born.0).child) ≡ 1 =
+            ap (λ it. one (same_frame frame it)) (spawned_child frame born.0 moved.event born.1 spawns) ∙ ap one (same_self frame) in
         omega (arith, sum, here)
     on (inr born) (inr older) rest = let sum = made_one frame moved course born.0 born.1 in let before = rest older in omega (arith, sum, before)
 
 made_counts : (course : Course) (frame : FrameId) → WasMade frame course → 1 ≤ times frame (made_by (born_in course))
-made_counts course frame (inl main) = let here : one (same_frame frame main_id) ≡ 1 = ap (λ it. one (same_frame it main_id)) main ∙ ap one (same_self main_id) in omega (arith, here)
+made_counts course frame (inl main) =
+    let here : one (same_frame frame main_id) ≡ 1 = ap (λ it. one (same_frame it main_id)) main ∙ ap one (same_self main_id) in omega (arith, here)
 made_counts course frame (inr was) = was_counts course frame was
 
 either_bool : (b : Bool) → (b ≡ true) ⊎ (b ≡ false)
@@ -106,7 +111,8 @@ counts_made [] frame some = elim (either_bool (same_frame frame main_id)) [
 ]
 counts_made (moved ∷ course) frame some = on (bears moved.event) (counts_made course frame)
   where
-    on : BearsNone moved.event ⊎ ((birth : Birth) × Bears birth moved.event) → (1 ≤ times frame (made_by (born_in course)) → WasMade frame course) → WasMade frame (moved ∷ course)
+    on : BearsNone moved.event ⊎ ((birth : Birth) × Bears birth moved.event) → (1 ≤ times frame (made_by (born_in course)) → WasMade frame course)
+        → WasMade frame (moved ∷ course)
     on (inl none) rest = let same = made_none frame moved course none.0 in later_made moved course frame (rest (omega (arith, some, same)))
     on (inr born) rest = elim (either_bool (same_frame frame (born.0).child)) [
       | inl same ↦ inr (inl (subst (λ it. Spawns it moved.event) (sym (same_name frame (born.0).child same)) (child_spawned born.0 moved.event born.1)))
@@ -140,6 +146,7 @@ module _ (cluster : Cluster) where
           let parent = once (times birth.parent (made_by (born_in course))) (at_most_once (born_in course) tree birth.parent) made in
           let child : times birth.child (made_by (born_in course)) ≡ 0 = elim (none_or_some (times birth.child (made_by (born_in course)))) [
             | inl none ↦ none
-            | inr some ↦ absurd (spawned_new cluster course moved stepped birth.child (child_spawned birth moved.event born.1) (counts_made course birth.child some))
+            | inr some ↦
+                absurd (spawned_new cluster course moved stepped birth.child (child_spawned birth moved.event born.1) (counts_made course birth.child some))
           ] in
           subst IsTree (sym (born_one moved course birth born.1)) (Grown (born_in course) birth tree parent child)

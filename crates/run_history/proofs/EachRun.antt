@@ -31,7 +31,8 @@ turns_have_a_history cluster turns lawful main =
     )
 
 -- and of the log of a run
-pub each_run_has_a_history : (cluster : Cluster) (log : List Turn) → IsRun cluster log → (frames : List FrameId) × (history : History) × IsHistoryOf cluster.code.main log frames history
+pub each_run_has_a_history : (cluster : Cluster) (log : List Turn) → IsRun cluster log
+    → (frames : List FrameId) × (history : History) × IsHistoryOf cluster.code.main log frames history
 each_run_has_a_history cluster log run =
     let it = turns_have_a_history cluster (reverse run.turns) run.lawful cluster.code.main in
     (it.0, it.1, subst (λ one. IsHistoryOf cluster.code.main one it.0 it.1) (ap (map logged) (reverse-reverse run.turns) ∙ sym run.log_is) it.2)

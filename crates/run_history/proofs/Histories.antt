@@ -102,7 +102,9 @@ module _ (cluster : Cluster) (main : ℕ) (course : Course) (stepped : Stepped c
   main_there = let sum = main_once in omega (arith, sum)
 
   main_row : row_at history 0 ≡ row_with frames main None (acts_in frames main_id course)
-  main_row = ap (row_at history) (sym main_number) ∙ named_row main_id main_there ∙ ap (λ birth. row_with frames main birth (acts_in frames main_id course)) (given_none births main_id never)
+  main_row =
+      ap (row_at history) (sym main_number) ∙ named_row main_id main_there
+          ∙ ap (λ birth. row_with frames main birth (acts_in frames main_id course)) (given_none births main_id never)
 
   -- ---- parents
 
@@ -128,7 +130,8 @@ module _ (cluster : Cluster) (main : ℕ) (course : Course) (stepped : Stepped c
     where
       parent_counts : row_number frames birth.parent < row_number frames birth.child → 1 ≤ times birth.parent (made_by births)
       parent_counts less =
-          let inside : row_number frames birth.parent < length frames = let most = within birth there in let same = same_count in omega (arith, less, most, same) in
+          let inside : row_number frames birth.parent < length frames =
+              let most = within birth there in let same = same_count in omega (arith, less, most, same) in
           let some = times_there frames (row_number frames birth.parent) birth.parent (number_get frames birth.parent inside) in
           let same = often birth.parent in
           omega (arith, some, same)
@@ -160,7 +163,8 @@ module _ (cluster : Cluster) (main : ℕ) (course : Course) (stepped : Stepped c
       let named : row_number frames (it.birth).child ≡ number = ap (row_number frames) it.child ∙ number_of in
       (place_of it.birth, subst (λ row. IsParent history row (place_of it.birth)) named (is_parent it.birth it.there))
     where
-      born : (frame : FrameId) → row_number frames frame ≡ number → 1 ≤ times frame frames → (b : Bool) → same_frame frame main_id ≡ b → 1 ≤ times frame (children_in births)
+      born : (frame : FrameId) → row_number frames frame ≡ number → 1 ≤ times frame frames → (b : Bool) → same_frame frame main_id ≡ b
+          → 1 ≤ times frame (children_in births)
       born frame number_of there true is =
           let first : number ≡ 0 = sym number_of ∙ ap (row_number frames) (same_name frame main_id is) ∙ main_number in absurd (omega (arith, some, first))
       born frame number_of there false is = let same = often frame in let none = ap one is in omega (arith, same, none, there)
@@ -177,12 +181,15 @@ module _ (cluster : Cluster) (main : ℕ) (course : Course) (stepped : Stepped c
       let place_is : place_of it.birth ≡ place =
       ap (λ row. record { row = row; act = (it.birth).index }) row_is ∙ ap (λ act. record { row = place.row; act = act }) it.index in (
         subst (λ it. it < length history) it.number_is (within it.birth it.there),
-        subst (λ row. IsParent history row place) it.number_is (subst (λ one_of. IsParent history (row_number frames (it.birth).child) one_of) place_is (is_parent it.birth it.there)),
+        subst (λ row. IsParent history row place) it.number_is
+            (subst (λ one_of. IsParent history (row_number frames (it.birth).child) one_of) place_is (is_parent it.birth it.there)),
       )
     where
       row_inside : (place.row < length history) ⊎ (length history ≤ place.row) → place.row < length history
       row_inside (inl less) = less
-      row_inside (inr more) = absurd (none_is (slice_get [] place.act) (Spawn number) refl (ap (λ (row : Row). slice_get row.acts place.act) (sym (no_row_past history place.row more)) ∙ found))
+      row_inside (inr more) =
+          absurd (none_is (slice_get [] place.act) (Spawn number) refl
+              (ap (λ (row : Row). slice_get row.acts place.act) (sym (no_row_past history place.row more)) ∙ found))
 
   -- ---- the serial order
 
@@ -191,7 +198,8 @@ module _ (cluster : Cluster) (main : ℕ) (course : Course) (stepped : Stepped c
       let it = child_birth births frame one_of some in
       subst (λ name. 1 ≤ times name (made_by births)) it.child_is (born_there it.birth it.there)
 
-  row_spawns : (frame : FrameId) → 1 ≤ times frame (made_by births) → filter_map spawned_by (row_at history (row_number frames frame)).acts ≡ map (row_number frames) (children births frame)
+  row_spawns : (frame : FrameId) → 1 ≤ times frame (made_by births)
+      → filter_map spawned_by (row_at history (row_number frames frame)).acts ≡ map (row_number frames) (children births frame)
   row_spawns frame some = ap (filter_map spawned_by) (ap (λ (row : Row). row.acts) (named_row frame some) ∙ row_acts frame) ∙ spawns_in frames frame course
 
   preorder : 0 ∷ filter_map spawned_by (serial_acts history) ≡ range_with_len 0 (length history)

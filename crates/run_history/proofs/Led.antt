@@ -19,7 +19,8 @@ module _ (births : List Birth) (once : (frame : FrameId) → times frame (childr
   IsLed seen [] = Unit {0}
   IsLed seen (frame ∷ list) = HasParent seen frame × IsLed (frame ∷ seen) list
 
-  led_more : (seen more : List FrameId) → ((frame : FrameId) → 1 ≤ times frame seen → 1 ≤ times frame more) → (list : List FrameId) → IsLed seen list → IsLed more list
+  led_more : (seen more : List FrameId) → ((frame : FrameId) → 1 ≤ times frame seen → 1 ≤ times frame more) → (list : List FrameId) → IsLed seen list
+      → IsLed more list
   led_more seen more all [] led = tt
   led_more seen more all (frame ∷ list) led = (
     (λ birth there child. all birth.parent (led.0 birth there child)),
@@ -45,7 +46,8 @@ module _ (births : List Birth) (once : (frame : FrameId) → times frame (childr
   led_walk : (depth : ℕ) (seen : List FrameId) (frame : FrameId) → HasParent seen frame → IsLed seen (walk births depth frame)
   led_walk zero seen frame has = (has, tt)
   led_walk (suc depth) seen frame has =
-      (has, led_all (frame ∷ seen) (walk births depth) (children births frame) (λ child is. led_walk depth (frame ∷ seen) child (child_has child is)) (children births frame) (λ other some. some))
+      (has, led_all (frame ∷ seen) (walk births depth) (children births frame) (λ child is. led_walk depth (frame ∷ seen) child (child_has child is))
+          (children births frame) (λ other some. some))
     where
       child_has : (child : FrameId) → 1 ≤ times child (children births frame) → HasParent (frame ∷ seen) child
       child_has child is birth there names =
@@ -60,7 +62,8 @@ module _ (births : List Birth) (once : (frame : FrameId) → times frame (childr
   led_before seen [] led birth there some = absurd (omega (arith, some))
   led_before seen (first ∷ list) led birth there some = on (same_frame first birth.child) refl (led_before (first ∷ seen) list led.1 birth there)
     where
-      later : (b : Bool) → same_frame first birth.parent ≡ b → (1 ≤ times birth.parent (first ∷ seen)) ⊎ (row_number list birth.parent < row_number list birth.child)
+      later : (b : Bool) → same_frame first birth.parent ≡ b
+          → (1 ≤ times birth.parent (first ∷ seen)) ⊎ (row_number list birth.parent < row_number list birth.child)
           → (1 ≤ times birth.parent seen) ⊎ (cond b 0 (suc (row_number list birth.parent)) < suc (row_number list birth.child))
       later true is found = inr (omega arith)
       later false is (inl was) = inl (let none = ap one (turned first birth.parent false is) in omega (arith, was, none))
@@ -73,7 +76,8 @@ module _ (births : List Birth) (once : (frame : FrameId) → times frame (childr
       on false is rest = later (same_frame first birth.parent) refl (rest (let none = ap one (turned first birth.child false is) in omega (arith, some, none)))
 
   -- A child's number is greater than its parent's.
-  pub parent_before : times main_id (children_in births) ≡ 0 → (depth : ℕ) (birth : Birth) → Contains births birth → 1 ≤ times birth.child (walk births depth main_id)
+  pub parent_before : times main_id (children_in births) ≡ 0 → (depth : ℕ) (birth : Birth) → Contains births birth
+      → 1 ≤ times birth.child (walk births depth main_id)
       → row_number (walk births depth main_id) birth.parent < row_number (walk births depth main_id) birth.child
   parent_before never depth birth there some = elim (led_before [] (walk births depth main_id) (led_walk depth [] main_id main_has) birth there some) [
     | inl none ↦ absurd (omega (arith, none))
@@ -81,4 +85,5 @@ module _ (births : List Birth) (once : (frame : FrameId) → times frame (childr
   ]
     where
       main_has : HasParent [] main_id
-      main_has other is names = let counts = child_counts births other is in let none = ap (λ it. times it (children_in births)) names in absurd (omega (arith, counts, none, never))
+      main_has other is names =
+          let counts = child_counts births other is in let none = ap (λ it. times it (children_in births)) names in absurd (omega (arith, counts, none, never))

@@ -18,7 +18,8 @@ turned first second true is = subst (λ it. same_frame it first ≡ true) (same_
 turned first second false is = on (same_frame second first) refl
   where
     on : (b : Bool) → same_frame second first ≡ b → b ≡ false
-    on true other = let same : same_frame first second ≡ true = subst (λ it. same_frame it second ≡ true) (same_name second first other) (same_self second) in absurd cc
+    on true other =
+        let same : same_frame first second ≡ true = subst (λ it. same_frame it second ≡ true) (same_name second first other) (same_self second) in absurd cc
     on false other = refl
 
 -- ---- the number of a frame
@@ -27,7 +28,8 @@ pub number_within : (list : List FrameId) (frame : FrameId) → 1 ≤ times fram
 number_within [] frame some = absurd (omega (arith, some))
 number_within (first ∷ list) frame some = on (same_frame first frame) refl some (number_within list frame)
   where
-    on : (b : Bool) → same_frame first frame ≡ b → 1 ≤ one (same_frame frame first) + times frame list → (1 ≤ times frame list → row_number list frame < length list)
+    on : (b : Bool) → same_frame first frame ≡ b → 1 ≤ one (same_frame frame first) + times frame list
+        → (1 ≤ times frame list → row_number list frame < length list)
         → cond b 0 (suc (row_number list frame)) < suc (length list)
     on true is some rest = omega arith
     on false is some rest = let none = ap one (turned first frame false is) in let less = rest (omega (arith, some, none)) in omega (arith, less)
@@ -36,14 +38,16 @@ pub number_behind : (front back : List FrameId) (frame : FrameId) → times fram
 number_behind [] back frame none = ap (λ b. cond b 0 (suc (row_number back frame))) (same_self frame)
 number_behind (first ∷ front) back frame none = on (same_frame frame first) refl none (number_behind front back frame)
   where
-    on : (b : Bool) → same_frame frame first ≡ b → one b + times frame front ≡ 0 → (times frame front ≡ 0 → row_number (front ++ frame ∷ back) frame ≡ length front)
+    on : (b : Bool) → same_frame frame first ≡ b → one b + times frame front ≡ 0
+        → (times frame front ≡ 0 → row_number (front ++ frame ∷ back) frame ≡ length front)
         → cond (same_frame first frame) 0 (suc (row_number (front ++ frame ∷ back) frame)) ≡ suc (length front)
     on true is none rest = absurd (omega (arith, none))
     on false is none rest =
         ap (λ b. cond b 0 (suc (row_number (front ++ frame ∷ back) frame))) (turned frame first false is) ∙ ap suc (rest (omega (arith, none)))
 
 -- The numbers of all rows are 0, 1, 2 and so on.
-pub numbers_from : (front back : List FrameId) → ((frame : FrameId) → times frame (front ++ back) ≤ 1) → map (row_number (front ++ back)) back ≡ range_with_len (length front) (length back)
+pub numbers_from : (front back : List FrameId) → ((frame : FrameId) → times frame (front ++ back) ≤ 1)
+    → map (row_number (front ++ back)) back ≡ range_with_len (length front) (length back)
 numbers_from front [] once = refl
 numbers_from front (frame ∷ back) once =
     let both = times_append frame front (frame ∷ back) in
@@ -62,14 +66,16 @@ times_there (first ∷ list) zero frame found =
     let same : first ≡ frame = cc in let here = ap (λ it. one (same_frame frame it)) same ∙ ap one (same_self frame) in omega (arith, here)
 times_there (first ∷ list) (suc number) frame found = let rest = times_there list number frame found in omega (arith, rest)
 
-pub number_is : (list : List FrameId) → ((frame : FrameId) → times frame list ≤ 1) → (number : ℕ) (frame : FrameId) → slice_get list number ≡ Some frame → row_number list frame ≡ number
+pub number_is : (list : List FrameId) → ((frame : FrameId) → times frame list ≤ 1) → (number : ℕ) (frame : FrameId) → slice_get list number ≡ Some frame
+    → row_number list frame ≡ number
 number_is [] once number frame found = absurd cc
 number_is (first ∷ list) once zero frame found = let same : first ≡ frame = cc in
     ap (λ it. cond (same_frame it frame) 0 (suc (row_number list frame))) same ∙ ap (λ b. cond b 0 (suc (row_number list frame))) (same_self frame)
 number_is (first ∷ list) once (suc number) frame found =
     on (same_frame frame first) refl (once frame) (number_is list (λ other. let few = once other in omega (arith, few)) number frame found)
   where
-    on : (b : Bool) → same_frame frame first ≡ b → one b + times frame list ≤ 1 → row_number list frame ≡ number → cond (same_frame first frame) 0 (suc (row_number list frame)) ≡ suc number
+    on : (b : Bool) → same_frame frame first ≡ b → one b + times frame list ≤ 1 → row_number list frame ≡ number
+        → cond (same_frame first frame) 0 (suc (row_number list frame)) ≡ suc number
     on true is few rest = let some = times_there list number frame found in absurd (omega (arith, few, some))
     on false is few rest = ap (λ b. cond b 0 (suc (row_number list frame))) (turned frame first false is) ∙ ap suc rest
 
@@ -124,14 +130,16 @@ pub given_none : (births : List Birth) (frame : FrameId) → times frame (childr
 given_none [] frame none = refl
 given_none (first ∷ births) frame none = on (same_frame frame first.child) refl none (given_none births frame)
   where
-    on : (b : Bool) → same_frame frame first.child ≡ b → one b + times frame (children_in births) ≡ 0 → (times frame (children_in births) ≡ 0 → given (birth_of frame) births ≡ None)
+    on : (b : Bool) → same_frame frame first.child ≡ b → one b + times frame (children_in births) ≡ 0
+        → (times frame (children_in births) ≡ 0 → given (birth_of frame) births ≡ None)
         → given (birth_of frame) (first ∷ births) ≡ None
     on true is none rest = absurd (omega (arith, none))
     on false is none rest =
         ap (λ b. or_else (cond b (Some first) None) (given (birth_of frame) births)) (turned frame first.child false is) ∙ rest (omega (arith, none))
 
 -- a frame is born once
-pub one_birth : (births : List Birth) → ((frame : FrameId) → times frame (children_in births) ≤ 1) → (birth other : Birth) → Contains births birth → Contains births other
+pub one_birth : (births : List Birth) → ((frame : FrameId) → times frame (children_in births) ≤ 1) → (birth other : Birth) → Contains births birth
+    → Contains births other
     → birth.child ≡ other.child
     → birth ≡ other
 one_birth [] once birth other is is' same = let less = is.1 in absurd (omega (arith, less))
@@ -145,7 +153,8 @@ one_birth (first ∷ births) once birth other is is' same = on (first_or_later f
         let here = ap (λ it. one (same_frame one_of.child it)) names ∙ ap one (same_self one_of.child) in
         omega (arith, few, some, here)
 
-    on : (first ≡ birth) ⊎ Contains births birth → (first ≡ other) ⊎ Contains births other → (Contains births birth → Contains births other → birth ≡ other) → birth ≡ other
+    on : (first ≡ birth) ⊎ Contains births birth → (first ≡ other) ⊎ Contains births other → (Contains births birth → Contains births other → birth ≡ other)
+        → birth ≡ other
     on (inl here) (inl there) rest = sym here ∙ there
     on (inl here) (inr later) rest = absurd (twice other (ap (λ (it : Birth). it.child) here ∙ same) later)
     on (inr later) (inl there) rest = absurd (twice birth (ap (λ (it : Birth). it.child) there ∙ sym same) later)
@@ -168,9 +177,12 @@ child_birth (first ∷ births) parent child some = on (same_frame first.parent p
 
     here : same_frame first.parent parent ≡ true → (b : Bool) → same_frame child first.child ≡ b → 1 ≤ one b + times child (children births parent)
         → (1 ≤ times child (children births parent) → ChildOf (first ∷ births) parent child) → ChildOf (first ∷ births) parent child
-    here is true same some rest = record { birth = first; there = is_first first births; parent_is = same_name first.parent parent is; child_is = sym (same_name child first.child same) }
+    here is true same some rest =
+        record { birth = first; there = is_first first births; parent_is = same_name first.parent parent is; child_is = sym (same_name child first.child same) }
     here is false same some rest = rest (omega (arith, some))
 
-    on : (b : Bool) → same_frame first.parent parent ≡ b → (1 ≤ times child (children births parent) → ChildOf (first ∷ births) parent child) → ChildOf (first ∷ births) parent child
-    on true is rest = here is (same_frame child first.child) refl (subst (λ b. 1 ≤ times child (cons_option (cond b (Some first.child) None) (children births parent))) is some) rest
+    on : (b : Bool) → same_frame first.parent parent ≡ b → (1 ≤ times child (children births parent) → ChildOf (first ∷ births) parent child)
+        → ChildOf (first ∷ births) parent child
+    on true is rest = here is (same_frame child first.child) refl
+        (subst (λ b. 1 ≤ times child (cons_option (cond b (Some first.child) None) (children births parent))) is some) rest
     on false is rest = rest (subst (λ b. 1 ≤ times child (cons_option (cond b (Some first.child) None) (children births parent))) is some)

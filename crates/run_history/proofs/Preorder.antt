@@ -26,7 +26,8 @@ module _ (history : History) where
 
   named_both : (front back : List Place) → named_at (front ++ back) ≡ named_at front ++ named_at back
   named_both front back =
-      ap (filter_map spawned_by) (filter_map-append (act_at history) front back) ∙ filter_map-append spawned_by (filter_map (act_at history) front) (filter_map (act_at history) back)
+      ap (filter_map spawned_by) (filter_map-append (act_at history) front back)
+          ∙ filter_map-append spawned_by (filter_map (act_at history) front) (filter_map (act_at history) back)
 
   -- what one act names
   abbrev named_by : (ℕ → List Place) → Act → List ℕ
@@ -35,14 +36,16 @@ module _ (history : History) where
   plain : (place : Place) (done : Act) → act_at history place ≡ Some done → spawned_by done ≡ None → named_at (place ∷ []) ≡ []
   plain place done is none = ap (λ it. filter_map spawned_by (cons_option it [])) is ∙ ap (λ it. cons_option it []) none
 
-  spawn : (places : ℕ → List Place) (place : Place) (child : ℕ) → act_at history place ≡ Some (Spawn child) → named_at (place ∷ places child) ≡ child ∷ named_at (places child)
+  spawn : (places : ℕ → List Place) (place : Place) (child : ℕ) → act_at history place ≡ Some (Spawn child)
+      → named_at (place ∷ places child) ≡ child ∷ named_at (places child)
   spawn places place child is = ap (λ it. filter_map spawned_by (cons_option it (filter_map (act_at history) (places child)))) is
 
   nothing_more : (list : List ℕ) → list ++ [] ≡ list
   nothing_more [] = refl
   nothing_more (first ∷ list) = ap (λ it. first ∷ it) (nothing_more list)
 
-  named_one : (places : ℕ → List Place) (place : Place) (done : Act) → act_at history place ≡ Some done → named_at (with_child_places places place done) ≡ named_by places done
+  named_one : (places : ℕ → List Place) (place : Place) (done : Act) → act_at history place ≡ Some done
+      → named_at (with_child_places places place done) ≡ named_by places done
   named_one places place (Read word value) is = plain place (Read word value) is refl
   named_one places place (Write word value) is = plain place (Write word value) is refl
   named_one places place (Add word old addend) is = plain place (Add word old addend) is refl
@@ -57,13 +60,16 @@ module _ (history : History) where
       on : (it : Option ℕ) → all_below (λ number. named_at (places number)) (cons_option it (filter_map spawned_by acts))
           ≡ all_below (λ number. named_at (places number)) (cons_option it []) ++ all_below (λ number. named_at (places number)) (filter_map spawned_by acts)
       on None = refl
-      on (Some number) = ap (λ list. list ++ all_below (λ it. named_at (places it)) (filter_map spawned_by acts)) (sym (nothing_more (number ∷ named_at (places number))))
+      on (Some number) =
+          ap (λ list. list ++ all_below (λ it. named_at (places it)) (filter_map spawned_by acts)) (sym (nothing_more (number ∷ named_at (places number))))
 
   next_place : (index place : ℕ) → suc index + place ≡ index + suc place
   next_place index place = omega arith
 
-  pub from_zero : (row place : ℕ) (done : Act) → slice_get (row_at history row).acts place ≡ Some done → act_at history (record { row = row; act = 0 + place }) ≡ Some done
-  from_zero row place done found = let same : place ≡ 0 + place = omega arith in subst (λ it. act_at history (record { row = row; act = it }) ≡ Some done) same found
+  pub from_zero : (row place : ℕ) (done : Act) → slice_get (row_at history row).acts place ≡ Some done
+      → act_at history (record { row = row; act = 0 + place }) ≡ Some done
+  from_zero row place done found =
+      let same : place ≡ 0 + place = omega arith in subst (λ it. act_at history (record { row = row; act = it }) ≡ Some done) same found
 
   -- what the acts of a row name
   named_from : (places : ℕ → List Place) (row index : ℕ) (acts : List Act)
@@ -75,14 +81,16 @@ module _ (history : History) where
       let same : index + 0 ≡ index = omega arith in
       let here : act_at history place ≡ Some done = subst (λ it. act_at history (record { row = row; act = it }) ≡ Some done) same (there 0 done refl) in
       let rest = named_from places row (suc index) acts
-      (λ later one found. subst (λ it. act_at history (record { row = row; act = it }) ≡ Some one) (sym (next_place index later)) (there (suc later) one found)) in
+      (λ later one found. subst (λ it. act_at history (record { row = row; act = it }) ≡ Some one) (sym (next_place index later))
+          (there (suc later) one found)) in
       named_both (with_child_places places place done) (places_from places row (suc index) acts)
       ∙ ap (λ list. list ++ named_at (places_from places row (suc index) acts)) (named_one places place done here)
       ∙ ap (λ list. named_by places done ++ list) rest
       ∙ sym (below_more places done acts)
 
   module _ (births : List Birth) (frames : List FrameId)
-      (spawns : (frame : FrameId) → 1 ≤ times frame (made_by births) → filter_map spawned_by (row_at history (row_number frames frame)).acts ≡ map (row_number frames) (children births frame))
+      (spawns : (frame : FrameId) → 1 ≤ times frame (made_by births)
+          → filter_map spawned_by (row_at history (row_number frames frame)).acts ≡ map (row_number frames) (children births frame))
       (made : (frame child : FrameId) → 1 ≤ times child (children births frame) → 1 ≤ times child (made_by births)) where
     below_all : (below : ℕ → List ℕ) (walked : FrameId → List FrameId) (list : List FrameId)
         → ((frame : FrameId) → 1 ≤ times frame list → row_number frames frame ∷ below (row_number frames frame) ≡ map (row_number frames) (walked frame))
@@ -99,6 +107,8 @@ module _ (history : History) where
     named_below zero frame some = refl
     named_below (suc depth) frame some =
         ap (λ list. row_number frames frame ∷ list)
-        (named_from (places_below depth history) (row_number frames frame) 0 (row_at history (row_number frames frame)).acts (λ place done found. from_zero (row_number frames frame) place done found)
+        (named_from (places_below depth history) (row_number frames frame) 0 (row_at history (row_number frames frame)).acts
+            (λ place done found. from_zero (row_number frames frame) place done found)
         ∙ ap (all_below (λ number. named_at (places_below depth history number))) (spawns frame some)
-        ∙ below_all (λ number. named_at (places_below depth history number)) (walk births depth) (children births frame) (λ child is. named_below depth child (made frame child is)))
+        ∙ below_all (λ number. named_at (places_below depth history number)) (walk births depth) (children births frame)
+            (λ child is. named_below depth child (made frame child is)))

@@ -50,7 +50,8 @@ module _ (frames : List FrameId) where
   abbrev Adds : FrameId → Event → Type 0
   Adds frame event = (done : Act) × (acts_by frames frame event ≡ done ∷ []) × ((number : ℕ) → done ≡ row.Spawn number → BirthOf frame event number)
 
-  birth_of_spawn : (frame other : FrameId) (index : ℕ) (done : LoggedAct) → other ≡ frame → (number : ℕ) → SpawnOf done number → BirthOf frame (Did (item.Act other index done)) number
+  birth_of_spawn : (frame other : FrameId) (index : ℕ) (done : LoggedAct) → other ≡ frame → (number : ℕ) → SpawnOf done number
+      → BirthOf frame (Did (item.Act other index done)) number
   birth_of_spawn frame other index done same number it = record {
     birth = record { child = it.child; parent = other; index = index; procedure = it.procedure; arguments = it.arguments };
     is = ap (λ one. Did (item.Act other index one)) it.is;
@@ -61,7 +62,8 @@ module _ (frames : List FrameId) where
   adds : (frame : FrameId) (event : Event) → (acts_by frames frame event ≡ []) ⊎ Adds frame event
   adds frame (Did (item.Act other index done)) = on (same_frame other frame) refl
     where
-      on : (b : Bool) → same_frame other frame ≡ b → (acts_by frames frame (Did (item.Act other index done)) ≡ []) ⊎ Adds frame (Did (item.Act other index done))
+      on : (b : Bool) → same_frame other frame ≡ b → (acts_by frames frame (Did (item.Act other index done)) ≡ [])
+          ⊎ Adds frame (Did (item.Act other index done))
       on true is = inr (
         act_of frames done,
         ap (λ b. cons_option (cond b (Some (act_of frames done)) None) []) is,
@@ -70,7 +72,8 @@ module _ (frames : List FrameId) where
       on false is = inl (ap (λ b. cons_option (cond b (Some (act_of frames done)) None) []) is)
   adds frame (Did (item.Served other index word old addend)) = on (same_frame other frame) refl
     where
-      on : (b : Bool) → same_frame other frame ≡ b → (acts_by frames frame (Did (item.Served other index word old addend)) ≡ []) ⊎ Adds frame (Did (item.Served other index word old addend))
+      on : (b : Bool) → same_frame other frame ≡ b → (acts_by frames frame (Did (item.Served other index word old addend)) ≡ [])
+          ⊎ Adds frame (Did (item.Served other index word old addend))
       on true is = inr (row.Add word old addend, ap (λ b. cons_option (cond b (Some (row.Add word old addend)) None) []) is, λ number spawns. absurd cc)
       on false is = inl (ap (λ b. cons_option (cond b (Some (row.Add word old addend)) None) []) is)
   adds frame (Did (item.Tick other)) = inl refl
@@ -90,10 +93,12 @@ module _ (frames : List FrameId) where
     pub index : birth.index ≡ place
     pub number_is : row_number frames birth.child ≡ number
 
-  older_birth : (moved : Moved) (course : Course) (frame : FrameId) (place number : ℕ) → IsBirth course frame place number → IsBirth (moved ∷ course) frame place number
+  older_birth : (moved : Moved) (course : Course) (frame : FrameId) (place number : ℕ) → IsBirth course frame place number
+      → IsBirth (moved ∷ course) frame place number
   older_birth moved course frame place number it = record {
     birth = it.birth;
-    there = subst (λ list. Contains list it.birth) (sym (born_more moved course)) (Contains-append_left (born_in course) (births_by moved.event) it.birth it.there);
+    there =
+        subst (λ list. Contains list it.birth) (sym (born_more moved course)) (Contains-append_left (born_in course) (births_by moved.event) it.birth it.there);
     parent = it.parent;
     index = it.index;
     number_is = it.number_is;
@@ -105,7 +110,8 @@ module _ (frames : List FrameId) where
   spawn_is_birth cluster (moved ∷ course) stepped frame place number found =
       on (adds frame moved.event) (λ older. older_birth moved course frame place number (spawn_is_birth cluster course stepped.0 frame place number older))
     where
-      on : (acts_by frames frame moved.event ≡ []) ⊎ Adds frame moved.event → (slice_get (acts_in frames frame course) place ≡ Some (row.Spawn number) → IsBirth (moved ∷ course) frame place number)
+      on : (acts_by frames frame moved.event ≡ []) ⊎ Adds frame moved.event
+          → (slice_get (acts_in frames frame course) place ≡ Some (row.Spawn number) → IsBirth (moved ∷ course) frame place number)
           → IsBirth (moved ∷ course) frame place number
       on (inl none) rest =
           let same : acts_in frames frame (moved ∷ course) ≡ acts_in frames frame course =
@@ -113,7 +119,8 @@ module _ (frames : List FrameId) where
           rest (subst (λ list. slice_get list place ≡ Some (row.Spawn number)) same found)
       on (inr (done, is, births)) rest =
           let same = acts_more frames frame moved course ∙ ap (λ list. acts_in frames frame course ++ list) is in
-          elim (get_more (acts_in frames frame course) done (row.Spawn number) place (subst (λ list. slice_get list place ≡ Some (row.Spawn number)) same found)) [
+          elim (get_more (acts_in frames frame course) done (row.Spawn number) place
+              (subst (λ list. slice_get list place ≡ Some (row.Spawn number)) same found)) [
             | inl older ↦ rest older
             | inr here ↦ now (births number here.1) here.0
           ]
@@ -125,7 +132,9 @@ module _ (frames : List FrameId) where
               let count = index_is_count cluster course moved stepped step it.is frame birth.index (it.parent, refl) in
               record {
                 birth = birth;
-                there = subst (λ list. Contains list birth) (sym (born_one moved course birth it.is)) (Contains-append_right (born_in course) (birth ∷ []) birth (0, omega arith, refl));
+                there =
+                    subst (λ list. Contains list birth) (sym (born_one moved course birth it.is))
+                        (Contains-append_right (born_in course) (birth ∷ []) birth (0, omega arith, refl));
                 parent = it.parent;
                 index = count ∙ sym (acts_counted frames frame course) ∙ sym place_is;
                 number_is = it.number_is;
@@ -142,7 +151,8 @@ module _ (frames : List FrameId) where
   a_spawn true child = refl
   a_spawn false child = refl
 
-  spawns_by : (frame : FrameId) (event : Event) → filter_map spawned_by (acts_by frames frame event) ≡ map (row_number frames) (children (births_by event) frame)
+  spawns_by : (frame : FrameId) (event : Event)
+      → filter_map spawned_by (acts_by frames frame event) ≡ map (row_number frames) (children (births_by event) frame)
   spawns_by frame (Did (item.Act other index (act.Read word value))) = no_spawn (same_frame other frame) (row.Read word value) refl
   spawns_by frame (Did (item.Act other index (act.Write word value))) = no_spawn (same_frame other frame) (row.Write word value) refl
   spawns_by frame (Did (item.Act other index (act.Print value))) = no_spawn (same_frame other frame) (row.Print value) refl
@@ -159,7 +169,8 @@ module _ (frames : List FrameId) where
   spawns_by frame (Ended end) = refl
 
   -- The Spawn acts of a frame name the rows of its children in order.
-  pub spawns_in : (frame : FrameId) (course : Course) → filter_map spawned_by (acts_in frames frame course) ≡ map (row_number frames) (children (born_in course) frame)
+  pub spawns_in : (frame : FrameId) (course : Course)
+      → filter_map spawned_by (acts_in frames frame course) ≡ map (row_number frames) (children (born_in course) frame)
   spawns_in frame [] = refl
   spawns_in frame (moved ∷ course) =
       ap (filter_map spawned_by) (acts_more frames frame moved course)
@@ -167,4 +178,5 @@ module _ (frames : List FrameId) where
       ∙ ap (λ list. list ++ filter_map spawned_by (acts_by frames frame moved.event)) (spawns_in frame course)
       ∙ ap (λ list. map (row_number frames) (children (born_in course) frame) ++ list) (spawns_by frame moved.event)
       ∙ sym (map-append (row_number frames) (children (born_in course) frame) (children (births_by moved.event) frame))
-      ∙ ap (map (row_number frames)) (sym (filter_map-append (child_of frame) (born_in course) (births_by moved.event)) ∙ ap (λ births. children births frame) (sym (born_more moved course)))
+      ∙ ap (map (row_number frames)) (sym (filter_map-append (child_of frame) (born_in course) (births_by moved.event))
+          ∙ ap (λ births. children births frame) (sym (born_more moved course)))

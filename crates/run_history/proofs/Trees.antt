@@ -16,13 +16,15 @@ made_by births = main_id ∷ map (λ birth. birth.child) births
 -- Births in which each parent was made before its child, and each child is new.
 pub data IsTree : List Birth → Type 0 where
   Bare : IsTree []
-  Grown : (births : List Birth) (birth : Birth) → IsTree births → times birth.parent (made_by births) ≡ 1 → times birth.child (made_by births) ≡ 0 → IsTree (births ++ birth ∷ [])
+  Grown : (births : List Birth) (birth : Birth) → IsTree births → times birth.parent (made_by births) ≡ 1 → times birth.child (made_by births) ≡ 0
+      → IsTree (births ++ birth ∷ [])
 
 pub made_more : (births : List Birth) (birth : Birth) → made_by (births ++ birth ∷ []) ≡ made_by births ++ birth.child ∷ []
 made_more births birth = ap (λ list. main_id ∷ list) (map-append (λ (it : Birth). it.child) births (birth ∷ []))
 
 module _ (frame : FrameId) where
-  pub made_times : (births : List Birth) (birth : Birth) → times frame (made_by (births ++ birth ∷ [])) ≡ times frame (made_by births) + one (same_frame frame birth.child)
+  pub made_times : (births : List Birth) (birth : Birth)
+      → times frame (made_by (births ++ birth ∷ [])) ≡ times frame (made_by births) + one (same_frame frame birth.child)
   made_times births birth = let both = ap (times frame) (made_more births birth) ∙ times_append frame (made_by births) (birth.child ∷ []) in omega (arith, both)
 
 -- who was not made has no children
@@ -40,7 +42,8 @@ childless _ (Grown births birth tree parent new) frame none =
         let sum = made_times frame births birth in absurd (omega (arith, none, same, parent, sum))
     on false is = rw is refl
 
-not_itself : (births : List Birth) (birth : Birth) → times birth.parent (made_by births) ≡ 1 → times birth.child (made_by births) ≡ 0 → (b : Bool) → same_frame birth.parent birth.child ≡ b → b ≡ false
+not_itself : (births : List Birth) (birth : Birth) → times birth.parent (made_by births) ≡ 1 → times birth.child (made_by births) ≡ 0 → (b : Bool)
+    → same_frame birth.parent birth.child ≡ b → b ≡ false
 not_itself births birth parent new true is =
     let same = ap (λ it. times it (made_by births)) (same_name birth.parent birth.child is) in absurd (omega (arith, same, parent, new))
 not_itself births birth parent new false is = refl
@@ -54,14 +57,17 @@ gained true count is = is
 gained false count is = refl
 
 -- The walk has each frame as often as it was made.
-pub as_often : (births : List Birth) → IsTree births → (frame : FrameId) (depth : ℕ) → length births ≤ depth → times frame (walk births depth main_id) ≡ times frame (made_by births)
+pub as_often : (births : List Birth) → IsTree births → (frame : FrameId) (depth : ℕ) → length births ≤ depth
+    → times frame (walk births depth main_id) ≡ times frame (made_by births)
 as_often _ Bare frame depth deep = ap (times frame) (bare main_id depth)
 as_often _ (Grown births birth tree parent new) frame zero deep = let sum = length-append births (birth ∷ []) in absurd (omega (arith, sum, deep))
 as_often _ (Grown births birth tree parent new) frame (suc depth) deep =
     let sum = length-append births (birth ∷ []) in
-    let more = grows births birth frame (childless births tree birth.child new) (not_itself births birth parent new (same_frame birth.parent birth.child) refl) depth main_id in
+    let more = grows births birth frame (childless births tree birth.child new)
+        (not_itself births birth parent new (same_frame birth.parent birth.child) refl) depth main_id in
     let old = as_often births tree frame (suc depth) (omega (arith, sum, deep)) in
-    let gain = gained (same_frame frame birth.child) (times birth.parent (walk births depth main_id)) (as_often births tree birth.parent depth (omega (arith, sum, deep)) ∙ parent) in
+    let gain = gained (same_frame frame birth.child) (times birth.parent (walk births depth main_id))
+        (as_often births tree birth.parent depth (omega (arith, sum, deep)) ∙ parent) in
     let made = made_times frame births birth in
     omega (arith, more, old, gain, made)
 

@@ -46,7 +46,8 @@ walk_none (frame ∷ frames) = walk_none frames
 
 walk_both : (walked : FrameId → List FrameId) (front back : List FrameId) → walk_all walked (front ++ back) ≡ walk_all walked front ++ walk_all walked back
 walk_both walked [] back = refl
-walk_both walked (frame ∷ front) back = ap (λ list. walked frame ++ list) (walk_both walked front back) ∙ sym (append_assoc (walked frame) (walk_all walked front) (walk_all walked back))
+walk_both walked (frame ∷ front) back =
+    ap (λ list. walked frame ++ list) (walk_both walked front back) ∙ sym (append_assoc (walked frame) (walk_all walked front) (walk_all walked back))
 
 abbrev gains : Bool → ℕ → ℕ
 gains b count = cond b count 0
@@ -54,12 +55,6 @@ gains b count = cond b count 0
 gains_sum : (b : Bool) (first second : ℕ) → gains b (first + second) ≡ gains b first + gains b second
 gains_sum true first second = refl
 gains_sum false first second = refl
-
-gains_one : (b c : Bool) → gains b (one c) ≡ cond c (one b) 0
-gains_one true true = refl
-gains_one true false = refl
-gains_one false true = refl
-gains_one false false = refl
 
 gains_none : (b : Bool) → gains b 0 ≡ 0
 gains_none true = refl
@@ -78,8 +73,10 @@ module _ (births : List Birth) (birth : Birth) (frame : FrameId) where
       let first = each it in
       let left = times_append frame (later it) (walk_all later list) in
       let right = times_append frame (earlier it) (walk_all earlier list) in
-      let more : gains here (times birth.parent (before it ++ walk_all before list)) ≡ gains here (times birth.parent (before it)) + gains here (times birth.parent (walk_all before list)) =
-      ap (gains here) (times_append birth.parent (before it) (walk_all before list)) ∙ gains_sum here (times birth.parent (before it)) (times birth.parent (walk_all before list)) in
+      let more : gains here (times birth.parent (before it ++ walk_all before list)) ≡ gains here (times birth.parent (before it)) + gains here
+          (times birth.parent (walk_all before list)) =
+      ap (gains here) (times_append birth.parent (before it) (walk_all before list))
+          ∙ gains_sum here (times birth.parent (before it)) (times birth.parent (walk_all before list)) in
       omega (arith, rest, first, left, right, more)
 
   -- the children now
@@ -90,7 +87,8 @@ module _ (births : List Birth) (birth : Birth) (frame : FrameId) where
       on true = refl
       on false = refl
 
-  born_there : (later : FrameId → List FrameId) → times frame (later birth.child) ≡ one here → (b : Bool) → times frame (walk_all later (cond b (birth.child ∷ []) [])) ≡ gains here (one b)
+  born_there : (later : FrameId → List FrameId) → times frame (later birth.child) ≡ one here → (b : Bool)
+      → times frame (walk_all later (cond b (birth.child ∷ []) [])) ≡ gains here (one b)
   born_there later is true = ap (times frame) (append-nil (later birth.child)) ∙ is
   born_there later is false = sym (gains_none here)
 
@@ -117,7 +115,8 @@ module _ (births : List Birth) (birth : Birth) (frame : FrameId) where
     alone : (depth : ℕ) → times frame (walk (births ++ birth ∷ []) depth birth.child) ≡ one here
     alone zero = let it : one here + 0 ≡ one here = omega arith in it
     alone (suc depth) =
-        ap (λ list. one here + times frame (walk_all (walk (births ++ birth ∷ []) depth) list)) childless_still ∙ (let it : one here + 0 ≡ one here = omega arith in it)
+        ap (λ list. one here + times frame (walk_all (walk (births ++ birth ∷ []) depth) list)) childless_still
+            ∙ (let it : one here + 0 ≡ one here = omega arith in it)
 
     -- The child stands in the walk as often as its parent does one level higher.
     pub grows : (depth : ℕ) (it : FrameId) → times frame (walk (births ++ birth ∷ []) (suc depth) it)
