@@ -16,11 +16,13 @@ LeavesBy memory event node word value =
     ((frame : FrameId) × (event ≡ Acts node frame (Write word value)))
     ⊎ ((frame : FrameId) × (old addend : ℤ) × (event ≡ Acts node frame (Add word old addend)) × (memory.sum old addend ≡ Some value))
 
-pub obtains_by : (events : Events) (at : ℕ) (event : Event) (node word : ℕ) (value : ℤ) → events at ≡ event → Obtains events node word at value → ObtainsBy event node word value
+pub obtains_by : (events : Events) (at : ℕ) (event : Event) (node word : ℕ) (value : ℤ) → events at ≡ event → Obtains events node word at value
+    → ObtainsBy event node word value
 obtains_by events at event node word value is (inl read) = inl (read.frame, sym is ∙ read.is)
 obtains_by events at event node word value is (inr add) = inr (add.frame, add.addend, sym is ∙ add.is)
 
-pub obtains_from : (events : Events) (at : ℕ) (event : Event) (node word : ℕ) (value : ℤ) → events at ≡ event → ObtainsBy event node word value → Obtains events node word at value
+pub obtains_from : (events : Events) (at : ℕ) (event : Event) (node word : ℕ) (value : ℤ) → events at ≡ event → ObtainsBy event node word value
+    → Obtains events node word at value
 obtains_from events at event node word value is (inl read) = inl (record { frame = read.0; is = is ∙ read.1 })
 obtains_from events at event node word value is (inr add) = inr (record { frame = add.0; addend = add.1; is = is ∙ add.2 })
 
@@ -49,7 +51,8 @@ module _ (memory : SharedMemory) where
     at = last.at;
     before = last.before;
     leaves = leaves_same events other last.at last.node word value (same last.at last.before) last.leaves;
-    none = λ at from to leaving. last.none at from to (leaving.0, (leaving.1.0, leaves_same other events at leaving.0 word leaving.1.0 (sym (same at to)) leaving.1.1));
+    none = λ at from to leaving. last.none at from to
+        (leaving.0, (leaving.1.0, leaves_same other events at leaving.0 word leaving.1.0 (sym (same at to)) leaving.1.1));
   })
   last_same events other word now value same (inr none) = inr (record {
     start = none.start;
@@ -100,7 +103,8 @@ module _ (memory : SharedMemory) where
   some_value : (value value' : ℤ) → Some value ≡ Some value' → value ≡ value'
   some_value value value' is = cc
 
-  leaves_one : (event : Event) (node other word : ℕ) (value value' : ℤ) → LeavesBy memory event node word value → LeavesBy memory event other word value' → value ≡ value'
+  leaves_one : (event : Event) (node other word : ℕ) (value value' : ℤ) → LeavesBy memory event node word value → LeavesBy memory event other word value'
+      → value ≡ value'
   leaves_one event node other word value value' (inl write) (inl write') = same_write event node other word value value' write.0 write'.0 write.1 write'.1
   leaves_one event node other word value value' (inl write) (inr add) = absurd (no_both event node other word value add.1 add.2 write.0 add.0 write.1 add.3)
   leaves_one event node other word value value' (inr add) (inl write) = absurd (no_both event other node word value' add.1 add.2 write.0 add.0 write.1 add.3)
@@ -108,7 +112,8 @@ module _ (memory : SharedMemory) where
       let both = same_add event node other word add.1 add'.1 add.2 add'.2 add.0 add'.0 add.3 add'.3 in
       some_value value value' (sym add.4 ∙ ap (λ i. memory.sum i add.2) both.0 ∙ ap (λ i. memory.sum add'.1 i) both.1 ∙ add'.4)
 
-  pub last_one : (events : Events) (word now : ℕ) (value value' : ℤ) → LastOf events memory word now value → LastOf events memory word now value' → value ≡ value'
+  pub last_one : (events : Events) (word now : ℕ) (value value' : ℤ) → LastOf events memory word now value → LastOf events memory word now value'
+      → value ≡ value'
   last_one events word now value value' (inl last) (inl last') = elim (compare last.at last'.at) [
     | Less3 l ↦ absurd (last.none last'.at l last'.before (last'.node, (value', last'.leaves)))
     | More3 l ↦ absurd (last'.none last.at l last.before (last.node, (value, last.leaves)))

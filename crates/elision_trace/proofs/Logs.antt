@@ -44,7 +44,8 @@ not_same frame other differ = elim (either_bool (same_frame frame other)) [ inl 
 
 instance_kept : (event : Event) (runs : FrameId → Instance) (frame : FrameId) → Keeps event frame → instance_after event runs frame ≡ runs frame
 instance_kept (Acts row (world.Spawn child procedure arguments)) runs frame keeps =
-    when_false (same_frame frame (frame_at child)) (record { depth = suc (runs (frame_at row)).depth; procedure = procedure; arguments = arguments }) (runs frame)
+    when_false (same_frame frame (frame_at child)) (record { depth = suc (runs (frame_at row)).depth; procedure = procedure; arguments = arguments })
+        (runs frame)
     (not_same frame (frame_at child) (keeps.other row child procedure arguments refl))
 instance_kept (Acts row (world.Read word value)) runs frame keeps = refl
 instance_kept (Acts row (world.Write word value)) runs frame keeps = refl
@@ -70,7 +71,8 @@ pub child_instance : (runs : FrameId → Instance) (row child procedure : ℕ) (
     instance_after (Acts row (world.Spawn child procedure arguments)) runs (frame_at child)
     ≡ record { depth = suc (runs (frame_at row)).depth; procedure = procedure; arguments = arguments }
 child_instance runs row child procedure arguments =
-    when_true (same_frame (frame_at child) (frame_at child)) (record { depth = suc (runs (frame_at row)).depth; procedure = procedure; arguments = arguments }) (runs (frame_at child))
+    when_true (same_frame (frame_at child) (frame_at child)) (record { depth = suc (runs (frame_at row)).depth; procedure = procedure; arguments = arguments })
+        (runs (frame_at child))
     (same_self (frame_at child))
 
 pub child_target : (starts : Starts) (trace : Trace) (at row child procedure : ℕ) (arguments : List ℤ) →
@@ -91,7 +93,8 @@ module _ (starts : Starts) (main : ℕ) (events : List Event) (event : Event)
   keeps_spawned : (frame : FrameId) → SpawnedBefore (events_in events) (length events) frame → Keeps event frame
   keeps_spawned frame spawned = record {
     other = λ row child procedure arguments is same.
-        (new 0 (frame_at row) (frame_at child) (spawn_is row child procedure arguments event is)).1 (subst (λ i. SpawnedBefore (events_in events) (length events) i) same spawned);
+        (new 0 (frame_at row) (frame_at child) (spawn_is row child procedure arguments event is)).1
+        (subst (λ i. SpawnedBefore (events_in events) (length events) i) same spawned);
   }
 
   keeps_main : Keeps event main_id

@@ -58,16 +58,20 @@ module _ (starts : Starts) (main : ℕ) where
     sound = first_sound starts main;
     numbered = λ child spawned. absurd (no_act spawned.node spawned.parent (Spawn child) spawned.is);
     below = omega arith;
-    top = subst (λ i. Stands starts (trace_in starts main []) 0 (first_state starts main memory).running 0 i) (sym (childless.first_block (trace_in starts main []) main_id)) (first_stands memory);
+    top =
+        subst (λ i. Stands starts (trace_in starts main []) 0 (first_state starts main memory).running 0 i)
+            (sym (childless.first_block (trace_in starts main []) main_id)) (first_stands memory);
     waits = refl;
   }
 
   -- ---- each request
 
-  pub step_good : (s : State) (request : Request) → serve.now s.running.goes ≡ Some (Asks request) → Good starts main s → Good starts main (served starts request s)
+  pub step_good : (s : State) (request : Request) → serve.now s.running.goes ≡ Some (Asks request) → Good starts main s
+      → Good starts main (served starts request s)
   step_good s (wanted.Read word) is good =
       plain_step starts main s good (world.Acts s.running.row (world.Read word (s.world.memory word))) (wanted.Value (s.world.memory word))
-      (plain_read s.running.row word (s.world.memory word)) (by_act s.running.row (world.Read word (s.world.memory word))) (its_want starts main s good (wanted.Read word) is)
+      (plain_read s.running.row word (s.world.memory word)) (by_act s.running.row (world.Read word (s.world.memory word)))
+      (its_want starts main s good (wanted.Read word) is)
       s.world.memory
   step_good s (wanted.Write word value) is good =
       plain_step starts main s good (world.Acts s.running.row (world.Write word value)) wanted.Done
@@ -75,7 +79,8 @@ module _ (starts : Starts) (main : ℕ) where
       (world.with_word word value s.world.memory)
   step_good s (wanted.Add word addend) is good =
       plain_step starts main s good (world.Acts s.running.row (world.Add word (s.world.memory word) addend)) (wanted.Value (s.world.memory word))
-      (plain_add s.running.row word (s.world.memory word) addend) (by_act s.running.row (world.Add word (s.world.memory word) addend)) (its_want starts main s good (wanted.Add word addend) is)
+      (plain_add s.running.row word (s.world.memory word) addend) (by_act s.running.row (world.Add word (s.world.memory word) addend))
+      (its_want starts main s good (wanted.Add word addend) is)
       (world.with_word word (world.sum_or_old (s.world.memory word) addend) s.world.memory)
   step_good s (wanted.Print value) is good =
       plain_step starts main s good (world.Acts s.running.row (world.Print value)) wanted.Done
@@ -97,7 +102,8 @@ module _ (starts : Starts) (main : ℕ) where
   abbrev state : Entry → List Parent → World → State
   state entry parents made = record { running = entry; waiting = parents; world = made }
 
-  its_return : (entry : Entry) (parents : List Parent) (value : ℤ) (made : World) → serve.now entry.goes ≡ Some (Returns value) → Good starts main (state entry parents made) →
+  its_return : (entry : Entry) (parents : List Parent) (value : ℤ) (made : World) → serve.now entry.goes ≡ Some (Returns value)
+      → Good starts main (state entry parents made) →
       want_at starts (so_far starts main made.log) (length made.log) (frame_at entry.row) ≡ Some (Returns value)
   its_return entry parents value made is good = ap (λ i. serve.now i) (sym good.top.goes) ∙ is
 
@@ -127,7 +133,9 @@ module _ (starts : Starts) (main : ℕ) where
       let waits : entry.row ≡ 0 = good.waits in
       record {
         sound = good.sound;
-        finished = λ done. (value, ap (λ i. want_at starts (so_far starts main made.log) (length made.log) (frame_at i)) (sym waits) ∙ its_return entry [] value made is good);
+        finished =
+            λ done. (value, ap (λ i. want_at starts (so_far starts main made.log) (length made.log) (frame_at i)) (sym waits)
+                ∙ its_return entry [] value made is good);
       }
 
   good_kept : IsInvariant starts (λ left s. Good starts main s) Ended

@@ -45,7 +45,8 @@ pub number_of : (start count place row : ℕ) → row ≡ start + place → plac
 number_of start zero place row is inside = absurd (omega (arith, inside))
 number_of start (suc count) zero row is inside =
     let same : row ≡ start = omega (arith, is) in
-    let test : same_frame (frame_at start) (frame_at row) ≡ true = subst (λ i. same_frame (frame_at start) (frame_at i) ≡ true) (sym same) (same_self (frame_at start)) in
+    let test : same_frame (frame_at start) (frame_at row) ≡ true =
+        subst (λ i. same_frame (frame_at start) (frame_at i) ≡ true) (sym same) (same_self (frame_at start)) in
     when_true (same_frame (frame_at start) (frame_at row)) 0 (suc (row_number (frames_from (suc start) count) (frame_at row))) test
 number_of start (suc count) (suc place) row is inside =
     when_false (same_frame (frame_at start) (frame_at row)) 0 (suc (row_number (frames_from (suc start) count) (frame_at row)))
@@ -123,14 +124,17 @@ module _ (events : List Event) (event : Event) where
 
   before_same : (most row now : ℕ) → now ≤ length events →
       acts_before (frames_to most) (events_in (event ∷ events)) (frame_at row) now ≡ acts_before (frames_to most) (events_in events) (frame_at row) now
-  before_same most row now inside = acts_same (frames_to most) (events_in events) (events_in (event ∷ events)) (frame_at row) now (λ at before. agrees at now inside before)
+  before_same most row now inside =
+      acts_same (frames_to most) (events_in events) (events_in (event ∷ events)) (frame_at row) now (λ at before. agrees at now inside before)
 
   place_same : (most row at : ℕ) → at ≤ length events → place_at most events row at ≡ place_at most (event ∷ events) row at
   place_same most row at inside = ap (λ (i : List Act). record { row = row; act = length i }) (sym (before_same most row at inside))
 
   -- what stood in order stands so
-  order_old : (most : ℕ) (h : History) (rows : ℕ) → Placed events h rows → rows ≤ most → (at later node other row second : ℕ) (act next : log.Act) → at < later →
-      later < length events → events_in (event ∷ events) at ≡ log.Acts node (frame_at row) act → events_in (event ∷ events) later ≡ log.Acts other (frame_at second) next →
+  order_old : (most : ℕ) (h : History) (rows : ℕ) → Placed events h rows → rows ≤ most → (at later node other row second : ℕ) (act next : log.Act)
+      → at < later →
+      later < length events → events_in (event ∷ events) at ≡ log.Acts node (frame_at row) act
+          → events_in (event ∷ events) later ≡ log.Acts other (frame_at second) next →
       StandsBefore (serial_order h) (place_at most (event ∷ events) row at) (place_at most (event ∷ events) second later)
   order_old most h rows placed inside at later node other row second act next before within is is_next =
       let here = sym (agrees at (length events) (omega arith) (omega (arith, before, within))) ∙ is in
@@ -144,35 +148,41 @@ pub placed_tick : (events : List Event) (row : ℕ) (h : History) (rows : ℕ) �
 placed_tick events row h rows placed = record {
   acts = λ most inside other.
       placed.acts most inside other
-      ∙ sym (acts_next (frames_to most) (events_in (world.Ticks row ∷ events)) (frame_at other) (length events) (log.Tick 0 (frame_at row)) (event_here (world.Ticks row) events)
+      ∙ sym (acts_next (frames_to most) (events_in (world.Ticks row ∷ events)) (frame_at other) (length events) (log.Tick 0 (frame_at row))
+          (event_here (world.Ticks row) events)
       ∙ append-nil (acts_before (frames_to most) (events_in (world.Ticks row ∷ events)) (frame_at other) (length events))
       ∙ before_same events (world.Ticks row) most other (length events) (omega arith));
   order = λ most inside at later node other first second act next before within is is_next. elim (compare later (length events)) [
     | Less3 l ↦ order_old events (world.Ticks row) most h rows placed inside at later node other first second act next before l is is_next
     | Same3 same ↦
-        absurd (no_tick row other (frame_at second) next (sym (event_here (world.Ticks row) events) ∙ ap (events_in (world.Ticks row ∷ events)) (sym same) ∙ is_next))
+        absurd (no_tick row other (frame_at second) next
+            (sym (event_here (world.Ticks row) events) ∙ ap (events_in (world.Ticks row ∷ events)) (sym same) ∙ is_next))
     | More3 l ↦ absurd (omega (arith, within))
   ];
 }
 
-module _ (events : List Event) (row : ℕ) (act : world.Act) (h grown : History) (rows next : ℕ) (made : Act) (numbered : IsNumbered h) (placed : Placed events h rows)
+module _ (events : List Event) (row : ℕ) (act : world.Act) (h grown : History) (rows next : ℕ) (made : Act) (numbered : IsNumbered h)
+    (placed : Placed events h rows)
     (one : OneMore h grown row made) (in_order : serial_order grown ≡ serial_order h ++ next_place row h ∷ []) (more : rows ≤ next)
     (told : (most : ℕ) → next ≤ most → shown (frames_to most) (act_of act) ≡ made) where
   abbrev event : Event
   event = world.Acts row act
 
   now_acts : (most : ℕ) → next ≤ most → (other : ℕ) →
-      acts_before (frames_to most) (events_in (event ∷ events)) (frame_at other) (suc (length events)) ≡ (row_at h other).acts ++ act_by (frames_to most) (frame_at other) (event_of event)
+      acts_before (frames_to most) (events_in (event ∷ events)) (frame_at other) (suc (length events))
+          ≡ (row_at h other).acts ++ act_by (frames_to most) (frame_at other) (event_of event)
   now_acts most inside other =
       acts_next (frames_to most) (events_in (event ∷ events)) (frame_at other) (length events) (event_of event) (event_here event events)
       ∙ ap (λ i. i ++ act_by (frames_to most) (frame_at other) (event_of event))
       (before_same events event most other (length events) (omega arith) ∙ sym (placed.acts most (omega (arith, inside, more)) other))
 
-  acts_grown : (most : ℕ) → next ≤ most → (other : ℕ) → (row_at grown other).acts ≡ acts_before (frames_to most) (events_in (event ∷ events)) (frame_at other) (suc (length events))
+  acts_grown : (most : ℕ) → next ≤ most → (other : ℕ)
+      → (row_at grown other).acts ≡ acts_before (frames_to most) (events_in (event ∷ events)) (frame_at other) (suc (length events))
   acts_grown most inside other = elim (compare other row) [
     | Same3 same ↦ subst (λ i. (row_at grown i).acts ≡ acts_before (frames_to most) (events_in (event ∷ events)) (frame_at i) (suc (length events))) (sym same)
         (one.here ∙ ap (λ i. (row_at h row).acts ++ i ∷ []) (sym (told most inside))
-        ∙ ap (λ i. (row_at h row).acts ++ i) (sym (when_true (same_frame (frame_at row) (frame_at row)) (shown (frames_to most) (act_of act) ∷ []) [] (same_self (frame_at row))))
+        ∙ ap (λ i. (row_at h row).acts ++ i)
+            (sym (when_true (same_frame (frame_at row) (frame_at row)) (shown (frames_to most) (act_of act) ∷ []) [] (same_self (frame_at row))))
         ∙ sym (now_acts most inside row))
     | Less3 l ↦ far (λ same. absurd (omega (arith, l, same)))
     | More3 l ↦ far (λ same. absurd (omega (arith, l, same)))
@@ -198,7 +208,8 @@ module _ (events : List Event) (row : ℕ) (act : world.Act) (h grown : History)
       ap (λ (i : List Act). record { row = row; act = length i })
       (placed.acts most (omega (arith, inside, more)) row ∙ sym (before_same events event most row (length events) (omega arith)))
 
-  order_new : (most : ℕ) → next ≤ most → (at node other : ℕ) (done : log.Act) → at < length events → events_in (event ∷ events) at ≡ log.Acts node (frame_at other) done →
+  order_new : (most : ℕ) → next ≤ most → (at node other : ℕ) (done : log.Act) → at < length events
+      → events_in (event ∷ events) at ≡ log.Acts node (frame_at other) done →
       StandsBefore (serial_order grown) (place_at most (event ∷ events) other at) (place_at most (event ∷ events) row (length events))
   order_new most inside at node other done before is =
       let here = sym (agrees events event at (length events) (omega arith) before) ∙ is in
@@ -221,7 +232,8 @@ module _ (events : List Event) (row : ℕ) (act : world.Act) (h grown : History)
         (sym (event_here event events) ∙ ap (events_in (event ∷ events)) (sym same) ∙ is_after) in
         let stands = order_new most inside at node first done (omega (arith, before, same)) is in
         let its_row : StandsBefore (serial_order grown) (place_at most (event ∷ events) first at) (place_at most (event ∷ events) second (length events)) =
-        subst (λ i. StandsBefore (serial_order grown) (place_at most (event ∷ events) first at) (place_at most (event ∷ events) i (length events))) rows_same stands in
+        subst (λ i. StandsBefore (serial_order grown) (place_at most (event ∷ events) first at) (place_at most (event ∷ events) i (length events)))
+            rows_same stands in
         subst (λ i. StandsBefore (serial_order grown) (place_at most (event ∷ events) first at) (place_at most (event ∷ events) second i)) (sym same) its_row
     | More3 l ↦ absurd (omega (arith, within))
   ]

@@ -71,7 +71,8 @@ module _ (starts : Starts) (main : ℕ) where
       let running = rowed.kept.running in
       let size : s.world.rows ≡ length (logged main s.world.log) = rowed.kept.size in
       placed_act s.world.log s.running.row (world.Spawn s.world.rows procedure arguments) (logged main s.world.log)
-      (with_child s.running.row procedure arguments (logged main s.world.log)) s.world.rows (suc s.world.rows) (row_act.Spawn (length (logged main s.world.log)))
+      (with_child s.running.row procedure arguments (logged main s.world.log)) s.world.rows (suc s.world.rows)
+      (row_act.Spawn (length (logged main s.world.log)))
       running.numbered rowed.placed
       (one' (logged main s.world.log) s.running.row procedure arguments (open_inside (logged main s.world.log) running.numbered s.running.row running.runs))
       (child_order (logged main s.world.log) running.numbered s.running.row procedure arguments running.runs) (omega arith)
@@ -103,7 +104,8 @@ module _ (starts : Starts) (main : ℕ) where
       (row : ℕ) × (frame ≡ frame_at row) × (row < s.world.rows)
   born_row s good at frame before (inl of_main) = (0, of_main, omega (arith, good.below))
   born_row s good at frame before (inr spawned) =
-      let is_row = good.numbered frame (record { at = spawned.at; node = spawned.node; parent = spawned.parent; before = omega (arith, before, spawned.before); is = spawned.is }) in
+      let is_row = good.numbered frame
+          (record { at = spawned.at; node = spawned.node; parent = spawned.parent; before = omega (arith, before, spawned.before); is = spawned.is }) in
       (is_row.row, is_row.is, is_row.below)
 
   in_rows : (left : ℕ) (s : State) (e : End) → Rowed left s → e.world ≡ s.world → InRows e
@@ -155,7 +157,8 @@ module _ (most : Limits) (program : Program) (start : ℕ → ℤ) (budget : ℕ
       (row_at (history_of program end) number).acts ≡ acts_before frames (events_in end.world.log) frame (finish_of most program start budget)
   acts number frame is =
       let same : frame ≡ frame_at number = get_frame 0 end.world.rows number frame is ∙ ap frame_at (omega arith) in
-      subst (λ i. (row_at (history_of program end) number).acts ≡ acts_before frames (events_in end.world.log) i (finish_of most program start budget)) (sym same)
+      subst (λ i. (row_at (history_of program end) number).acts ≡ acts_before frames (events_in end.world.log) i (finish_of most program start budget))
+          (sym same)
       (rowed.placed.acts end.world.rows (omega arith) number)
 
   named : (at node : ℕ) (frame : FrameId) (act : log.Act) → at < finish_of most program start budget → events_in end.world.log at ≡ log.Acts node frame act →
@@ -170,7 +173,8 @@ module _ (most : Limits) (program : Program) (start : ℕ → ℤ) (budget : ℕ
   are_rows = record { numbered = rowed.numbered; count = sym rowed.size ∙ sym (how_many 0 end.world.rows); acts = acts; named = named }
 
   its_place : (row at : ℕ) (frame : FrameId) → frame ≡ frame_at row → row < end.world.rows →
-      place_at end.world.rows end.world.log row at ≡ place_for (events_in end.world.log) (finish_of most program start budget) frames (history_of program end) are_rows frame at
+      place_at end.world.rows end.world.log row at ≡ place_for (events_in end.world.log) (finish_of most program start budget) frames
+          (history_of program end) are_rows frame at
   its_place row at frame same inside =
       ap (λ i. record { row = i; act = place_in frames (events_in end.world.log) (frame_at row) at }) (sym (number_in end.world.rows row inside))
       ∙ ap (λ i. record { row = row_number frames i; act = place_in frames (events_in end.world.log) i at }) (sym same)
@@ -190,4 +194,5 @@ module _ (most : Limits) (program : Program) (start : ℕ → ℤ) (budget : ℕ
       subst (λ i. IsBefore (history_of program end) i
       (place_for (events_in end.world.log) (finish_of most program start budget) frames (history_of program end) are_rows second later))
       (its_place first_row.0 at frame first_row.1 first_row.2)
-      (subst (λ i. IsBefore (history_of program end) (place_at end.world.rows end.world.log first_row.0 at) i) (its_place second_row.0 later second second_row.1 second_row.2) stands)
+      (subst (λ i. IsBefore (history_of program end) (place_at end.world.rows end.world.log first_row.0 at) i)
+          (its_place second_row.0 later second second_row.1 second_row.2) stands)

@@ -60,15 +60,20 @@ module _ (memory : SharedMemory) where
           let old : Obtains (events_in events) node word at value =
           obtains_from (events_in events) at (events_in events at) node word value refl
           (obtains_by (events_in (event ∷ events)) at (events_in events at) node word value (agrees at l) obtains) in
-          last_same memory (events_in events) (events_in (event ∷ events)) word at value (λ i below. agrees_below at i (omega arith) below) (reads.reads node word at value old)
+          last_same memory (events_in events) (events_in (event ∷ events)) word at value (λ i below. agrees_below at i (omega arith) below)
+              (reads.reads node word at value old)
       | Same3 same ↦
-          let now : Obtains (events_in (event ∷ events)) node word (length events) value = subst (λ i. Obtains (events_in (event ∷ events)) node word i value) same obtains in
-          let is = steps.obtains node word value (obtains_by (events_in (event ∷ events)) (length events) (event_of event) node word value (event_here event events) now) in
+          let now : Obtains (events_in (event ∷ events)) node word (length events) value =
+              subst (λ i. Obtains (events_in (event ∷ events)) node word i value) same obtains in
+          let is = steps.obtains node word value (obtains_by (events_in (event ∷ events)) (length events) (event_of event) node word value
+              (event_here event events) now) in
           let here : LastOf (events_in (event ∷ events)) memory word (length events) (before word) =
           last_same memory (events_in events) (events_in (event ∷ events)) word (length events) (before word) agrees (reads.holds word) in
-          let its : LastOf (events_in (event ∷ events)) memory word (length events) value = subst (λ i. LastOf (events_in (event ∷ events)) memory word (length events) i) (sym is) here in
+          let its : LastOf (events_in (event ∷ events)) memory word (length events) value =
+              subst (λ i. LastOf (events_in (event ∷ events)) memory word (length events) i) (sym is) here in
           subst (λ i. LastOf (events_in (event ∷ events)) memory word i value) (sym same) its
-      | More3 l ↦ absurd (no_obtains node word value (obtains_by (events_in (event ∷ events)) at Nothing node word value (nothing_from (event ∷ events) at (omega arith)) obtains))
+      | More3 l ↦ absurd (no_obtains node word value
+          (obtains_by (events_in (event ∷ events)) at Nothing node word value (nothing_from (event ∷ events) at (omega arith)) obtains))
     ]
 
     pub more : (before behind : ℕ → ℤ) → Reads before events → Steps event before behind → Reads behind (event ∷ events)
@@ -80,7 +85,8 @@ module _ (memory : SharedMemory) where
   read_steps row word words = record { obtains = obtains; words = λ other. inr ((λ node value leaves. quiet node other value leaves), refl) }
     where
       obtains : (node other : ℕ) (value : ℤ) → ObtainsBy (event_of (world.Acts row (world.Read word (words word)))) node other value → value ≡ words other
-      obtains node other value (inl read) = let is = read.1 in let same : word ≡ other = cc in let values : words word ≡ value = cc in sym values ∙ ap words same
+      obtains node other value (inl read) =
+          let is = read.1 in let same : word ≡ other = cc in let values : words word ≡ value = cc in sym values ∙ ap words same
       obtains node other value (inr add) = let is = add.2 in absurd cc
 
       quiet : (node other : ℕ) (value : ℤ) → LeavesBy memory (event_of (world.Acts row (world.Read word (words word)))) node other value → ⊥
@@ -88,10 +94,12 @@ module _ (memory : SharedMemory) where
       quiet node other value (inr add) = let is = add.3 in cc
 
   -- an event that touches no word
-  pub quiet_steps : (event : world.Event) (words : ℕ → ℤ) → ((node word : ℕ) (frame : FrameId) (value : ℤ) → event_of event ≡ log.Acts node frame (log.Read word value) → ⊥) →
+  pub quiet_steps : (event : world.Event) (words : ℕ → ℤ)
+      → ((node word : ℕ) (frame : FrameId) (value : ℤ) → event_of event ≡ log.Acts node frame (log.Read word value) → ⊥) →
       ((node word : ℕ) (frame : FrameId) (value : ℤ) → event_of event ≡ log.Acts node frame (log.Write word value) → ⊥) →
       ((node word : ℕ) (frame : FrameId) (old addend : ℤ) → event_of event ≡ log.Acts node frame (log.Add word old addend) → ⊥) → Steps event words words
-  quiet_steps event words no_read no_write no_add = record { obtains = obtains; words = λ other. inr ((λ node value leaves. quiet node other value leaves), refl) }
+  quiet_steps event words no_read no_write no_add =
+      record { obtains = obtains; words = λ other. inr ((λ node value leaves. quiet node other value leaves), refl) }
     where
       obtains : (node other : ℕ) (value : ℤ) → ObtainsBy (event_of event) node other value → value ≡ words other
       obtains node other value (inl read) = absurd (no_read node other read.0 value read.1)
@@ -110,9 +118,6 @@ module _ (memory : SharedMemory) where
   pub write_steps : (row word : ℕ) (value : ℤ) (words : ℕ → ℤ) → Steps (world.Acts row (world.Write word value)) words (with_word word value words)
   write_steps row word value words = record { obtains = obtains; words = left }
     where
-      event : log.Event
-      event = event_of (world.Acts row (world.Write word value))
-
       obtains : (node other : ℕ) (got : ℤ) → ObtainsBy (event_of (world.Acts row (world.Write word value))) node other got → got ≡ words other
       obtains node other got (inl read) = let is = read.1 in absurd cc
       obtains node other got (inr add) = let is = add.2 in absurd cc
@@ -122,7 +127,8 @@ module _ (memory : SharedMemory) where
       only node other got differ (inr add) = let is = add.3 in cc
 
       left : (other : ℕ) → ((node : ℕ) × LeavesBy memory (event_of (world.Acts row (world.Write word value))) node other (with_word word value words other))
-          ⊎ (((node : ℕ) (got : ℤ) → LeavesBy memory (event_of (world.Acts row (world.Write word value))) node other got → ⊥) × (with_word word value words other ≡ words other))
+          ⊎ (((node : ℕ) (got : ℤ) → LeavesBy memory (event_of (world.Acts row (world.Write word value))) node other got → ⊥)
+              × (with_word word value words other ≡ words other))
       left other = elim (either_bool (other == word)) [
         | inl is ↦ inl (
           0,

@@ -30,7 +30,8 @@ module _ (memory : SharedMemory) (sums : (old addend : ℤ) → memory.sum old a
     abbrev behind : ℕ → ℤ
     behind = with_word word (sum_or_old (words word) addend) words
 
-    added : (event' : log.Event) → event ≡ event' → (node other : ℕ) (frame : FrameId) (old more' : ℤ) → event' ≡ log.Acts node frame (log.Add other old more') →
+    added : (event' : log.Event) → event ≡ event' → (node other : ℕ) (frame : FrameId) (old more' : ℤ)
+        → event' ≡ log.Acts node frame (log.Add other old more') →
         (other ≡ word) × (old ≡ words word) × (more' ≡ addend)
     added event' same node other frame old more' is = (cc, cc, cc)
 
@@ -61,12 +62,14 @@ module _ (memory : SharedMemory) (sums : (old addend : ℤ) → memory.sum old a
         words word,
         addend,
         ap (λ i. log.Acts 0 (frame_at row) (log.Add i (words word) addend)) (sym (eqb-true other word is)),
-        sums (words word) addend ∙ sum_fits memory (words word) addend fit ∙ ap (λ i. Some i) (sym (word_here memory word other (sum_or_old (words word) addend) words is)),
+        sums (words word) addend ∙ sum_fits memory (words word) addend fit
+            ∙ ap (λ i. Some i) (sym (word_here memory word other (sum_or_old (words word) addend) words is)),
       ),
     )
     left_here other is (inr lost) = inr (
       (λ node value. no_sum lost other node value),
-      word_here memory word other (sum_or_old (words word) addend) words is ∙ (sum_lost memory (words word) addend lost).1 ∙ ap words (sym (eqb-true other word is)),
+      word_here memory word other (sum_or_old (words word) addend) words is ∙ (sum_lost memory (words word) addend lost).1
+          ∙ ap words (sym (eqb-true other word is)),
     )
 
     left : (other : ℕ) → Left other
@@ -79,10 +82,12 @@ module _ (memory : SharedMemory) (sums : (old addend : ℤ) → memory.sum old a
     add_steps = record { obtains = obtains; words = left }
 
   print_steps : (row : ℕ) (value : ℤ) (words : ℕ → ℤ) → Steps memory (world.Acts row (world.Print value)) words words
-  print_steps row value words = quiet_steps memory (world.Acts row (world.Print value)) words (λ node word frame got is. absurd cc) (λ node word frame got is. absurd cc)
+  print_steps row value words =
+      quiet_steps memory (world.Acts row (world.Print value)) words (λ node word frame got is. absurd cc) (λ node word frame got is. absurd cc)
       (λ node word frame old addend is. absurd cc)
 
-  spawn_steps : (row child procedure : ℕ) (arguments : List ℤ) (words : ℕ → ℤ) → Steps memory (world.Acts row (world.Spawn child procedure arguments)) words words
+  spawn_steps : (row child procedure : ℕ) (arguments : List ℤ) (words : ℕ → ℤ)
+      → Steps memory (world.Acts row (world.Spawn child procedure arguments)) words words
   spawn_steps row child procedure arguments words = quiet_steps memory (world.Acts row (world.Spawn child procedure arguments)) words
       (λ node word frame got is. absurd cc) (λ node word frame got is. absurd cc) (λ node word frame old addend is. absurd cc)
 
@@ -98,7 +103,8 @@ module _ (memory : SharedMemory) (sums : (old addend : ℤ) → memory.sum old a
     step_reads : (s : State) (request : Request) → Reads memory s.world.memory s.world.log →
         Reads memory (served starts request s).world.memory (served starts request s).world.log
     step_reads s (wanted.Read word) reads =
-        more memory s.world.log (world.Acts s.running.row (world.Read word (s.world.memory word))) s.world.memory s.world.memory reads (read_steps memory s.running.row word s.world.memory)
+        more memory s.world.log (world.Acts s.running.row (world.Read word (s.world.memory word))) s.world.memory s.world.memory reads
+            (read_steps memory s.running.row word s.world.memory)
     step_reads s (wanted.Write word value) reads =
         more memory s.world.log (world.Acts s.running.row (world.Write word value)) s.world.memory (with_word word value s.world.memory) reads
         (write_steps memory s.running.row word value s.world.memory)
@@ -106,7 +112,8 @@ module _ (memory : SharedMemory) (sums : (old addend : ℤ) → memory.sum old a
         more memory s.world.log (world.Acts s.running.row (world.Add word (s.world.memory word) addend)) s.world.memory
         (with_word word (sum_or_old (s.world.memory word) addend) s.world.memory) reads (add_steps s.running.row word addend s.world.memory)
     step_reads s (wanted.Print value) reads =
-        more memory s.world.log (world.Acts s.running.row (world.Print value)) s.world.memory s.world.memory reads (print_steps s.running.row value s.world.memory)
+        more memory s.world.log (world.Acts s.running.row (world.Print value)) s.world.memory s.world.memory reads
+            (print_steps s.running.row value s.world.memory)
     step_reads s (wanted.Spawn target procedure arguments) reads =
         more memory s.world.log (world.Acts s.running.row (world.Spawn s.world.rows procedure arguments)) s.world.memory s.world.memory reads
         (spawn_steps s.running.row s.world.rows procedure arguments s.world.memory)

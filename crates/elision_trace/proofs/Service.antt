@@ -39,19 +39,23 @@ pub record Plain (event : world.Event) (answer : Answer) : Type 0 where
 
 pub plain_read : (row word : ℕ) (value : ℤ) → Plain (world.Acts row (world.Read word value)) (wanted.Value value)
 unfolding children_after reply_to
-plain_read row word value = record { no_spawn = λ node parent child is. absurd cc; no_sync = λ node parent is. absurd cc; block = λ frames. refl; told = λ gave. refl }
+plain_read row word value =
+    record { no_spawn = λ node parent child is. absurd cc; no_sync = λ node parent is. absurd cc; block = λ frames. refl; told = λ gave. refl }
 
 pub plain_write : (row word : ℕ) (value : ℤ) → Plain (world.Acts row (world.Write word value)) wanted.Done
 unfolding children_after reply_to
-plain_write row word value = record { no_spawn = λ node parent child is. absurd cc; no_sync = λ node parent is. absurd cc; block = λ frames. refl; told = λ gave. refl }
+plain_write row word value =
+    record { no_spawn = λ node parent child is. absurd cc; no_sync = λ node parent is. absurd cc; block = λ frames. refl; told = λ gave. refl }
 
 pub plain_add : (row word : ℕ) (old addend : ℤ) → Plain (world.Acts row (world.Add word old addend)) (wanted.Value old)
 unfolding children_after reply_to
-plain_add row word old addend = record { no_spawn = λ node parent child is. absurd cc; no_sync = λ node parent is. absurd cc; block = λ frames. refl; told = λ gave. refl }
+plain_add row word old addend =
+    record { no_spawn = λ node parent child is. absurd cc; no_sync = λ node parent is. absurd cc; block = λ frames. refl; told = λ gave. refl }
 
 pub plain_print : (row : ℕ) (value : ℤ) → Plain (world.Acts row (world.Print value)) wanted.Done
 unfolding children_after reply_to
-plain_print row value = record { no_spawn = λ node parent child is. absurd cc; no_sync = λ node parent is. absurd cc; block = λ frames. refl; told = λ gave. refl }
+plain_print row value =
+    record { no_spawn = λ node parent child is. absurd cc; no_sync = λ node parent is. absurd cc; block = λ frames. refl; told = λ gave. refl }
 
 pub plain_tick : (row : ℕ) → Plain (world.Ticks row) wanted.Done
 unfolding children_after reply_to
@@ -118,7 +122,8 @@ module _ (starts : Starts) (main : ℕ) where
 
   module _ (s : State) (good : Good s) (event : world.Event) (answer : Answer) (plain : Plain event answer)
       (acts : by (frame_at s.running.row) (event_of event) ≡ true)
-      (answers : Answers (so_far (event ∷ s.world.log)) (event_of event) (want_at starts (so_far s.world.log) (length s.world.log) (frame_at s.running.row))) where
+      (answers : Answers (so_far (event ∷ s.world.log)) (event_of event)
+          (want_at starts (so_far s.world.log) (length s.world.log) (frame_at s.running.row))) where
     plain_one : OneMore (so_far s.world.log) (so_far (event ∷ s.world.log)) (length s.world.log) (event_of event)
     plain_one = one_more starts main s.world.log event (λ node parent child is. absurd (plain.no_spawn node parent child is))
 
@@ -136,20 +141,27 @@ module _ (starts : Starts) (main : ℕ) where
     plain_block : children (events_in (event ∷ s.world.log)) (suc (length s.world.log)) (frame_at s.running.row)
         ≡ children (events_in s.world.log) (length s.world.log) (frame_at s.running.row)
     plain_block =
-        block_moved starts main (so_far s.world.log) (so_far (event ∷ s.world.log)) (length s.world.log) (event_of event) good.sound plain_one (frame_at s.running.row) plain_allowed
+        block_moved starts main (so_far s.world.log) (so_far (event ∷ s.world.log)) (length s.world.log) (event_of event) good.sound plain_one
+            (frame_at s.running.row) plain_allowed
         ∙ plain.block (children (events_in s.world.log) (length s.world.log) (frame_at s.running.row))
 
     pub plain_step : (memory : ℕ → ℤ) → Good (with_answer s event answer s.running.kept memory)
     plain_step memory = record {
-      sound = sound_more starts main (so_far s.world.log) (so_far (event ∷ s.world.log)) (length s.world.log) (event_of event) good.sound plain_one (frame_at s.running.row) plain_allowed;
+      sound =
+          sound_more starts main (so_far s.world.log) (so_far (event ∷ s.world.log)) (length s.world.log) (event_of event) good.sound plain_one
+              (frame_at s.running.row) plain_allowed;
       numbered = numbered_more starts main (so_far s.world.log) (so_far (event ∷ s.world.log)) (length s.world.log) (event_of event) good.sound plain_one
           s.world.rows s.world.rows (omega arith) good.numbered (λ node parent child is. absurd (plain.no_spawn node parent child is));
       below = good.below;
       top =
-          subst (λ i. Stands starts (so_far (event ∷ s.world.log)) (suc (length s.world.log)) (answered answer s.running.kept s.running) (length s.waiting) i) (sym plain_block)
-          (stands_acted starts main (so_far s.world.log) (so_far (event ∷ s.world.log)) (length s.world.log) (event_of event) good.sound plain_one s.running (length s.waiting)
+          subst (λ i. Stands starts (so_far (event ∷ s.world.log)) (suc (length s.world.log)) (answered answer s.running.kept s.running) (length s.waiting) i)
+              (sym plain_block)
+          (stands_acted starts main (so_far s.world.log) (so_far (event ∷ s.world.log)) (length s.world.log) (event_of event) good.sound plain_one s.running
+              (length s.waiting)
           plain_allowed answer (plain.told _) (children (events_in s.world.log) (length s.world.log) (frame_at s.running.row)) good.top);
-      waits = wait_still starts main (so_far s.world.log) (so_far (event ∷ s.world.log)) (length s.world.log) (event_of event) good.sound plain_one s.running.row plain_allowed
+      waits =
+          wait_still starts main (so_far s.world.log) (so_far (event ∷ s.world.log)) (length s.world.log)
+              (event_of event) good.sound plain_one s.running.row plain_allowed
           s.running.row s.waiting (omega arith) good.waits;
     }
 
@@ -176,19 +188,27 @@ module _ (starts : Starts) (main : ℕ) where
 
     pub sync_step : Good (with_answer s sync (wanted.Children s.running.kept) [] s.world.memory)
     sync_step = record {
-      sound = sound_more starts main (so_far s.world.log) (so_far (sync ∷ s.world.log)) (length s.world.log) (event_of sync) good.sound sync_one (frame_at s.running.row) sync_allowed;
+      sound =
+          sound_more starts main (so_far s.world.log) (so_far (sync ∷ s.world.log)) (length s.world.log) (event_of sync) good.sound sync_one
+              (frame_at s.running.row) sync_allowed;
       numbered = numbered_more starts main (so_far s.world.log) (so_far (sync ∷ s.world.log)) (length s.world.log) (event_of sync) good.sound sync_one
           s.world.rows s.world.rows (omega arith) good.numbered (λ node parent child same. absurd (no_spawn_sync s.running.row node parent child same));
       below = good.below;
       top =
-          subst (λ i. Stands starts (so_far (sync ∷ s.world.log)) (suc (length s.world.log)) (answered (wanted.Children s.running.kept) [] s.running) (length s.waiting) i)
-          (sym (block_moved starts main (so_far s.world.log) (so_far (sync ∷ s.world.log)) (length s.world.log) (event_of sync) good.sound sync_one (frame_at s.running.row) sync_allowed
+          subst (λ i. Stands starts (so_far (sync ∷ s.world.log)) (suc (length s.world.log)) (answered (wanted.Children s.running.kept) [] s.running)
+              (length s.waiting) i)
+          (sym (block_moved starts main (so_far s.world.log) (so_far (sync ∷ s.world.log)) (length s.world.log) (event_of sync) good.sound sync_one
+              (frame_at s.running.row) sync_allowed
           ∙ sync_block s.running.row (children (events_in s.world.log) (length s.world.log) (frame_at s.running.row))))
-          (stands_synced starts main (so_far s.world.log) (so_far (sync ∷ s.world.log)) (length s.world.log) (event_of sync) good.sound sync_one s.running (length s.waiting)
+          (stands_synced starts main (so_far s.world.log) (so_far (sync ∷ s.world.log)) (length s.world.log) (event_of sync) good.sound sync_one s.running
+              (length s.waiting)
           sync_allowed (wanted.Children s.running.kept)
-          (sync_told s.running.row (deposits (gives starts (so_far s.world.log) (length s.world.log)) (children (events_in s.world.log) (length s.world.log) (frame_at s.running.row)))
+          (sync_told s.running.row (deposits (gives starts (so_far s.world.log) (length s.world.log))
+              (children (events_in s.world.log) (length s.world.log) (frame_at s.running.row)))
           ∙ ap (λ i. wanted.Children i) (sym good.top.kept))
           (children (events_in s.world.log) (length s.world.log) (frame_at s.running.row)) good.top);
-      waits = wait_still starts main (so_far s.world.log) (so_far (sync ∷ s.world.log)) (length s.world.log) (event_of sync) good.sound sync_one s.running.row sync_allowed
+      waits =
+          wait_still starts main (so_far s.world.log) (so_far (sync ∷ s.world.log)) (length s.world.log)
+              (event_of sync) good.sound sync_one s.running.row sync_allowed
           s.running.row s.waiting (omega arith) good.waits;
     }

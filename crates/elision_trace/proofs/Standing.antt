@@ -25,10 +25,6 @@ pub record Stands (starts : Starts) (trace : Trace) (now : ℕ) (entry : Entry) 
 
 -- ---- a child that was spawned just now
 
-not_by_nothing : (frame : FrameId) → by frame Nothing ≡ true → ⊥
-unfolding by
-not_by_nothing frame is = cc
-
 pub unborn : (starts : Starts) (main : ℕ) (trace : Trace) (now at node : ℕ) (parent child : FrameId) → Sound starts main trace now →
     trace.events at ≡ Acts node parent (Spawn child) → Unchanged starts trace child 0 (suc at)
 unborn starts main trace now at node parent child sound is =
@@ -37,22 +33,26 @@ unborn starts main trace now at node parent child sound is =
       | inr born ↦ let same = sound.fresh at born.at node born.node parent born.parent child is born.is in absurd (omega (arith, born.before))
     ])
 
-module _ (starts : Starts) (main : ℕ) (trace more : Trace) (now : ℕ) (event : Event) (sound : Sound starts main trace now) (one : OneMore trace more now event) where
+module _ (starts : Starts) (main : ℕ) (trace more : Trace) (now : ℕ) (event : Event) (sound : Sound starts main trace now)
+    (one : OneMore trace more now event) where
   -- ---- frames that do not act
 
-  pub state_unmoved : (frame : FrameId) → Born trace.events now frame → by frame event ≡ false → state_at starts more (suc now) frame ≡ state_at starts trace now frame
+  pub state_unmoved : (frame : FrameId) → Born trace.events now frame → by frame event ≡ false
+      → state_at starts more (suc now) frame ≡ state_at starts trace now frame
   state_unmoved frame born quiet =
       state_still starts more now frame (ap (by frame) one.here ∙ quiet)
       ∙ state_same starts trace more now one.extends frame (instance_born starts main trace more now event sound one frame born)
 
-  pub want_unmoved : (frame : FrameId) → Born trace.events now frame → by frame event ≡ false → want_at starts more (suc now) frame ≡ want_at starts trace now frame
+  pub want_unmoved : (frame : FrameId) → Born trace.events now frame → by frame event ≡ false
+      → want_at starts more (suc now) frame ≡ want_at starts trace now frame
   want_unmoved frame born quiet = ap (λ i. serve.now i) (state_unmoved frame born quiet)
 
   pub block_unmoved : (frame : FrameId) → by frame event ≡ false → children more.events (suc now) frame ≡ children trace.events now frame
   block_unmoved frame quiet =
       block_still more now frame (ap (by frame) one.here ∙ quiet) ∙ block_same starts trace more now one.extends frame
 
-  gives_unmoved : (child : FrameId) → SpawnedBefore trace.events now child → by child event ≡ false → gives starts more (suc now) child ≡ gives starts trace now child
+  gives_unmoved : (child : FrameId) → SpawnedBefore trace.events now child → by child event ≡ false
+      → gives starts more (suc now) child ≡ gives starts trace now child
   gives_unmoved child spawned quiet =
       ap (λ i. as_deposit i (value_in (want_at starts more (suc now) child))) (one.extends.target child spawned)
       ∙ ap (λ i. as_deposit (trace.target child) (value_in i)) (want_unmoved child (inr spawned) quiet)
@@ -100,7 +100,8 @@ module _ (starts : Starts) (main : ℕ) (trace more : Trace) (now : ℕ) (event 
         let value = stands.returned child on in
         (value.0, want_unmoved child (inr (stands.spawned child on)) (quiet_returned child value.0 value.1) ∙ value.1)
 
-    depth_on : (entry : Entry) (depth : ℕ) (block : List FrameId) → Stands starts trace now entry depth block → (more.instance (frame_at entry.row)).depth ≡ depth
+    depth_on : (entry : Entry) (depth : ℕ) (block : List FrameId) → Stands starts trace now entry depth block
+        → (more.instance (frame_at entry.row)).depth ≡ depth
     depth_on entry depth block stands =
         ap (λ i. i.depth) (instance_born starts main trace more now event sound one (frame_at entry.row) stands.born) ∙ stands.has_depth
 
@@ -121,14 +122,17 @@ module _ (starts : Starts) (main : ℕ) (trace more : Trace) (now : ℕ) (event 
     given_now : given starts more now runner ≡ given starts trace now runner
     given_now =
         ap (deposits (gives starts more now)) (block_same starts trace more now one.extends runner)
-        ∙ deposits_same (gives starts more now) (gives starts trace now) (children trace.events now runner) (λ child on. given_child child (child_spawned trace now runner child on))
+        ∙ deposits_same (gives starts more now) (gives starts trace now) (children trace.events now runner)
+            (λ child on. given_child child (child_spawned trace now runner child on))
       where
         given_child : (child : FrameId) → SpawnedBefore trace.events now child → gives starts more now child ≡ gives starts trace now child
         given_child child spawned =
             ap (λ i. as_deposit i (value_in (want_at starts more now child))) (one.extends.target child spawned)
-            ∙ ap (λ i. as_deposit (trace.target child) (value_in (serve.now i))) (state_same starts trace more now one.extends child (one.extends.instance child spawned))
+            ∙ ap (λ i. as_deposit (trace.target child) (value_in (serve.now i)))
+                (state_same starts trace more now one.extends child (one.extends.instance child spawned))
 
-    pub state_moved : state_at starts more (suc now) runner ≡ after (state_at starts trace now runner) (answer_of (reply_to event (given starts trace now runner)))
+    pub state_moved : state_at starts more (suc now) runner
+        ≡ after (state_at starts trace now runner) (answer_of (reply_to event (given starts trace now runner)))
     state_moved =
         state_grew starts more now runner (ap (by runner) one.here ∙ allowed.is)
         ∙ ap (λ i. after i (answer_of (reply_to (more.events now) (given starts more now runner))))
@@ -152,7 +156,8 @@ module _ (starts : Starts) (main : ℕ) (trace more : Trace) (now : ℕ) (event 
         ap (λ i. after i answer) goes ∙ ap (λ i. after (state_at starts trace now row) i) (sym told) ∙ sym (state_moved row allowed)
 
     -- It keeps what it kept.
-    pub stands_acted : (block : List FrameId) → Stands starts trace now entry depth block → Stands starts more (suc now) (answered answer entry.kept entry) depth block
+    pub stands_acted : (block : List FrameId) → Stands starts trace now entry depth block
+        → Stands starts more (suc now) (answered answer entry.kept entry) depth block
     stands_acted block stands = record {
       goes = goes_on stands.goes;
       kept = kept_on row allowed entry depth block stands;

@@ -39,7 +39,8 @@ Numbered trace now rows = (child : FrameId) → SpawnedBefore trace.events now c
 pub same_row : (row other : ℕ) → frame_at row ≡ frame_at other → row ≡ other
 same_row row other is = ap (λ (i : FrameId). i.number) is
 
-module _ (starts : Starts) (main : ℕ) (trace more : Trace) (now : ℕ) (event : Event) (sound : Sound starts main trace now) (one : OneMore trace more now event) where
+module _ (starts : Starts) (main : ℕ) (trace more : Trace) (now : ℕ) (event : Event) (sound : Sound starts main trace now)
+    (one : OneMore trace more now event) where
   module _ (row : ℕ) (allowed : Allowed starts trace more now event (frame_at row)) where
     pub wait_still : (child : ℕ) (parents : List Parent) → child ≤ row → AllWait starts trace now child parents → AllWait starts more (suc now) child parents
     wait_still child [] inside waits = waits
@@ -53,7 +54,8 @@ module _ (starts : Starts) (main : ℕ) (trace more : Trace) (now : ℕ) (event 
         let spawned = child_spawned trace now (frame_at parent.entry.row) (frame_at child) on_block in (
           record {
             block = first.block;
-            stands = stands_still starts main trace more now event sound one (frame_at row) allowed parent.entry (length parents) first.block quiet first.stands;
+            stands =
+                stands_still starts main trace more now event sound one (frame_at row) allowed parent.entry (length parents) first.block quiet first.stands;
             has_children = block_unmoved starts main trace more now event sound one (frame_at parent.entry.row) quiet ∙ first.has_children;
             target = first.target ∙ sym (one.extends.target (frame_at child) spawned);
             before = before;

@@ -41,7 +41,8 @@ no_act frames frame (Took node post) is = refl
 no_act frames frame (End node) is = refl
 
 module _ (starts : Starts) (main : ℕ) (trace : Trace) (obeys : Obeys starts main trace) (now : ℕ) (frames : List FrameId) (history : History)
-    (rows : AreRows trace.events now frames history) (runs : RunAs trace frames history) (number : ℕ) (frame : FrameId) (is_row : slice_get frames number ≡ Some frame) where
+    (rows : AreRows trace.events now frames history) (runs : RunAs trace frames history) (number : ℕ) (frame : FrameId)
+    (is_row : slice_get frames number ≡ Some frame) where
   abbrev begin : Meaning
   begin = starts (trace.instance frame).depth (trace.instance frame).procedure (trace.instance frame).arguments
 
@@ -67,13 +68,15 @@ module _ (starts : Starts) (main : ℕ) (trace : Trace) (obeys : Obeys starts ma
   -- so behind this event, which is the frame's
   abbrev RunsBehind : ℕ → Event → List row.Act → Type 0
   RunsBehind at event acts =
-      Runs acts (block_of starts trace now frames (children_after event (children trace.events at frame))) (serve.after (goes_at at) (answer_of (reply_to event (given starts trace at frame))))
+      Runs acts (block_of starts trace now frames (children_after event (children trace.events at frame)))
+          (serve.after (goes_at at) (answer_of (reply_to event (given starts trace at frame))))
 
   own_row : row_number frames frame ≡ number
   own_row = number_is trace.events now frames history rows number frame is_row
 
   is_child : (at node : ℕ) (child : FrameId) → at < now → trace.events at ≡ Acts node frame (Spawn child) →
-      IsChild history (row_number frames child) (record { row = number; act = length (acts_at at) }) (trace.instance child).procedure (trace.instance child).arguments
+      IsChild history (row_number frames child) (record { row = number; act = length (acts_at at) }) (trace.instance child).procedure
+          (trace.instance child).arguments
   is_child at node child inside is =
       let it = row_of_child starts main trace obeys now frames history rows at node frame child inside is in
       let child_row : slice_get frames (row_number frames child) ≡ Some child = number_get frames child it.there in
@@ -94,14 +97,18 @@ module _ (starts : Starts) (main : ℕ) (trace : Trace) (obeys : Obeys starts ma
     act_step : (node : ℕ) (act : Act) → trace.events at ≡ Acts node frame act → Answers trace (Acts node frame act) (want_at starts trace at frame) →
         RunsBehind at (Acts node frame act) (acts_at at ++ shown frames act ∷ [])
     unfolding children_after reply_to
-    act_step node (Read word value) is want = made (wanted.Read word) (shown frames (Read word value)) (Value value) (block_at at) want (program.Read word value (block_at at))
-    act_step node (Write word value) is want = made (wanted.Write word value) (shown frames (Write word value)) Done (block_at at) want (program.Write word value (block_at at))
-    act_step node (Add word old addend) is want = made (wanted.Add word addend) (shown frames (Add word old addend)) (Value old) (block_at at) want (program.Add word old addend (block_at at))
+    act_step node (Read word value) is want =
+        made (wanted.Read word) (shown frames (Read word value)) (Value value) (block_at at) want (program.Read word value (block_at at))
+    act_step node (Write word value) is want =
+        made (wanted.Write word value) (shown frames (Write word value)) Done (block_at at) want (program.Write word value (block_at at))
+    act_step node (Add word old addend) is want =
+        made (wanted.Add word addend) (shown frames (Add word old addend)) (Value old) (block_at at) want (program.Add word old addend (block_at at))
     act_step node (Print value) is want = made (wanted.Print value) (shown frames (Print value)) Done (block_at at) want (program.Print value (block_at at))
     act_step node (Spawn child) is want =
         made (wanted.Spawn (trace.target child) (trace.instance child).procedure (trace.instance child).arguments) (shown frames (Spawn child)) Done
         (block_at at ++ (trace.target child, row_number frames child) ∷ []) want
-        (program.Spawn (trace.target child) (trace.instance child).procedure (trace.instance child).arguments (row_number frames child) (block_at at) (is_child at node child inside is))
+        (program.Spawn (trace.target child) (trace.instance child).procedure (trace.instance child).arguments (row_number frames child) (block_at at)
+            (is_child at node child inside is))
     act_step node Sync is want =
         made wanted.Sync (shown frames Sync) (Children (given starts trace at frame)) [] want
         (program.Sync (block_at at) (given starts trace at frame)
@@ -122,7 +129,8 @@ module _ (starts : Starts) (main : ℕ) (trace : Trace) (obeys : Obeys starts ma
         let same = same_is actor frame acts in
         subst (λ b. RunsBehind at (Acts node actor act) (acts_at at ++ cond b (shown frames act ∷ []) [])) (sym acts)
         (subst (λ one. RunsBehind at (Acts node one act) (acts_at at ++ shown frames act ∷ [])) (sym same)
-        (act_step node act (is ∙ ap (λ one. Acts node one act) same) (subst (λ one. Answers trace (Acts node one act) (want_at starts trace at frame)) same want)))
+        (act_step node act (is ∙ ap (λ one. Acts node one act) same)
+            (subst (λ one. Answers trace (Acts node one act) (want_at starts trace at frame)) same want)))
     item_step (Tick node actor) is acts want =
         subst (λ list. RunsBehind at (Tick node actor) list) (sym (nothing_more (acts_at at))) (Ticks (acts_at at) (block_at at) (goes_at at) before want)
     item_step Nothing is acts want = absurd cc
@@ -138,21 +146,26 @@ module _ (starts : Starts) (main : ℕ) (trace : Trace) (obeys : Obeys starts ma
     unfolding acts_before
     acts_more = refl
 
-    told_more : (reply : Reply) → replies starts trace (suc at) frame ≡ reply ∷ replies starts trace at frame → goes_at (suc at) ≡ serve.after (goes_at at) (answer_of reply)
+    told_more : (reply : Reply) → replies starts trace (suc at) frame ≡ reply ∷ replies starts trace at frame
+        → goes_at (suc at) ≡ serve.after (goes_at at) (answer_of reply)
     unfolding behind
     told_more reply is = ap (behind begin) is
 
     next_step : RunsAt (suc at)
     next_step = elim (either_bool (by frame (trace.events at))) [
       | inl acts ↦
-          subst (λ goes. Runs (acts_at (suc at)) (block_at (suc at)) goes) (sym (told_more (reply_to (trace.events at) (given starts trace at frame)) (grew starts trace at frame acts)))
-          (subst (λ block. Runs (acts_at (suc at)) (block_of starts trace now frames block) (serve.after (goes_at at) (answer_of (reply_to (trace.events at) (given starts trace at frame)))))
+          subst (λ goes. Runs (acts_at (suc at)) (block_at (suc at)) goes)
+              (sym (told_more (reply_to (trace.events at) (given starts trace at frame)) (grew starts trace at frame acts)))
+          (subst (λ block. Runs (acts_at (suc at)) (block_of starts trace now frames block)
+              (serve.after (goes_at at) (answer_of (reply_to (trace.events at) (given starts trace at frame)))))
           (sym (block_grew trace at frame acts))
-          (subst (λ list. RunsBehind at (trace.events at) list) (sym acts_more) (item_step (trace.events at) refl acts (asked starts main trace obeys at frame (trace.events at) refl acts))))
+          (subst (λ list. RunsBehind at (trace.events at) list) (sym acts_more)
+              (item_step (trace.events at) refl acts (asked starts main trace obeys at frame (trace.events at) refl acts))))
       | inr none ↦
           subst (λ told. Runs (acts_at (suc at)) (block_at (suc at)) (behind begin told)) (sym (still starts trace at frame none))
           (subst (λ block. Runs (acts_at (suc at)) (block_of starts trace now frames block) (goes_at at)) (sym (block_still trace at frame none))
-          (subst (λ list. Runs list (block_at at) (goes_at at)) (sym (acts_more ∙ ap (λ list. acts_at at ++ list) (no_act frames frame (trace.events at) none) ∙ nothing_more (acts_at at))) before))
+          (subst (λ list. Runs list (block_at at) (goes_at at))
+              (sym (acts_more ∙ ap (λ list. acts_at at ++ list) (no_act frames frame (trace.events at) none) ∙ nothing_more (acts_at at))) before))
     ]
 
   first_step : RunsAt 0

@@ -33,7 +33,8 @@ module _ (starts : Starts) (trace : Trace) (now : ℕ) (frames : List FrameId) w
   abbrev pub returned : ℕ → Option ℤ
   returned row = returned_by (slice_get frames row)
 
-  pub returned_is : (row : ℕ) (frame : FrameId) (value : ℤ) → slice_get frames row ≡ Some frame → want_at starts trace now frame ≡ Some (Returns value) → returned row ≡ Some value
+  pub returned_is : (row : ℕ) (frame : FrameId) (value : ℤ) → slice_get frames row ≡ Some frame → want_at starts trace now frame ≡ Some (Returns value)
+      → returned row ≡ Some value
   returned_is row frame value is want = ap returned_by is ∙ ap lives.value_in want
 
   -- the children of a block, the latest first, as targets and rows
@@ -50,7 +51,8 @@ module _ (starts : Starts) (trace : Trace) (now : ℕ) (frames : List FrameId) w
 
 module _ (starts : Starts) (main : ℕ) (trace : Trace) (obeys : Obeys starts main trace) (now : ℕ) (frames : List FrameId) where
   -- a child that has returned before, and has a row
-  child_value : (at : ℕ) (child : FrameId) (value : ℤ) → at ≤ now → want_at starts trace at child ≡ Some (Returns value) → row_number frames child < length frames →
+  child_value : (at : ℕ) (child : FrameId) (value : ℤ) → at ≤ now → want_at starts trace at child ≡ Some (Returns value)
+      → row_number frames child < length frames →
       returned starts trace now frames (row_number frames child) ≡ Some (value_in (want_at starts trace at child))
   child_value at child value inside want there =
       returned_is starts trace now frames (row_number frames child) child value (number_get frames child there)
@@ -59,13 +61,16 @@ module _ (starts : Starts) (main : ℕ) (trace : Trace) (obeys : Obeys starts ma
 
   -- where all children have returned, their rows have what is given back
   pub have_returned : (at : ℕ) (block : List FrameId) → at ≤ now →
-      ((child : FrameId) → IsOn child block → (row_number frames child < length frames) × (value : ℤ) × (want_at starts trace at child ≡ Some (Returns value))) →
-      HaveReturned (returned starts trace now frames) (block_of starts trace now frames block) (deposits (λ child. (trace.target child, value_in (want_at starts trace at child))) block)
+      ((child : FrameId) → IsOn child block → (row_number frames child < length frames) × (value : ℤ) × (want_at starts trace at child ≡ Some (Returns value)))
+          →
+      HaveReturned (returned starts trace now frames) (block_of starts trace now frames block)
+          (deposits (λ child. (trace.target child, value_in (want_at starts trace at child))) block)
   unfolding deposits
   have_returned at [] inside each = tt
   have_returned at (latest ∷ earlier) inside each =
       let it = each latest (inl refl) in
-      have_more starts trace now frames (block_of starts trace now frames earlier) (deposits (λ child. (trace.target child, value_in (want_at starts trace at child))) earlier)
+      have_more starts trace now frames (block_of starts trace now frames earlier)
+          (deposits (λ child. (trace.target child, value_in (want_at starts trace at child))) earlier)
       (trace.target latest) (row_number frames latest) (value_in (want_at starts trace at latest))
       (have_returned at earlier inside (λ child on. each child (inr on))) (child_value at latest it.1 inside it.2 it.0)
 
@@ -116,5 +121,6 @@ spawned_by trace zero frame child on = absurd (subst (λ list. IsOn child list) 
 spawned_by trace (suc now) frame child on = elim (either_bool (by frame (trace.events now))) [
   | inl acts ↦ on_after trace now frame child (children trace.events now frame) (trace.events now) refl acts
       (subst (λ list. IsOn child list) (block_grew trace now frame acts) on) (λ before. spawned_by trace now frame child before)
-  | inr none ↦ spawned_later trace.events now frame child (spawned_by trace now frame child (subst (λ list. IsOn child list) (block_still trace now frame none) on))
+  | inr none ↦
+      spawned_later trace.events now frame child (spawned_by trace now frame child (subst (λ list. IsOn child list) (block_still trace now frame none) on))
 ]

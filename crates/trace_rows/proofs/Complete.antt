@@ -83,19 +83,23 @@ module _ (starts : Starts) (main : ℕ) (trace : Trace) (obeys : Obeys starts ma
   HasReturned frame = (value : ℤ) × (want_at starts trace now frame ≡ Some (Returns value))
 
   -- the children of what has returned have
-  pub child_returned : (at node : ℕ) (frame child : FrameId) → at < now → trace.events at ≡ Acts node frame (Spawn child) → HasReturned frame → HasReturned child
+  pub child_returned : (at node : ℕ) (frame child : FrameId) → at < now → trace.events at ≡ Acts node frame (Spawn child) → HasReturned frame
+      → HasReturned child
   child_returned at node frame child inside is (value, want) = elim (is_out trace frame child at node now is inside) [
     | inl on ↦ absurd (obeys.no_children now frame child value want on)
     | inr joined ↦ (
         let gave = obeys.joined joined.at joined.node frame child joined.is joined.on in
         let less = joined.before in
-        (gave.0, ap (λ told. want_of starts (trace.instance child) told) (settled starts main trace obeys child joined.at gave.0 gave.1 now (omega (arith, less))).told ∙ gave.1))
+        (gave.0, ap (λ told. want_of starts (trace.instance child) told)
+            (settled starts main trace obeys child joined.at gave.0 gave.1 now (omega (arith, less))).told ∙ gave.1))
   ]
 
-  module _ (frames : List FrameId) (history : History) (rows : AreRows trace.events now frames history) (runs : RunAs trace frames history) (main_returned : HasReturned main_id) where
+  module _ (frames : List FrameId) (history : History) (rows : AreRows trace.events now frames history) (runs : RunAs trace frames history)
+      (main_returned : HasReturned main_id) where
     returned_within : (bound row : ℕ) (frame : FrameId) → row < bound → slice_get frames row ≡ Some frame → HasReturned frame
     returned_within zero row frame less is = absurd (omega (arith, less))
-    returned_within (suc bound) zero frame less is = subst HasReturned (sym (first_is_main starts main trace obeys now frames history rows runs frame is)) main_returned
+    returned_within (suc bound) zero frame less is =
+        subst HasReturned (sym (first_is_main starts main trace obeys now frames history rows runs frame is)) main_returned
     returned_within (suc bound) (suc row) frame less is =
         let it = spawning starts main trace obeys now frames history rows row frame is in
         let before = it.before in

@@ -16,7 +16,8 @@ use Rattle.word_order.proofs.Rows.{place_passed, place_later}
 use Rattle.word_order.proofs.Places.{AreRows, act_here, place_there}
 use Rattle.trace_rows.proofs.Under.{ActBehindSpawns, Through, its_place, index, row_of, own_way, one_frame, through, below}
 
-module _ (events : Events) (now : ℕ) (frames : List FrameId) (history : History) (rows : AreRows events now frames history) (behind : ActBehindSpawns events) where
+module _ (events : Events) (now : ℕ) (frames : List FrameId) (history : History) (rows : AreRows events now frames history)
+    (behind : ActBehindSpawns events) where
   abbrev place : FrameId → ℕ → Place
   place frame at = its_place events now frames history rows frame at
 
@@ -27,21 +28,24 @@ module _ (events : Events) (now : ℕ) (frames : List FrameId) (history : Histor
   Goes it frame at = Through events now frames history rows it frame at
 
   inside_rows : (frame : FrameId) (at node : ℕ) (act : log.Act) → at < now → events at ≡ log.Acts node frame act → row_number frames frame < length history
-  inside_rows frame at node act inside is = row_within history rows.numbered (row_number frames frame) (place frame at) refl (place_there events now frames history rows at node frame act inside is)
+  inside_rows frame at node act inside is =
+      row_within history rows.numbered (row_number frames frame) (place frame at) refl (place_there events now frames history rows at node frame act inside is)
 
   -- the way to the place goes on so from the row of a frame
   abbrev GoesOn : Place → FrameId → ℕ → List ℕ → Type 0
   GoesOn it frame at rest = way history it ≡ row_of events now frames history rows frame ++ position frame at ∷ rest
 
   -- two ways through acts of one row part as they go on from there
-  parted : (frame : FrameId) (at other : ℕ) (x y : Place) (xs ys : List ℕ) → row_number frames frame < length history → GoesOn x frame at xs → GoesOn y frame other ys → RunsBeside history x y →
+  parted : (frame : FrameId) (at other : ℕ) (x y : Place) (xs ys : List ℕ) → row_number frames frame < length history → GoesOn x frame at xs
+      → GoesOn y frame other ys → RunsBeside history x y →
       PartUnsynced history (row_number frames frame) (position frame at ∷ xs) (position frame other ∷ ys)
   parted frame at other x y xs ys inside one two beside =
       part_up history rows.numbered (row_number frames frame) (position frame at ∷ xs) (position frame other ∷ ys) inside
       (subst (λ way. PartUnsynced history 0 way (row_of events now frames history rows frame ++ position frame other ∷ ys)) one
       (subst (λ other_way. PartUnsynced history 0 (way history x) other_way) two beside))
 
-  later_place : (frame : FrameId) (at other node : ℕ) (act : log.Act) → events at ≡ log.Acts node frame act → at < other → position frame at < position frame other
+  later_place : (frame : FrameId) (at other node : ℕ) (act : log.Act) → events at ≡ log.Acts node frame act → at < other
+      → position frame at < position frame other
   later_place frame at other node act is less = place_passed frames events frame at node other act is less
 
   -- what goes on later does not run beside
@@ -53,7 +57,8 @@ module _ (events : Events) (now : ℕ) (frames : List FrameId) (history : Histor
   own_beside number first second ys less (inl part) = part.1 refl
   own_beside number first second ys less (inr part) = let same = part.0 in omega (arith, less, same)
 
-  synced_beside : (number first second sync : ℕ) (xs ys : List ℕ) → first < second → first < sync → sync ≤ second → slice_get (row_at history number).acts sync ≡ Some row.Sync →
+  synced_beside : (number first second sync : ℕ) (xs ys : List ℕ) → first < second → first < sync → sync ≤ second
+      → slice_get (row_at history number).acts sync ≡ Some row.Sync →
       PartUnsynced history number (first ∷ xs) (second ∷ ys) → ⊥
   synced_beside number first second sync xs ys less after up_to is (inl part) = part.2 sync after up_to is
   synced_beside number first second sync xs ys less after up_to is (inr part) = let same = part.0 in omega (arith, less, same)
@@ -70,7 +75,8 @@ module _ (events : Events) (now : ℕ) (frames : List FrameId) (history : Histor
       nothing child [] part = part
       nothing child (x ∷ xs) part = part
 
-  module _ (at later node other : ℕ) (frame second : FrameId) (act next : log.Act) (at_in : at < now) (later_in : later < now) (is : events at ≡ log.Acts node frame act)
+  module _ (at later node other : ℕ) (frame second : FrameId) (act next : log.Act) (at_in : at < now) (later_in : later < now)
+      (is : events at ≡ log.Acts node frame act)
       (later_is : events later ≡ log.Acts other second next) where
     abbrev x : Place
     x = place frame at
@@ -88,7 +94,8 @@ module _ (events : Events) (now : ℕ) (frames : List FrameId) (history : Histor
     itself : (above : FrameId) (first : ℕ) → frame ≡ above → at ≡ first → GoesOn x above first []
     itself above first one same =
         own_way events now frames history rows at node frame act at_in is
-        ∙ ap (λ it. row_of events now frames history rows it ++ position it at ∷ []) one ∙ ap (λ at. row_of events now frames history rows above ++ position above at ∷ []) same
+        ∙ ap (λ it. row_of events now frames history rows it ++ position it at ∷ []) one
+        ∙ ap (λ at. row_of events now frames history rows above ++ position above at ∷ []) same
 
     across : Across events at later → IsParallel history x y → ⊥
     across it = on it.serial
@@ -119,7 +126,8 @@ module _ (events : Events) (now : ℕ) (frames : List FrameId) (history : Histor
         on (inr sync) (inl beside) =
             let sync_in : sync.at < now = (let up_to = sync.before in let later = two.inside in omega (arith, up_to, later)) in
             let up_to : position it.frame sync.at ≤ position it.frame it.later_act = place_later frames events it.frame sync.at it.later_act sync.before in
-            synced_beside (row_number frames it.frame) (position it.frame it.act) (position it.frame it.later_act) (position it.frame sync.at) one.rest two.rest less
+            synced_beside (row_number frames it.frame) (position it.frame it.act) (position it.frame it.later_act)
+                (position it.frame sync.at) one.rest two.rest less
             (later_place it.frame it.act sync.at one.node one.done one.is sync.after) up_to
             (act_here events now frames history rows sync.at sync.node it.frame log.Sync sync_in sync.is)
             (parted it.frame it.act it.later_act x y one.rest two.rest inside one.way_is two.way_is beside)
@@ -137,8 +145,10 @@ module _ (events : Events) (now : ℕ) (frames : List FrameId) (history : Histor
         inside = inside_rows it.frame at two.node two.done two.inside two.is
 
         on : IsParallel history x y → ⊥
-        on (inl beside) = into_beside (row_number frames it.frame) (position it.frame at) two.rest (parted it.frame at at x y [] two.rest inside alone two.way_is beside)
-        on (inr back) = out_beside (row_number frames it.frame) (position it.frame at) two.rest (parted it.frame at at y x two.rest [] inside two.way_is alone back)
+        on (inl beside) =
+            into_beside (row_number frames it.frame) (position it.frame at) two.rest (parted it.frame at at x y [] two.rest inside alone two.way_is beside)
+        on (inr back) =
+            out_beside (row_number frames it.frame) (position it.frame at) two.rest (parted it.frame at at y x two.rest [] inside two.way_is alone back)
 
     -- What the dag of the events orders is not parallel.
     pub not_parallel : Precedes events at later → IsParallel history x y → ⊥

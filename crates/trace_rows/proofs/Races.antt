@@ -36,8 +36,10 @@ module _ (events : Events) (now : ℕ) (frames : List FrameId) (history : Histor
 
   -- ---- which accesses write or add
 
-  writes : (word node at : ℕ) (frame : FrameId) (done : log.Act) → events at ≡ log.Acts node frame done → changes word (shown frames done) ≡ true → IsWriter events node word at
-  writes word node at frame (log.Write other value) is it = inl (value, record { frame = frame; is = is ∙ ap (λ one. log.Acts node frame (log.Write one value)) (sym (word_is word other it)) })
+  writes : (word node at : ℕ) (frame : FrameId) (done : log.Act) → events at ≡ log.Acts node frame done → changes word (shown frames done) ≡ true
+      → IsWriter events node word at
+  writes word node at frame (log.Write other value) is it =
+      inl (value, record { frame = frame; is = is ∙ ap (λ one. log.Acts node frame (log.Write one value)) (sym (word_is word other it)) })
   writes word node at frame (log.Add other old addend) is it =
       inr (old, record { frame = frame; addend = addend; is = is ∙ ap (λ one. log.Acts node frame (log.Add one old addend)) (sym (word_is word other it)) })
   writes word node at frame (log.Read other value) is it = absurd cc
@@ -45,7 +47,8 @@ module _ (events : Events) (now : ℕ) (frames : List FrameId) (history : Histor
   writes word node at frame (log.Spawn child) is it = absurd cc
   writes word node at frame log.Sync is it = absurd cc
 
-  changes_it : (word node other at : ℕ) (frame : FrameId) (done : log.Act) → events at ≡ log.Acts node frame done → IsWriter events other word at → changes word (shown frames done) ≡ true
+  changes_it : (word node other at : ℕ) (frame : FrameId) (done : log.Act) → events at ≡ log.Acts node frame done → IsWriter events other word at
+      → changes word (shown frames done) ≡ true
   changes_it word node other at frame done is (inl wrote) =
       let it = wrote.1.is in let same : done ≡ log.Write word wrote.0 = cc in ap (λ one. changes word (shown frames one)) same ∙ word_test word
   changes_it word node other at frame done is (inr added) =
@@ -54,7 +57,8 @@ module _ (events : Events) (now : ℕ) (frames : List FrameId) (history : Histor
   abbrev its_act : (word : ℕ) → Access word → log.Act
   its_act word entry = (act_of events now frames word entry).done
 
-  is_writer : (word : ℕ) (entry : Access word) (place : Place) → place ≡ its_place word entry → is_change history word place ≡ true → IsWriter events entry.node word entry.at
+  is_writer : (word : ℕ) (entry : Access word) (place : Place) → place ≡ its_place word entry → is_change history word place ≡ true
+      → IsWriter events entry.node word entry.at
   is_writer word entry place same change =
       writes word entry.node entry.at (act_of events now frames word entry).frame (its_act word entry) (act_of events now frames word entry).is
       (sym (ap (holds_at (changes word)) (act_is events now frames word history rows entry)) ∙ subst (λ place. is_change history word place ≡ true) same change)
@@ -62,16 +66,19 @@ module _ (events : Events) (now : ℕ) (frames : List FrameId) (history : Histor
   is_changed : (word other : ℕ) (entry : Access word) → IsWriter events other word entry.at → is_change history word (its_place word entry) ≡ true
   is_changed word other entry writer =
       ap (holds_at (changes word)) (act_is events now frames word history rows entry)
-      ∙ changes_it word entry.node other entry.at (act_of events now frames word entry).frame (its_act word entry) (act_of events now frames word entry).is writer
+      ∙ changes_it word entry.node other entry.at (act_of events now frames word entry).frame (its_act word entry)
+          (act_of events now frames word entry).is writer
 
   -- ---- no race in the history
 
   module _ (behind : ActBehindSpawns events) (free : RaceFree events now) where
-    ordered : (word : ℕ) (first second : Access word) → Precedes events first.at second.at → IsParallel history (its_place word first) (its_place word second) → ⊥
+    ordered : (word : ℕ) (first second : Access word) → Precedes events first.at second.at
+        → IsParallel history (its_place word first) (its_place word second) → ⊥
     ordered word first second before parallel =
         let one = act_of events now frames word first in
         let two = act_of events now frames word second in
-        not_parallel events now frames history rows behind first.at second.at first.node second.node one.frame two.frame one.done two.done first.inside second.inside one.is two.is before parallel
+        not_parallel events now frames history rows behind first.at second.at first.node second.node one.frame two.frame one.done two.done first.inside
+            second.inside one.is two.is before parallel
 
     not_both : (word : ℕ) (first second : Access word) → (IsWriter events first.node word first.at ⊎ IsWriter events second.node word second.at)
         → IsParallel history (its_place word first) (its_place word second) → ⊥
@@ -96,14 +103,17 @@ module _ (events : Events) (now : ℕ) (frames : List FrameId) (history : Histor
       where
         by : (first : Access word) × (x ≡ its_place word first) → (second : Access word) × (y ≡ its_place word second) → ⊥
         by (first, one) (second, two) =
-            not_both word first second (elim race.change [ inl change ↦ inl (is_writer word first x one change) | inr change ↦ inr (is_writer word second y two change) ])
+            not_both word first second
+                (elim race.change [ inl change ↦ inl (is_writer word first x one change) | inr change ↦ inr (is_writer word second y two change) ])
             (subst (λ place. IsParallel history (its_place word first) place) two (subst (λ place. IsParallel history place y) one race.parallel))
 
   -- ---- no race in the events
 
   -- what was done earlier is serially before
   abbrev pub InSerialOrder : Type 0
-  InSerialOrder = (at later node other : ℕ) (frame second : FrameId) (act next : log.Act) → at < later → later < now → events at ≡ log.Acts node frame act → events later ≡ log.Acts other second next →
+  InSerialOrder =
+      (at later node other : ℕ) (frame second : FrameId) (act next : log.Act) → at < later → later < now → events at ≡ log.Acts node frame act
+          → events later ≡ log.Acts other second next →
       IsBefore history (place_for events now frames history rows frame at) (place_for events now frames history rows second later)
 
   pub is_race_free : InSerialOrder → HasNoRace history → RaceFree events now
@@ -119,7 +129,8 @@ module _ (events : Events) (now : ℕ) (frames : List FrameId) (history : Histor
       (is_place events now frames word history rows first) (is_place events now frames word history rows second) (
         serial at later node other one.frame two.frame one.done two.done less inside one.is two.is,
         λ parallel. none word (its_place word first) (its_place word second)
-            (record { first = is_accessed events now frames word history rows first; second = is_accessed events now frames word history rows second; change = change; parallel = parallel }),
+            (record { first = is_accessed events now frames word history rows first; second = is_accessed events now frames word history rows second;
+                change = change; parallel = parallel }),
       )
 
 module _ (starts : Starts) (main : ℕ) (trace : Trace) (obeys : Obeys starts main trace) (now : ℕ) (frames : List FrameId) (history : History)
@@ -127,7 +138,3 @@ module _ (starts : Starts) (main : ℕ) (trace : Trace) (obeys : Obeys starts ma
   -- The history of an execution without race has none.
   pub no_race : RaceFree trace.events now → HasNoRace history
   no_race free = has_no_race trace.events now frames history rows (acts_behind starts main trace obeys) free
-
-  -- An execution in the serial order of its history, which has no race, has none.
-  pub race_free : InSerialOrder trace.events now frames history rows → HasNoRace history → RaceFree trace.events now
-  race_free serial none = is_race_free trace.events now frames history rows serial none

@@ -14,7 +14,8 @@ use Rattle.backer_order.specs.Dag.{Under, At, Below}
 use Rattle.word_order.proofs.Rows.{place_in}
 use Rattle.word_order.proofs.Places.{AreRows, place_for, act_here, place_there}
 
-pub one_frame : (node other : ℕ) (frame second : FrameId) (act next : log.Act) (event : log.Event) → event ≡ log.Acts node frame act → event ≡ log.Acts other second next → frame ≡ second
+pub one_frame : (node other : ℕ) (frame second : FrameId) (act next : log.Act) (event : log.Event) → event ≡ log.Acts node frame act
+    → event ≡ log.Acts other second next → frame ≡ second
 one_frame node other frame second act next event is is' = cc
 
 -- each frame acts behind its spawn
@@ -36,7 +37,8 @@ module _ (events : Events) (now : ℕ) (frames : List FrameId) (history : Histor
       way history (its_place frame at) ≡ row_of frame ++ index frame at ∷ []
   own_way at node frame act inside is =
       way_is history rows.numbered (its_place frame at)
-      (row_within history rows.numbered (row_number frames frame) (its_place frame at) refl (place_there events now frames history rows at node frame act inside is))
+      (row_within history rows.numbered (row_number frames frame) (its_place frame at) refl
+          (place_there events now frames history rows at node frame act inside is))
 
   -- The frame acts there, and the way to the place goes through this act.
   pub record Through (place : Place) (frame : FrameId) (at : ℕ) : Type 0 where
@@ -52,12 +54,14 @@ module _ (events : Events) (now : ℕ) (frames : List FrameId) (history : Histor
 
   module _ (behind : ActBehindSpawns events) where
     -- what lies below a child lies below its spawn
-    pub below : (place : Place) (at node next : ℕ) (frame child : FrameId) → events at ≡ log.Acts node frame (log.Spawn child) → Through place child next → Through place frame at
+    pub below : (place : Place) (at node next : ℕ) (frame child : FrameId) → events at ≡ log.Acts node frame (log.Spawn child) → Through place child next
+        → Through place frame at
     below place at node next frame child is through =
         let earlier = behind at node next frame child is (through.node, through.done, through.is) in
         let later = through.inside in
         let inside : at < now = omega (arith, earlier, later) in
-        let parent = (rows.numbered.child (its_place frame at) (row_number frames child) (act_here events now frames history rows at node frame (log.Spawn child) inside is)).1 in
+        let parent = (rows.numbered.child (its_place frame at) (row_number frames child)
+            (act_here events now frames history rows at node frame (log.Spawn child) inside is)).1 in
         let up : row_of child ≡ row_of frame ++ index frame at ∷ [] =
         row_way_is history rows.numbered (row_number frames child) (its_place frame at) parent.named ∙ own_way at node frame (log.Spawn child) inside is in
         record {
@@ -66,13 +70,17 @@ module _ (events : Events) (now : ℕ) (frames : List FrameId) (history : Histor
           inside = inside;
           is = is;
           rest = index child next ∷ through.rest;
-          way_is = through.way_is ∙ ap (λ front. front ++ index child next ∷ through.rest) up ∙ append_assoc (row_of frame) (index frame at ∷ []) (index child next ∷ through.rest);
+          way_is =
+              through.way_is ∙ ap (λ front. front ++ index child next ∷ through.rest) up
+                  ∙ append_assoc (row_of frame) (index frame at ∷ []) (index child next ∷ through.rest);
         }
 
-    pub through : (at node : ℕ) (frame : FrameId) (act : log.Act) → at < now → events at ≡ log.Acts node frame act → (above : FrameId) (first : ℕ) → Under events at above first →
+    pub through : (at node : ℕ) (frame : FrameId) (act : log.Act) → at < now → events at ≡ log.Acts node frame act → (above : FrameId) (first : ℕ)
+        → Under events at above first →
         Through (its_place frame at) above first
     through at node frame act inside is above first (At (other, next, is') same) =
         let same_frame : frame ≡ above = one_frame node other frame above act next (events at) is (ap events same ∙ is') in
-        subst (λ position. Through (its_place frame at) above position) same (subst (λ one. Through (its_place frame at) one at) same_frame (own at node frame act inside is))
+        subst (λ position. Through (its_place frame at) above position) same
+            (subst (λ one. Through (its_place frame at) one at) same_frame (own at node frame act inside is))
     through at node frame act inside is above first (Below other child next is' under) =
         below (its_place frame at) first other next above child is' (through at node frame act inside is child next under)
