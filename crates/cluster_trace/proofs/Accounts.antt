@@ -154,9 +154,6 @@ module _ (cluster : Cluster) (program : Program) (stands : StandsFor cluster.cod
     abbrev Plain : Answer → Type 0
     Plain answer = (given : List Deposit) (rest : List Answer) → at_sync given (answer ∷ rest) ≡ answer ∷ at_sync given rest
 
-    value_plain : (value : ℤ) → Plain (Value value)
-    value_plain value = λ given rest. refl
-
     done_plain : Plain Done
     done_plain = λ given rest. refl
 

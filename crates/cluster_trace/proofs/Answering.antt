@@ -91,11 +91,6 @@ module _ (cluster : Cluster) (turns : List WholeTurn) (lawful : IsLawful cluster
         on (inl calls) = inl (same ∙ calls)
         on (inr turns) = inr (same ∙ turns)
 
-    -- An add at its own home does.
-    pub add_wanted : (home : ℕ) (frame : FrameId) (index word : ℕ) (old addend : ℤ) (may : MayAdd node past home frame index word addend) → Accounted may.life []
-        → Answers trace (log.Acts moved.node frame (log.Add word old addend)) (want_at (starts cluster.code) trace position frame)
-    add_wanted home frame index word old addend may it = actor_wants frame may.life [] may.acts it ∙ may.wanted
-
     none_gone : (id : FrameId) (away : List _) (gone : List FrameId) → away ≡ [] → Aligned cluster program stands trace earlier id away gone → gone ≡ []
     none_gone id [] [] none aligned = refl
     none_gone id [] (child ∷ gone) none aligned = absurd aligned

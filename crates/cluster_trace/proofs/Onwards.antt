@@ -221,9 +221,6 @@ module _ (cluster : Cluster) (turns : List WholeTurn) (lawful : IsLawful cluster
                 it,
           )
 
-      same_all : (other : ℕ) → other ≢ number → ahead other earlier ≡ ahead other earlier
-      same_all other apart = refl
-
       event_reads : trace.events position ≡ happens_to cluster earlier number here event
       event_reads = event_at cluster course position moved found
 

@@ -1,11 +1,11 @@
 -- Where the elision finishes without race, each run ends as it does.
-use Rattle.std.proofs.Common.{◌≡◌, ◌<◌, ⊥, ¬◌, ℕ, ℤ, List, Some, length, map, reverse, sym, ◌∙◌, subst, arith}
+use Rattle.std.proofs.Common.{◌≡◌, ◌<◌, ℕ, ℤ, List, Some, length, reverse, sym, ◌∙◌, subst, arith}
 use Rattle.cilk_meaning.specs.declared.ends.NodeEnd.TheVariants.{Finished, Trapped, Budget}
 use Rattle.cilk_meaning.specs.declared.ends.TrapKind.{TrapKind}
 use Rattle.cilk_meaning.specs.Instance.{limits, wants}
 use Rattle.cilk_meaning.specs.Parted.{IsParted}
 use Rattle.cilk_meaning.specs.Resolved.{Program}
-use Rattle.cilk_meaning.specs.Wants.{Request, Asks, Returns}
+use Rattle.cilk_meaning.specs.Wants.{Returns}
 use Rattle.cilk_meaning.specs.World.{End, ticks_of}
 use Rattle.backer_order.specs.Log.{main_id}
 use Rattle.determinacy.specs.Replies.{want_at}
@@ -17,11 +17,11 @@ use Rattle.page_messages.specs.declared.log.Turn.{Turn}
 use Rattle.span_tree.specs.History.{History}
 use Rattle.span_tree.specs.Memory.{HasNoRace}
 use Rattle.cluster_rules.specs.Histories.{IsHistoryOf}
-use Rattle.cluster_rules.specs.Positions.{Course, course_of}
+use Rattle.cluster_rules.specs.Positions.{course_of}
 use Rattle.cluster_rules.specs.Runs.{Cluster, IsRun}
 use Rattle.cluster_rules.specs.Turns.{WholeTurn}
 use Rattle.cluster_order.specs.Reading.{memory_of}
-use Rattle.determinacy.specs.Determinate.{Determined, IsOpen}
+use Rattle.determinacy.specs.Determinate.{Determined}
 use Rattle.determinacy.proofs.Determined.{then_serial}
 use Rattle.elision_history.specs.Logged.{history_of}
 use Rattle.elision_trace.proofs.Elisions.{elision_ticks}

@@ -1,5 +1,5 @@
 -- What runs of the written cluster answer, beside what the serial elision of their program answers.
-use Rattle.std.specs.Prelude.{◌≡◌, ⊥, ¬◌, ℕ, ◌<◌, ℤ, Some, List, [], ◌∷◌, ◌++◌, reverse}
+use Rattle.std.specs.Prelude.{◌≡◌, ℕ, ◌<◌, List, reverse}
 use Rattle.std.specs.List.{sum}
 use Rattle.cilk_meaning.specs.declared.ends.NodeEnd.{NodeEnd}
 use Rattle.cilk_meaning.specs.declared.ends.NodeEnd.TheVariants.{Finished, Trapped, Budget}
