@@ -36,7 +36,8 @@ use Rattle.run_answers.specs.Laws.{IsElision, elision_of}
 use Rattle.run_answers.proofs.Executions.{begins, obeys_it, rows_of, runs_as}
 use Rattle.run_answers.proofs.OfTheProgram.{of_turns}
 
-module _ (cluster : Cluster) (program : Program) (log : List Turn) (run : IsRun cluster log) (stands : StandsFor cluster.code program) (parted : IsParted program)
+module _ (cluster : Cluster) (program : Program) (log : List Turn) (run : IsRun cluster log) (stands : StandsFor cluster.code program)
+    (parted : IsParted program)
     (budget : ℕ) where
   abbrev turns : List WholeTurn
   turns = reverse run.turns
@@ -62,7 +63,8 @@ module _ (cluster : Cluster) (program : Program) (log : List Turn) (run : IsRun 
   -- Its frames are the elision's rows, one for one and told the same, each word is left as there, and its ticks are its items.
   pub record GoesThrough : Type 0 where
     pub one : OneHistory (wants program) trace serial (length course) finish
-    pub word : (word : ℕ) (here there : ℤ) → MemoryOf trace.events memory (length course) word here → LastOf serial.events memory word finish there → here ≡ there
+    pub word : (word : ℕ) (here there : ℤ) → MemoryOf trace.events memory (length course) word here → LastOf serial.events memory word finish there
+        → here ≡ there
     pub ticks : ticks_counted cluster log ≡ items_in cluster course
 
   module _ (goes : GoesThrough) where

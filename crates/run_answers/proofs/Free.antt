@@ -34,8 +34,10 @@ use Rattle.run_answers.proofs.Elided.{trace, serial, finish, GoesThrough, is_eli
 use Rattle.run_answers.proofs.Executions.{begins, comes_to, obeys_it, runs_program, rows_of}
 use Rattle.run_answers.proofs.OfTheProgram.{of_turns}
 
-module _ (cluster : Cluster) (program : Program) (log : List Turn) (run : IsRun cluster log) (stands : StandsFor cluster.code program) (parted : IsParted program)
-    (budget : ℕ) (finished : (elision_of cluster program budget).end ≡ Finished) (free : HasNoRace (history_of program (elision_of cluster program budget))) where
+module _ (cluster : Cluster) (program : Program) (log : List Turn) (run : IsRun cluster log) (stands : StandsFor cluster.code program)
+    (parted : IsParted program)
+    (budget : ℕ) (finished : (elision_of cluster program budget).end ≡ Finished)
+    (free : HasNoRace (history_of program (elision_of cluster program budget))) where
   abbrev turns : List WholeTurn
   turns = reverse run.turns
 
@@ -46,10 +48,12 @@ module _ (cluster : Cluster) (program : Program) (log : List Turn) (run : IsRun 
   elision = elision_of cluster program budget
 
   -- the run goes as the elision
-  determined : Determined (wants program) (trace cluster program log run stands parted budget) (serial cluster program log run stands parted budget) (memory_of cluster)
+  determined : Determined (wants program) (trace cluster program log run stands parted budget) (serial cluster program log run stands parted budget)
+      (memory_of cluster)
       (finish cluster program log run stands parted budget) now
   determined =
-      then_serial (wants program) program.main (trace cluster program log run stands parted budget) (serial cluster program log run stands parted budget) (memory_of cluster)
+      then_serial (wants program) program.main (trace cluster program log run stands parted budget) (serial cluster program log run stands parted budget)
+      (memory_of cluster)
       (finish cluster program log run stands parted budget) (runs_program cluster program turns run.lawful stands parted)
       (elision_is_serial limits program (start_words_of cluster.code) budget (memory_of cluster) parted (begins cluster) finished free) now
 
@@ -68,7 +72,8 @@ module _ (cluster : Cluster) (program : Program) (log : List Turn) (run : IsRun 
   for_code : (value : ℤ) → want_at (wants program) (trace cluster program log run stands parted budget) now main_id ≡ Some (Returns value)
       → want_at (starts cluster.code) (trace cluster program log run stands parted budget) now main_id ≡ Some (Returns value)
   for_code value returns =
-      subst (λ (begin : Starts). want_at begin (trace cluster program log run stands parted budget) now main_id ≡ Some (Returns value)) (sym stands.wants) returns
+      subst (λ (begin : Starts). want_at begin (trace cluster program log run stands parted budget) now main_id ≡ Some (Returns value))
+      (sym stands.wants) returns
 
   goes_through : HasEnd log Finished → GoesThrough cluster program log run stands parted budget
   goes_through has =
@@ -81,7 +86,8 @@ module _ (cluster : Cluster) (program : Program) (log : List Turn) (run : IsRun 
 
   no_race_here : (frames : List FrameId) (history : History) → IsHistoryOf cluster.code.main log frames history → HasNoRace history
   no_race_here frames history its =
-      no_race (wants program) program.main (trace cluster program log run stands parted budget) (obeys_it cluster program turns run.lawful stands parted) now frames history
+      no_race (wants program) program.main (trace cluster program log run stands parted budget)
+      (obeys_it cluster program turns run.lawful stands parted) now frames history
       (rows_of cluster program turns run.lawful stands parted frames history (of_turns cluster log run frames history its)) determined.free
 
   pub ends_as_elision : EndsAsElision cluster program log run elision
@@ -93,4 +99,5 @@ module _ (cluster : Cluster) (program : Program) (log : List Turn) (run : IsRun 
   }
 
 pub race_free_runs_end_as_elision : RaceFreeRunsEndAsElision
-race_free_runs_end_as_elision cluster program log budget stands parted run finished free = ends_as_elision cluster program log run stands parted budget finished free
+race_free_runs_end_as_elision cluster program log budget stands parted run finished free =
+    ends_as_elision cluster program log run stands parted budget finished free

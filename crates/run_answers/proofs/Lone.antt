@@ -36,7 +36,8 @@ none_posted (moved ∷ course) silent = on moved.event silent.1 (none_posted cou
     on (Took message) itself none = absurd itself
     on (Ended end) itself none = omega (arith, none)
 
-module _ (cluster : Cluster) (program : Program) (log : List Turn) (run : IsRun cluster log) (stands : StandsFor cluster.code program) (parted : IsParted program)
+module _ (cluster : Cluster) (program : Program) (log : List Turn) (run : IsRun cluster log) (stands : StandsFor cluster.code program)
+    (parted : IsParted program)
     (alone : cluster.config.nodes ≡ 1) (end : NodeEnd) (has : HasEnd log end) where
   abbrev budget : ℕ
   budget = cluster.config.budget
@@ -59,10 +60,12 @@ module _ (cluster : Cluster) (program : Program) (log : List Turn) (run : IsRun 
       subst (λ (begin : Starts). EndsAs begin (trace cluster program log run stands parted budget) budget now end) stands.wants
       (one_node_ends cluster program log end stands parted alone run has)
 
-  same_run : SameRun (wants program) (trace cluster program log run stands parted budget) (serial cluster program log run stands parted budget) (memory_of cluster) now
+  same_run : SameRun (wants program) (trace cluster program log run stands parted budget) (serial cluster program log run stands parted budget)
+      (memory_of cluster) now
       (finish cluster program log run stands parted budget) (elision_of cluster program budget).end end
   same_run =
-      alone_serial (wants program) program.main (trace cluster program log run stands parted budget) (serial cluster program log run stands parted budget) (memory_of cluster)
+      alone_serial (wants program) program.main (trace cluster program log run stands parted budget) (serial cluster program log run stands parted budget)
+      (memory_of cluster)
       budget now (finish cluster program log run stands parted budget) (elision_of cluster program budget).end end runs_alone ends_so
       (elision_is_alone limits program (start_words_of cluster.code) budget (memory_of cluster) parted (begins cluster))
 
@@ -72,7 +75,8 @@ module _ (cluster : Cluster) (program : Program) (log : List Turn) (run : IsRun 
       ticks_are : ticks_counted cluster log ≡ items_in cluster (course_of turns)
       ticks_are =
           let all = run_ticks cluster log run in
-          let none = none_posted (course_of turns) (lone cluster alone (course_of turns) (lawful_stepped cluster turns run.lawful)).0 in omega (arith, all, none)
+          let none = none_posted (course_of turns) (lone cluster alone (course_of turns) (lawful_stepped cluster turns run.lawful)).0 in
+          omega (arith, all, none)
 
   pub is_the_elision : IsElision cluster program log run (elision_of cluster program budget)
   is_the_elision = is_elision cluster program log run stands parted budget goes_through (subst (HasEnd log) same_run.end_is has)
