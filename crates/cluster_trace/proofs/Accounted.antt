@@ -52,8 +52,10 @@ module _ (cluster : Cluster) (program : Program) (stands : StandsFor cluster.cod
   BodyAccount at course (body.Added old) = Unit {0}
 
   pub record Accounted (at : ℕ) (course : Course) : Type 0 where
-    pub nodes : (number : ℕ) → number < cluster.config.nodes → NodeAccounts at course (ahead number course) (frames_of (node_at cluster number) (own number course))
-    pub carries : (place : PostAt) (message : Msg) → WasPosted course place message → list_any (takes_place place) course ≡ false → BodyAccount at course message.body
+    pub nodes : (number : ℕ) → number < cluster.config.nodes
+        → NodeAccounts at course (ahead number course) (frames_of (node_at cluster number) (own number course))
+    pub carries : (place : PostAt) (message : Msg) → WasPosted course place message → list_any (takes_place place) course ≡ false
+        → BodyAccount at course message.body
     pub says : (place : PostAt) (message : Msg) → WasPosted course place message → Says cluster program stands trace at course message.body
 
 or_right : (a b : Bool) → a || b ≡ false → b ≡ false
@@ -68,7 +70,8 @@ module _ (cluster : Cluster) (turns : List WholeTurn) (lawful : IsLawful cluster
   trace = trace_of cluster course
 
   module _ (position : ℕ) (moved : Moved) (found : at course position ≡ Some moved)
-      (answers : (frame : FrameId) → by frame (trace.events position) ≡ true → Answers trace (trace.events position) (want_at (starts cluster.code) trace position frame)) where
+      (answers : (frame : FrameId) → by frame (trace.events position) ≡ true
+      → Answers trace (trace.events position) (want_at (starts cluster.code) trace position frame)) where
     abbrev earlier : Course
     earlier = before course position
 
@@ -94,16 +97,19 @@ module _ (cluster : Cluster) (turns : List WholeTurn) (lawful : IsLawful cluster
     lead_not (Some old) [] not = tt
     lead_not (Some old) (life ∷ below) not = not
 
-    pub body_same : (said : Body) → OfBody cluster.code Not said → BodyAccount cluster program stands trace position earlier said → BodyAccount cluster program stands trace (suc position) later said
+    pub body_same : (said : Body) → OfBody cluster.code Not said → BodyAccount cluster program stands trace position earlier said
+        → BodyAccount cluster program stands trace (suc position) later said
     body_same (body.Fetch page) not it = tt
     body_same (body.Page page words) not it = tt
     body_same (body.Reconcile parts) not it = tt
     body_same body.Ack not it = tt
     body_same body.Ask not it = tt
-    body_same (body.Grant closure) not it = life_same cluster turns lawful program stands position moved found answers (carried (node_at cluster 0) closure) [] not it
+    body_same (body.Grant closure) not it =
+        life_same cluster turns lawful program stands position moved found answers (carried (node_at cluster 0) closure) [] not it
     body_same body.Refuse not it = tt
     body_same (body.Done join index value) not it = tt
-    body_same (body.Park join closure) not it = life_same cluster turns lawful program stands position moved found answers (carried (node_at cluster 0) closure) [] not it
+    body_same (body.Park join closure) not it =
+        life_same cluster turns lawful program stands position moved found answers (carried (node_at cluster 0) closure) [] not it
     body_same (body.Add frame index word addend) not it = tt
     body_same (body.Added old) not it = tt
 
@@ -123,7 +129,8 @@ module _ (cluster : Cluster) (turns : List WholeTurn) (lawful : IsLawful cluster
         → NodeAccounts cluster program stands trace (suc position) later (ahead number later) (frames_of (node_at cluster number) (own number later))
         → ((other : ℕ) → other ≢ number → ahead other later ≡ ahead other earlier)
         → ((other : ℕ) → other ≢ number → frames_of (node_at cluster other) (own other later) ≡ frames_of (node_at cluster other) (own other earlier))
-        → ((message : Msg) → moved.event ≡ Sent message → BodyAccount cluster program stands trace (suc position) later message.body × Says cluster program stands trace (suc position) later message.body)
+        → ((message : Msg) → moved.event ≡ Sent message → BodyAccount cluster program stands trace (suc position) later message.body
+        × Says cluster program stands trace (suc position) later message.body)
         → Accounted cluster program stands trace position earlier → Accounted cluster program stands trace (suc position) later
     accounted_next number others letters here aheads frames sent it = record {
       nodes = λ other less. on other less (one_or_two other number);
@@ -133,11 +140,14 @@ module _ (cluster : Cluster) (turns : List WholeTurn) (lawful : IsLawful cluster
       where
         on : (other : ℕ) → other < cluster.config.nodes → (other ≡ number) ⊎ (other ≢ number)
             → NodeAccounts cluster program stands trace (suc position) later (ahead other later) (frames_of (node_at cluster other) (own other later))
-        on other less (inl same) = subst (λ it. NodeAccounts cluster program stands trace (suc position) later (ahead it later) (frames_of (node_at cluster it) (own it later))) (sym same) here
+        on other less (inl same) = subst
+            (λ it. NodeAccounts cluster program stands trace (suc position) later (ahead it later) (frames_of (node_at cluster it) (own it later)))
+            (sym same) here
         on other less (inr apart) =
             let not = others other less apart in
             let there = frames_of (node_at cluster other) (own other earlier) in
-            subst (λ led. NodeAccounts cluster program stands trace (suc position) later led (frames_of (node_at cluster other) (own other later))) (sym (aheads other apart))
+            subst (λ led. NodeAccounts cluster program stands trace (suc position) later led (frames_of (node_at cluster other) (own other later)))
+            (sym (aheads other apart))
             (subst (NodeAccounts cluster program stands trace (suc position) later (ahead other earlier)) (sym (frames other apart))
             (node_same (ahead other earlier) there (lead_not (ahead other earlier) there.stack not.stack) not.ready not.parked (it.nodes other less)))
 
@@ -145,7 +155,8 @@ module _ (cluster : Cluster) (turns : List WholeTurn) (lawful : IsLawful cluster
             → BodyAccount cluster program stands trace (suc position) later message.body
         carried_on place message (inl post) none = (sent message post.0).0
         carried_on place message (inr was) none =
-            body_same message.body (letter_of Not cluster.code place message (letters_of earlier) (letters_hold cluster earlier stepped.0 place message was none) letters)
+            body_same message.body (letter_of Not cluster.code place message (letters_of earlier)
+            (letters_hold cluster earlier stepped.0 place message was none) letters)
             (it.carries place message was none)
 
         said : (place : PostAt) (message : Msg) → WasPosted later place message → Says cluster program stands trace (suc position) later message.body

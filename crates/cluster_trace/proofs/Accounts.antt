@@ -92,7 +92,8 @@ module _ (cluster : Cluster) (program : Program) (stands : StandsFor cluster.cod
     giving = [];
     goes_is = λ rest.
         equal rest ∙ it.goes_is (at_sync kept rest) ∙ ap (state_at begins trace at id) (more_at_sync (gifts at it.inside) kept rest)
-        ∙ ap (λ given. state_at begins trace at id (at_sync given rest)) (ap (λ given. gifts at it.inside ++ given) it.kept_is ∙ sym (map-append (gift at) it.inside it.giving));
+        ∙ ap (λ given. state_at begins trace at id (at_sync given rest))
+        (ap (λ given. gifts at it.inside ++ given) it.kept_is ∙ sym (map-append (gift at) it.inside it.giving));
     kept_is = refl;
     inside_so = returned_append at it.inside it.giving it.inside_so it.giving_so;
     giving_so = tt;
@@ -104,7 +105,8 @@ module _ (cluster : Cluster) (program : Program) (stands : StandsFor cluster.cod
   none_giving at (child ∷ kids) is = absurd (cc)
 
   -- those that are gone have all told their values to its join
-  pub account_joined : (at : ℕ) (id : FrameId) (goes : Meaning) (gone : List FrameId) → AllReturned at gone → Account at id goes [] [] gone → Account at id goes (gifts at gone) [] []
+  pub account_joined : (at : ℕ) (id : FrameId) (goes : Meaning) (gone : List FrameId) → AllReturned at gone → Account at id goes [] [] gone
+      → Account at id goes (gifts at gone) [] []
   account_joined at id goes gone returned it = record {
     inside = it.inside;
     giving = gone;
@@ -117,7 +119,8 @@ module _ (cluster : Cluster) (program : Program) (stands : StandsFor cluster.cod
     where
       moves : (it.inside ++ it.giving) ++ ([] ++ gone) ≡ (it.inside ++ gone) ++ ([] ++ [])
       moves =
-          ap (λ kids. (it.inside ++ kids) ++ gone) (none_giving at it.giving it.kept_is) ∙ ap (λ list. list ++ gone) (append-nil it.inside) ∙ sym (append-nil (it.inside ++ gone))
+          ap (λ kids. (it.inside ++ kids) ++ gone) (none_giving at it.giving it.kept_is) ∙ ap (λ list. list ++ gone) (append-nil it.inside)
+          ∙ sym (append-nil (it.inside ++ gone))
 
   -- ---- one event more
 
@@ -133,7 +136,8 @@ module _ (cluster : Cluster) (program : Program) (stands : StandsFor cluster.cod
     gifts_next [] returned = refl
     gifts_next (child ∷ kids) returned =
         let same : want_at begins trace at child ≡ want_at begins trace (suc at) child = returned.0.1 ∙ sym (returned_next child returned.0).1 in
-        ap (λ (want : _). (trace.target child, replies.value_in want) ∷ gifts at kids) same ∙ ap (λ rest. gift (suc at) child ∷ rest) (gifts_next kids returned.1)
+        ap (λ (want : _). (trace.target child, replies.value_in want) ∷ gifts at kids) same
+        ∙ ap (λ rest. gift (suc at) child ∷ rest) (gifts_next kids returned.1)
 
     -- the account of a frame that has no item there
     pub account_same : (id : FrameId) (goes : Meaning) (kept : List Deposit) (above gone : List FrameId) → by id (trace.events at) ≡ false
@@ -154,15 +158,13 @@ module _ (cluster : Cluster) (program : Program) (stands : StandsFor cluster.cod
     abbrev Plain : Answer → Type 0
     Plain answer = (given : List Deposit) (rest : List Answer) → at_sync given (answer ∷ rest) ≡ answer ∷ at_sync given rest
 
-    value_plain : (value : ℤ) → Plain (Value value)
-    value_plain value = λ given rest. refl
-
     done_plain : Plain Done
     done_plain = λ given rest. refl
 
     -- what it wants behind an item
     goes_next : (id : FrameId) (goes : Meaning) (answer : Answer) → by id (trace.events at) ≡ true
-        → answer_of (reply_to (trace.events at) (given_at cluster program stands trace at id)) ≡ answer → Plain answer → (inside : List FrameId) → AllReturned at inside
+        → answer_of (reply_to (trace.events at) (given_at cluster program stands trace at id)) ≡ answer → Plain answer → (inside : List FrameId)
+        → AllReturned at inside
         → ((rest : List Answer) → goes rest ≡ state_at begins trace at id (at_sync (gifts at inside) rest)) → (rest : List Answer)
         → after goes answer rest ≡ state_at begins trace (suc at) id (at_sync (gifts (suc at) inside) rest)
     goes_next id goes answer acts tells plain inside returned is rest =

@@ -84,7 +84,8 @@ same_adding number old frame index [] earlier phase same = same
 same_adding number old frame index (add ∷ later) earlier phase same =
     same_cond (eqb add.sender number) (Some old) earlier (Told frame index old) phase refl same
 
-same_item : (number : ℕ) (done : Item) (adds : List Msg) (earlier : Option ℤ) (phase : Phase) → Same earlier phase → Same (ahead_item number done adds earlier) (after_item number done adds phase)
+same_item : (number : ℕ) (done : Item) (adds : List Msg) (earlier : Option ℤ) (phase : Phase) → Same earlier phase
+    → Same (ahead_item number done adds earlier) (after_item number done adds phase)
 same_item number (item.Act frame index act) adds earlier phase same = same
 same_item number (item.Tick frame) adds earlier phase same = same
 same_item number (item.Drop page) adds earlier phase same = same
@@ -107,7 +108,8 @@ same_taking (body.Add frame index word addend) earlier phase same = same
 same_taking (body.Added old) earlier phase same = refl
 
 -- a post is no Add, or the node waits for nothing
-same_post : (said : Body) (earlier : Option ℤ) (phase : Phase) → (adds : (frame : FrameId) (index word : ℕ) (addend : ℤ) → said ≡ body.Add frame index word addend → phase ≡ Idle) → Same earlier phase
+same_post : (said : Body) (earlier : Option ℤ) (phase : Phase)
+    → (adds : (frame : FrameId) (index word : ℕ) (addend : ℤ) → said ≡ body.Add frame index word addend → phase ≡ Idle) → Same earlier phase
     → Same earlier (after_post said phase)
 same_post (body.Fetch page) earlier phase adds same = same
 same_post (body.Page page words) earlier phase adds same = same
@@ -126,40 +128,48 @@ module _ (cluster : Cluster) where
       → (replies_in said ≡ true) ⊎ MayPost (node_at cluster number) past receiver said → IsQuiet past
   post_quiet number past receiver said frame index word addend is (inl reply) = let other = ap replies_in (sym is) ∙ reply in absurd (cc)
   post_quiet number past receiver said frame index word addend is (inr may) =
-      let it : MayPostAdd (node_at cluster number) past receiver frame index word addend = subst (MayPost (node_at cluster number) past receiver) is may in it.quiet
+      let it : MayPostAdd (node_at cluster number) past receiver frame index word addend = subst (MayPost (node_at cluster number) past receiver) is may in
+      it.quiet
 
   pub told_so : (course : Course) → Stepped cluster course → (number : ℕ) → Same (ahead number course) (phase_of number course)
   told_so [] stepped number = refl
   told_so (moved ∷ course) stepped number = on moved.event refl (told_so course stepped.0 number)
     where
-      idle : (message : Msg) → moved.event ≡ Sent message → (frame : FrameId) (index word : ℕ) (addend : ℤ) → message.body ≡ body.Add frame index word addend → phase_of moved.node course ≡ Idle
+      idle : (message : Msg) → moved.event ≡ Sent message → (frame : FrameId) (index word : ℕ) (addend : ℤ) → message.body ≡ body.Add frame index word addend
+          → phase_of moved.node course ≡ Idle
       idle message is frame index word addend says =
           quiet_idle cluster course moved.node moved.message stepped.1.within (phased cluster course stepped.0)
           (post_quiet moved.node (own moved.node course) message.receiver message.body frame index word addend says
-          (may_post (node_at cluster moved.node) (own moved.node course) message (subst (IsAllowed (node_at cluster moved.node) (own moved.node course)) is stepped.1.allowed)))
+          (may_post (node_at cluster moved.node) (own moved.node course) message
+          (subst (IsAllowed (node_at cluster moved.node) (own moved.node course)) is stepped.1.allowed)))
 
       at_node : (b : Bool) (message : Msg) → eqb moved.node number ≡ b → moved.event ≡ Sent message → Same (ahead number course) (phase_of number course)
           → Same (ahead number course) (cond b (after_post message.body (phase_of number course)) (phase_of number course))
       at_node true message here is same =
           same_post message.body (ahead number course) (phase_of number course)
-          (λ frame index word addend says. ap (λ it. phase_of it course) (sym (equal_number moved.node number here)) ∙ idle message is frame index word addend says) same
+          (λ frame index word addend says. ap (λ it. phase_of it course) (sym (equal_number moved.node number here))
+          ∙ idle message is frame index word addend says) same
       at_node false message here is same = same
 
       on : (event : Event) → moved.event ≡ event → Same (ahead number course) (phase_of number course)
-          → Same (ahead_on number moved.node (own moved.node course) event (ahead number course)) (phase_on number moved.node (own moved.node course) event (phase_of number course))
+          → Same (ahead_on number moved.node (own moved.node course) event (ahead number course))
+          (phase_on number moved.node (own moved.node course) event (phase_of number course))
       on (Did done) is same = same_item number done (owed_adds (own moved.node course)) (ahead number course) (phase_of number course) same
       on (Sent message) is same = at_node (eqb moved.node number) message refl is same
       on (Took message) is same =
-          same_cond (eqb moved.node number) (ahead_taking message.body (ahead number course)) (ahead number course) (after_taking message.body (phase_of number course)) (phase_of number course)
+          same_cond (eqb moved.node number) (ahead_taking message.body (ahead number course)) (ahead number course)
+          (after_taking message.body (phase_of number course)) (phase_of number course)
           (same_taking message.body (ahead number course) (phase_of number course) same) same
       on (Ended end) is same = same
 
   -- A node that waits for nothing is as the execution.
-  pub quiet_none : (course : Course) (stepped : Stepped cluster course) (number : ℕ) → number < cluster.config.nodes → IsQuiet (own number course) → ahead number course ≡ None
+  pub quiet_none : (course : Course) (stepped : Stepped cluster course) (number : ℕ) → number < cluster.config.nodes → IsQuiet (own number course)
+      → ahead number course ≡ None
   quiet_none course stepped number less quiet =
       told_so course stepped number ∙ ap old_in (quiet_idle cluster course number None less (phased cluster course stepped) quiet)
 
-  first_at : (old : ℤ) (led : Option ℤ) (phase : Phase) (stack : List Life) → led ≡ Some old → Same led phase → IsFirst phase stack → (frame : FrameId) × (acts : ℕ) × AddsFirst frame acts stack
+  first_at : (old : ℤ) (led : Option ℤ) (phase : Phase) (stack : List Life) → led ≡ Some old → Same led phase → IsFirst phase stack
+      → (frame : FrameId) × (acts : ℕ) × AddsFirst frame acts stack
   first_at old led Idle stack is same first = let both = sym is ∙ same in absurd (cc)
   first_at old led (Asked frame acts) stack is same first = let both = sym is ∙ same in absurd (cc)
   first_at old led (Told frame acts other) stack is same first = (frame, acts, first)
@@ -168,4 +178,5 @@ module _ (cluster : Cluster) where
   pub ahead_first : (course : Course) → Stepped cluster course → (number : ℕ) (old : ℤ) → ahead number course ≡ Some old
       → (frame : FrameId) × (acts : ℕ) × AddsFirst frame acts (stack_of (node_at cluster number) (own number course))
   ahead_first course stepped number old is =
-      first_at old (ahead number course) (phase_of number course) (stack_of (node_at cluster number) (own number course)) is (told_so course stepped number) ((phased cluster course stepped).first number)
+      first_at old (ahead number course) (phase_of number course) (stack_of (node_at cluster number) (own number course)) is (told_so course stepped number)
+      ((phased cluster course stepped).first number)

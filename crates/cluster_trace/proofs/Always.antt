@@ -69,7 +69,8 @@ module _ (cluster : Cluster) (turns : List WholeTurn) (lawful : IsLawful cluster
         none_away = λ none. refl;
         depth = ap (λ (it : Instance). it.depth) (sym runs);
         account = account_first cluster program stands trace 0 main_id (starts cluster.code 0 cluster.code.main [])
-            (ap (λ (it : Instance). starts cluster.code it.depth it.procedure it.arguments) (sym runs) ∙ sym (untouched_state cluster program stands trace 0 main_id tt))
+            (ap (λ (it : Instance). starts cluster.code it.depth it.procedure it.arguments) (sym runs)
+            ∙ sym (untouched_state cluster program stands trace 0 main_id tt))
             (untouched_children cluster program stands trace 0 main_id tt);
       }
 
@@ -79,7 +80,9 @@ module _ (cluster : Cluster) (turns : List WholeTurn) (lawful : IsLawful cluster
   node_start number false is = rw is (record { stack = tt; ready = tt; parked = tt })
 
   start : Accounted cluster program stands trace 0 []
-  start = record { nodes = λ number less. node_start number (eqb number 0) refl; carries = λ place message was none. absurd was; says = λ place message was. absurd was }
+  start =
+      record { nodes = λ number less. node_start number
+      (eqb number 0) refl; carries = λ place message was none. absurd was; says = λ place message was. absurd was }
 
   -- ---- at each position
 
@@ -88,7 +91,8 @@ module _ (cluster : Cluster) (turns : List WholeTurn) (lawful : IsLawful cluster
 
   next_so : (position : ℕ) (moved : Moved) → at course position ≡ Some moved → AllSo position → AllSo (suc position)
   next_so position moved found it =
-      let old : Accounted cluster program stands trace position (before course position) = subst (Accounted cluster program stands trace position) (first_at position course moved found) it.1 in
+      let old : Accounted cluster program stands trace position (before course position) =
+      subst (Accounted cluster program stands trace position) (first_at position course moved found) it.1 in
       let result = event_next cluster turns lawful program stands position moved.node moved.message
       (old_comes cluster turns lawful program stands) (adds_asked cluster turns lawful program stands) it.0 moved.event found old in (
         λ now less. on now less result.0 (less_or_not now position),
@@ -96,13 +100,15 @@ module _ (cluster : Cluster) (turns : List WholeTurn) (lawful : IsLawful cluster
       )
     where
       on : (now : ℕ) → now < suc position
-          → ((frame : FrameId) → by frame (trace.events position) ≡ true → Answers trace (trace.events position) (want_at (starts cluster.code) trace position frame))
+          → ((frame : FrameId) → by frame (trace.events position) ≡ true
+          → Answers trace (trace.events position) (want_at (starts cluster.code) trace position frame))
           → (now < position) ⊎ (position ≤ now)
           → (frame : FrameId) → by frame (trace.events now) ≡ true → Answers trace (trace.events now) (want_at (starts cluster.code) trace now frame)
       on now less here (inl earlier) = it.0 now earlier
       on now less here (inr later) =
           let same : position ≡ now = omega (arith, less, later) in
-          subst (λ now. (frame : FrameId) → by frame (trace.events now) ≡ true → Answers trace (trace.events now) (want_at (starts cluster.code) trace now frame)) same here
+          subst (λ now. (frame : FrameId) → by frame (trace.events now) ≡ true
+          → Answers trace (trace.events now) (want_at (starts cluster.code) trace now frame)) same here
 
   pub all_so : (position : ℕ) → position ≤ length course → AllSo position
   all_so zero less = ((λ now none. absurd (omega (arith, none))), subst (Accounted cluster program stands trace 0) (sym (first_none course)) start)
@@ -116,12 +122,16 @@ module _ (cluster : Cluster) (turns : List WholeTurn) (lawful : IsLawful cluster
   all_answer position frame acts = on (at course position) refl
     where
       on : (option : Option Moved) → at course position ≡ option → Answers trace (trace.events position) (want_at (starts cluster.code) trace position frame)
-      on None none = let nothing : trace.events position ≡ log.Nothing = rw none refl in absurd (not_nothing cluster turns lawful frame (ap (by frame) (sym nothing) ∙ acts))
-      on (Some moved) found = let inside = within course position moved found in (all_so (suc position) (omega (arith, inside))).0 position (omega arith) frame acts
+      on None none =
+          let nothing : trace.events position ≡ log.Nothing = rw none refl in
+          absurd (not_nothing cluster turns lawful frame (ap (by frame) (sym nothing) ∙ acts))
+      on (Some moved) found =
+          let inside = within course position moved found in (all_so (suc position) (omega (arith, inside))).0 position (omega arith) frame acts
 
   -- ---- at a Sync
 
-  joined_at : (position : ℕ) (moved : Moved) → at course position ≡ Some moved → (frame : FrameId) (index : ℕ) → moved.event ≡ Did (item.Act frame index act.Sync) → (child : FrameId)
+  joined_at : (position : ℕ) (moved : Moved) → at course position ≡ Some moved → (frame : FrameId) (index : ℕ)
+      → moved.event ≡ Did (item.Act frame index act.Sync) → (child : FrameId)
       → IsOn child (children trace.events position frame) → (value : ℤ) × (want_at (starts cluster.code) trace position child ≡ Some (Returns value))
   joined_at position moved found frame index is child on_it =
       let stepped = step_then cluster turns lawful position moved found in
@@ -131,7 +141,8 @@ module _ (cluster : Cluster) (turns : List WholeTurn) (lawful : IsLawful cluster
       on stepped it does.may
     where
       on : Stepped cluster (moved ∷ before course position) → Accounted cluster program stands trace position (before course position)
-          → ⊥ ⊎ (IsFree (own moved.node (before course position)) × MayAct (node_at cluster moved.node) (own moved.node (before course position)) frame index act.Sync)
+          → ⊥ ⊎ (IsFree (own moved.node (before course position))
+          × MayAct (node_at cluster moved.node) (own moved.node (before course position)) frame index act.Sync)
           → (value : ℤ) × (want_at (starts cluster.code) trace position child ≡ Some (Returns value))
       on stepped it (inl owed) = absurd owed
       on stepped it (inr both) =
@@ -149,7 +160,8 @@ module _ (cluster : Cluster) (turns : List WholeTurn) (lawful : IsLawful cluster
           → (value : ℤ) × (want_at (starts cluster.code) trace position child ≡ Some (Returns value))
       on (inr it) = let not = it.act_is in absurd (cc)
       on (inl it) =
-          joined_at position it.is.moved it.is.is frame it.index (it.is.event_is ∙ ap (λ done. Did (item.Act frame it.index done)) (is_sync it.act it.act_is)) child on_it
+          joined_at position it.is.moved it.is.is frame it.index
+          (it.is.event_is ∙ ap (λ done. Did (item.Act frame it.index done)) (is_sync it.act it.act_is)) child on_it
 
   -- A course of lawful turns obeys.
   pub obeys : Obeys (starts cluster.code) cluster.code.main trace

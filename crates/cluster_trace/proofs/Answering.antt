@@ -46,21 +46,25 @@ module _ (cluster : Cluster) (turns : List WholeTurn) (lawful : IsLawful cluster
     Accounted life above = LifeAccount cluster program stands trace position earlier life above
 
     -- what the frame that acts wants is what its instance does
-    pub actor_wants : (frame : FrameId) (life : Life) (above : List FrameId) → Acts node past frame life → Accounted life above → want_at (starts cluster.code) trace position frame ≡ want_of life
+    pub actor_wants : (frame : FrameId) (life : Life) (above : List FrameId) → Acts node past frame life → Accounted life above
+        → want_at (starts cluster.code) trace position frame ≡ want_of life
     actor_wants frame life above acts it =
         ap (λ id. want_at (starts cluster.code) trace position id) acts.named ∙ account_wants cluster program stands trace position earlier life above it
 
-    spawn_want : (target other : Option ℕ) (instance parent : Instance) (procedure : ℕ) (arguments : List ℤ) → instance.procedure ≡ procedure → instance.arguments ≡ arguments → other ≡ target
+    spawn_want : (target other : Option ℕ) (instance parent : Instance) (procedure : ℕ) (arguments : List ℤ) → instance.procedure ≡ procedure
+        → instance.arguments ≡ arguments → other ≡ target
         → Some (Asks (want.Spawn target procedure arguments)) ≡ Some (Asks (want.Spawn other instance.procedure instance.arguments))
     spawn_want target other instance parent procedure arguments same equal aims = cc
 
     -- The child of a Spawn has the target that its parent wants.
     pub child_target : (frame : FrameId) (index : ℕ) (child : FrameId) (procedure : ℕ) (arguments : List ℤ) (life : Life)
-        → moved.event ≡ Did (item.Act frame index (act.Spawn child procedure arguments)) → Acts node past frame life → trace.target child ≡ target_in (want_of life)
+        → moved.event ≡ Did (item.Act frame index (act.Spawn child procedure arguments)) → Acts node past frame life
+        → trace.target child ≡ target_in (want_of life)
     child_target frame index child procedure arguments life is acts =
         child_aims cluster turns lawful position moved found frame index child procedure arguments is ∙ ap target_by acts.is
 
-    act_answers : (frame : FrameId) (index : ℕ) (done : LoggedAct) → moved.event ≡ Did (item.Act frame index done) → (life : Life) → Acts node past frame life → MayMake node past done life
+    act_answers : (frame : FrameId) (index : ℕ) (done : LoggedAct) → moved.event ≡ Did (item.Act frame index done) → (life : Life) → Acts node past frame life
+        → MayMake node past done life
         → (wanted : Option Want) → wanted ≡ want_of life → Answers trace (log.Acts moved.node frame (act_of done)) wanted
     act_answers frame index (act.Read word value) is life acts makes wanted same = same ∙ makes.wanted
     act_answers frame index (act.Write word value) is life acts makes wanted same = same ∙ makes.wanted
@@ -69,15 +73,18 @@ module _ (cluster : Cluster) (turns : List WholeTurn) (lawful : IsLawful cluster
         let runs = child_instance cluster turns lawful position moved found frame index child procedure arguments is in
         let aims : trace.target child ≡ makes.target = child_target frame index child procedure arguments life is acts ∙ ap target_in makes.wanted in
         same ∙ makes.wanted
-        ∙ spawn_want makes.target (trace.target child) (trace.instance child) (trace.instance frame) procedure arguments (ap (λ (it : Instance). it.procedure) runs)
+        ∙ spawn_want makes.target (trace.target child) (trace.instance child) (trace.instance frame) procedure arguments
+        (ap (λ (it : Instance). it.procedure) runs)
         (ap (λ (it : Instance). it.arguments) runs) aims
     act_answers frame index act.Sync is life acts makes wanted same = same ∙ makes.wanted
 
     -- An act answers what its frame wants.
-    pub act_wanted : (frame : FrameId) (index : ℕ) (done : LoggedAct) → moved.event ≡ Did (item.Act frame index done) → (may : MayAct node past frame index done) → Accounted may.life []
+    pub act_wanted : (frame : FrameId) (index : ℕ) (done : LoggedAct) → moved.event ≡ Did (item.Act frame index done)
+        → (may : MayAct node past frame index done) → Accounted may.life []
         → Answers trace (log.Acts moved.node frame (act_of done)) (want_at (starts cluster.code) trace position frame)
     act_wanted frame index done is may it =
-        act_answers frame index done is may.life may.acts may.makes (want_at (starts cluster.code) trace position frame) (actor_wants frame may.life [] may.acts it)
+        act_answers frame index done is may.life may.acts may.makes (want_at (starts cluster.code) trace position frame)
+        (actor_wants frame may.life [] may.acts it)
 
     -- A tick that is no act does.
     pub tick_wanted : (frame : FrameId) (may : MayTick node past frame) → Accounted may.life []
@@ -87,14 +94,10 @@ module _ (cluster : Cluster) (turns : List WholeTurn) (lawful : IsLawful cluster
         same : want_at (starts cluster.code) trace position frame ≡ want_of may.life
         same = actor_wants frame may.life [] may.acts it
 
-        on : Wants may.life want.Call ⊎ Wants may.life want.LoopTurn → Answers trace (log.Tick moved.node frame) (want_at (starts cluster.code) trace position frame)
+        on : Wants may.life want.Call ⊎ Wants may.life want.LoopTurn
+            → Answers trace (log.Tick moved.node frame) (want_at (starts cluster.code) trace position frame)
         on (inl calls) = inl (same ∙ calls)
         on (inr turns) = inr (same ∙ turns)
-
-    -- An add at its own home does.
-    pub add_wanted : (home : ℕ) (frame : FrameId) (index word : ℕ) (old addend : ℤ) (may : MayAdd node past home frame index word addend) → Accounted may.life []
-        → Answers trace (log.Acts moved.node frame (log.Add word old addend)) (want_at (starts cluster.code) trace position frame)
-    add_wanted home frame index word old addend may it = actor_wants frame may.life [] may.acts it ∙ may.wanted
 
     none_gone : (id : FrameId) (away : List _) (gone : List FrameId) → away ≡ [] → Aligned cluster program stands trace earlier id away gone → gone ≡ []
     none_gone id [] [] none aligned = refl
@@ -106,7 +109,8 @@ module _ (cluster : Cluster) (turns : List WholeTurn) (lawful : IsLawful cluster
     sync_gone life may it = none_gone life.id life.away it.gone (it.none_away may.joined) it.aligned
 
     -- There each child of its block has returned.
-    pub sync_joined : (frame child : FrameId) (life : Life) → Acts node past frame life → MaySync life → Accounted life [] → IsOn child (children trace.events position frame)
+    pub sync_joined : (frame child : FrameId) (life : Life) → Acts node past frame life → MaySync life → Accounted life []
+        → IsOn child (children trace.events position frame)
         → Returned cluster program stands trace position child
     sync_joined frame child life acts may it on_it =
         account_settled cluster program stands trace position life.id life.goes life.kept

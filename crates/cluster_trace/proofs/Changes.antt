@@ -35,7 +35,8 @@ use Rattle.cluster_trace.proofs.Placing.{ClosureAccount, AllLives, AllParked, li
 use Rattle.cluster_trace.proofs.Ahead.{ahead, lead, ahead_first}
 use Rattle.cluster_trace.proofs.Accounted.{NodeAccounts, BodyAccount, Accounted}
 
-module _ (cluster : Cluster) (program : Program) (stands : StandsFor cluster.code program) (trace : Trace) (at : ℕ) (course : Course) (stepped : Stepped cluster course)
+module _ (cluster : Cluster) (program : Program) (stands : StandsFor cluster.code program) (trace : Trace) (at : ℕ) (course : Course)
+    (stepped : Stepped cluster course)
     (number : ℕ) (less : number < cluster.config.nodes) (it : Accounted cluster program stands trace at course) where
   abbrev node : Node
   node = node_at cluster number
@@ -93,7 +94,8 @@ module _ (cluster : Cluster) (program : Program) (stands : StandsFor cluster.cod
       → On [] (lead one (above ++ (record child { link = link } ∷ []))) × Has parent (child.id ∷ []) × (child.spawned.target ≡ trace.target child.id)
   lead_parts None above child parent link all = bottom_off cluster program stands trace at course [] above child parent link all
   lead_parts (Some old) [] child parent link all = bottom_off cluster program stands trace at course [] [] (made (Value old) child) parent link all
-  lead_parts (Some old) (life ∷ above) child parent link all = bottom_off cluster program stands trace at course [] (made (Value old) life ∷ above) child parent link all
+  lead_parts (Some old) (life ∷ above) child parent link all =
+      bottom_off cluster program stands trace at course [] (made (Value old) life ∷ above) child parent link all
 
   grant_parts : (message : Msg) (closure : Closure) (has : Granted cluster (moved_by number (Sent message) None) course message closure)
       → On [] (lead led (has.may.above ++ (record has.may.child { link = link_to closure.join } ∷ []))) × Has has.may.parent (has.may.child.id ∷ [])
@@ -119,7 +121,8 @@ module _ (cluster : Cluster) (program : Program) (stands : StandsFor cluster.cod
   pub empty_node : Keeps led (record frames { stack = [] })
   empty_node = record { stack = on_nothing led; ready = here.ready; parked = here.parked }
 
-  pub park_closure : (receiver : ℕ) (join : JoinId) (closure : Closure) → MayPark node past receiver join closure → ClosureAccount cluster program stands trace at course closure
+  pub park_closure : (receiver : ℕ) (join : JoinId) (closure : Closure) → MayPark node past receiver join closure
+      → ClosureAccount cluster program stands trace at course closure
   park_closure receiver join closure may =
       let none : led ≡ None = none_or led
       (λ old is. let first = ahead_first cluster course stepped number old is in parked_none first.0 first.1 frames.stack may.life first.2 may.at_join.alone may.at_join.wanted) in
@@ -133,11 +136,13 @@ module _ (cluster : Cluster) (program : Program) (stands : StandsFor cluster.cod
       let same : first ≡ life = cc in (tops, subst (λ it. Has it tops) same all.0, subst (λ it. ties.Standing cluster course (ties.tie_of it)) same tied.0)
   last_has tops (first ∷ (second ∷ below)) life is all tied = last_has (first.id ∷ []) (second ∷ below) life is all.2 tied.2
 
-  pub done_says : (receiver : ℕ) (join : JoinId) (index : ℕ) (value : ℤ) → MayDone node past receiver join index value → Tells cluster program stands trace at course join index value
+  pub done_says : (receiver : ℕ) (join : JoinId) (index : ℕ) (value : ℤ) → MayDone node past receiver join index value
+      → Tells cluster program stands trace at course join index value
   done_says receiver join index value may =
       let none : led ≡ None = none_or led
       (λ old is. let first = ahead_first cluster course stepped number old is in returned_none first.0 first.1 frames.stack first.2 may.returned.none_left) in
-      let bottom = last_has [] frames.stack may.life may.returned.at_bottom (on_none led frames.stack none here.stack) ((tied cluster course stepped).nodes number less).stack in
+      let bottom = last_has [] frames.stack may.life may.returned.at_bottom (on_none led frames.stack none here.stack)
+      ((tied cluster course stepped).nodes number less).stack in
       let parent = bottom.2.fits.linked join may.link in
       record {
         parent = parent.parent;
@@ -154,10 +159,12 @@ module _ (cluster : Cluster) (program : Program) (stands : StandsFor cluster.cod
     same_taken one other same = cc
 
     took_says : (said : Msg) → Among (Took said) (Took message ∷ past) → Says cluster program stands trace at course said.body
-    took_says said (inl same) = subst (λ (it : Msg). Says cluster program stands trace at course it.body) (same_taken message said same) (it.says takes.place message takes.was_posted)
+    took_says said (inl same) =
+        subst (λ (it : Msg). Says cluster program stands trace at course it.body) (same_taken message said same) (it.says takes.place message takes.was_posted)
     took_says said (inr among) = let was = taken_posted cluster number course stepped said among in it.says was.0 said was.1
 
-    named_all : (parked : List Parked) → AllWaiting cluster course parked → AllNamed cluster program stands trace at course (bears_once cluster course stepped) (Took message ∷ past) took_says parked
+    named_all : (parked : List Parked) → AllWaiting cluster course parked
+        → AllNamed cluster program stands trace at course (bears_once cluster course stepped) (Took message ∷ past) took_says parked
     named_all [] all = tt
     named_all (first ∷ parked) all = (all.0.fits.joined first.join all.0.at_join, named_all parked all.1)
 
@@ -168,7 +175,8 @@ module _ (cluster : Cluster) (program : Program) (stands : StandsFor cluster.cod
     joined_node : (parked : List Parked) → AllWaiting cluster course parked → AllParked cluster program stands trace at course parked
         → Keeps led (with_joined node (Took message ∷ past) (record frames { parked = parked }))
     joined_node parked waiting all =
-        let both = all_from cluster program stands trace at course (bears_once cluster course stepped) (Took message ∷ past) took_says number parked (named_all parked waiting) all in
+        let both = all_from cluster program stands trace at course (bears_once cluster course stepped) (Took message ∷ past) took_says number parked
+        (named_all parked waiting) all in
         record {
           stack = here.stack;
           ready = lives_append cluster program stands trace at course frames.ready (all_joined node (Took message ∷ past) parked) here.ready both.0;
@@ -182,9 +190,11 @@ module _ (cluster : Cluster) (program : Program) (stands : StandsFor cluster.cod
     carried_here said is = subst (BodyAccount cluster program stands trace at course) is (it.carries takes.place message takes.was_posted takes.not_taken)
 
     waiting : (join : JoinId) (closure : Closure) → message.body ≡ body.Park join closure → Waiting cluster course join closure
-    waiting join closure is = subst (ties.Carrying cluster course) is ((tied cluster course stepped).carries takes.place message takes.was_posted takes.not_taken)
+    waiting join closure is =
+        subst (ties.Carrying cluster course) is ((tied cluster course stepped).carries takes.place message takes.was_posted takes.not_taken)
 
-    pub took_node : (said : Body) → message.body ≡ said → ((old : ℤ) → said ≡ body.Added old → ⊥) → Keeps led (frames_took node said (Took message ∷ past) frames)
+    pub took_node : (said : Body) → message.body ≡ said → ((old : ℤ) → said ≡ body.Added old → ⊥)
+        → Keeps led (frames_took node said (Took message ∷ past) frames)
     took_node (body.Fetch page) is not = here
     took_node (body.Page page words) is not = here
     took_node (body.Reconcile parts) is not = here
@@ -192,7 +202,8 @@ module _ (cluster : Cluster) (program : Program) (stands : StandsFor cluster.cod
     took_node body.Ask is not = here
     took_node (body.Grant closure) is not = record {
       stack = here.stack;
-      ready = lives_append cluster program stands trace at course frames.ready (carried node closure ∷ []) here.ready (carried_here (body.Grant closure) is, tt);
+      ready =
+          lives_append cluster program stands trace at course frames.ready (carried node closure ∷ []) here.ready (carried_here (body.Grant closure) is, tt);
       parked = here.parked;
     }
     took_node body.Refuse is not = here
@@ -200,7 +211,8 @@ module _ (cluster : Cluster) (program : Program) (stands : StandsFor cluster.cod
     took_node (body.Park join closure) is not =
         joined_node (frames.parked ++ record { join = join; closure = closure } ∷ [])
         (waiting_append frames.parked (record { join = join; closure = closure } ∷ []) waits (waiting join closure is, tt))
-        (parked_append cluster program stands trace at course frames.parked (record { join = join; closure = closure } ∷ []) here.parked (carried_here (body.Park join closure) is, tt))
+        (parked_append cluster program stands trace at course frames.parked (record { join = join; closure = closure } ∷ []) here.parked
+        (carried_here (body.Park join closure) is, tt))
     took_node (body.Add frame index word addend) is not = here
     took_node (body.Added old) is not = absurd (not old refl)
 

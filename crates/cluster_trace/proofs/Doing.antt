@@ -38,7 +38,8 @@ module _ (cluster : Cluster) (turns : List WholeTurn) (lawful : IsLawful cluster
   trace = trace_of cluster course
 
   module _ (position : ℕ) (moved : Moved) (found : at course position ≡ Some moved)
-      (answers : (frame : FrameId) → by frame (trace.events position) ≡ true → Answers trace (trace.events position) (want_at (starts cluster.code) trace position frame)) where
+      (answers : (frame : FrameId) → by frame (trace.events position) ≡ true
+      → Answers trace (trace.events position) (want_at (starts cluster.code) trace position frame)) where
     abbrev earlier : Course
     earlier = before course position
 
@@ -54,7 +55,8 @@ module _ (cluster : Cluster) (turns : List WholeTurn) (lawful : IsLawful cluster
     abbrev frames : ℕ → Frames
     frames number = frames_of (node_at cluster number) (own number earlier)
 
-    pub aims_more : (first other : Life) (below : List Life) → first.id ≡ other.id → first.spawned ≡ other.spawned → Aims cluster program stands trace first below → Aims cluster program stands trace other below
+    pub aims_more : (first other : Life) (below : List Life) → first.id ≡ other.id → first.spawned ≡ other.spawned
+        → Aims cluster program stands trace first below → Aims cluster program stands trace other below
     aims_more first other [] names same aims = tt
     aims_more first other (lower ∷ below) names same aims = sym (ap (λ (it : _). it.target) same) ∙ aims ∙ ap trace.target names
 
@@ -64,13 +66,16 @@ module _ (cluster : Cluster) (turns : List WholeTurn) (lawful : IsLawful cluster
       both : (id : FrameId) (goes : Meaning) → Other frame id goes → Other frame id goes → Not id goes
       both id goes first second = only id first
 
-      pub below_same : (life : Life) (below : List Life) → life.id ≡ frame → many (named frame) (marks (life ∷ below)) ≤ many (named frame) (marks (frames number).stack)
+      pub below_same : (life : Life) (below : List Life) → life.id ≡ frame
+          → many (named frame) (marks (life ∷ below)) ≤ many (named frame) (marks (frames number).stack)
           → Stacked cluster program stands trace position earlier (life.id ∷ []) below → Behind (life.id ∷ []) below
       below_same life below is fewer all =
           let not = not_below cluster earlier (step_then cluster turns lawful position moved found).0 frame number less some life below is fewer in
-          stack_same cluster turns lawful program stands position moved found answers (life.id ∷ []) below (each_both (Other frame) (Other frame) Not both below not not) all
+          stack_same cluster turns lawful program stands position moved found answers (life.id ∷ []) below
+          (each_both (Other frame) (Other frame) Not both below not not) all
 
-      pub item_next : (stack : List Life) → frames_of (node_at cluster number) (own number later) ≡ record (frames number) { stack = stack } → Behind [] (lead (ahead number later) stack)
+      pub item_next : (stack : List Life) → frames_of (node_at cluster number) (own number later) ≡ record (frames number) { stack = stack }
+          → Behind [] (lead (ahead number later) stack)
           → ((other : ℕ) → other ≢ number → ahead other later ≡ ahead other earlier)
           → ((other : ℕ) → other ≢ number → frames_of (node_at cluster other) (own other later) ≡ frames_of (node_at cluster other) (own other earlier))
           → ((message : Msg) → moved.event ≡ Sent message → ⊥)
@@ -79,7 +84,8 @@ module _ (cluster : Cluster) (turns : List WholeTurn) (lawful : IsLawful cluster
           let stepped = (step_then cluster turns lawful position moved found).0 in
           let ready = not_ready cluster earlier stepped frame number less some in
           let beside : Frames = record { stack = []; ready = []; parked = (frames number).parked } in
-          let parked : InFrames cluster.code (Other frame) beside = record { stack = tt; ready = tt; parked = not_parked cluster earlier stepped frame number less some } in
+          let parked : InFrames cluster.code (Other frame) beside =
+          record { stack = tt; ready = tt; parked = not_parked cluster earlier stepped frame number less some } in
           let letters = not_letters cluster earlier stepped frame number less some in
           let before_it = it.nodes number less in
           accounted_next cluster turns lawful program stands position moved found answers number
@@ -90,7 +96,8 @@ module _ (cluster : Cluster) (turns : List WholeTurn) (lawful : IsLawful cluster
           (subst (NodeAccounts cluster program stands trace (suc position) later (ahead number later)) (sym is)
           (record {
             stack = all;
-            ready = lives_same cluster turns lawful program stands position moved found answers (frames number).ready (each_both (Other frame) (Other frame) Not both (frames number).ready ready ready)
+            ready = lives_same cluster turns lawful program stands position moved found answers (frames number).ready
+                (each_both (Other frame) (Other frame) Not both (frames number).ready ready ready)
                 before_it.ready;
             parked = parked_same cluster turns lawful program stands position moved found answers (frames number).parked
                 (frames_both (Other frame) (Other frame) Not both cluster.code beside parked parked).parked before_it.parked;

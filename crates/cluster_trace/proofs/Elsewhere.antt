@@ -70,7 +70,8 @@ module _ (cluster : Cluster) (course : Course) (stepped : Stepped cluster course
       none_letters frame (λ goes. ⊥) cluster.code (letters_of course) (omega (arith, once, a, b, some))
 
   -- those below it
-  pub not_below : (life : Life) (below : List Life) → life.id ≡ frame → many (named frame) (marks (life ∷ below)) ≤ many (named frame) (marks (frames number).stack) → Each (Other frame) below
+  pub not_below : (life : Life) (below : List Life) → life.id ≡ frame
+      → many (named frame) (marks (life ∷ below)) ≤ many (named frame) (marks (frames number).stack) → Each (Other frame) below
   not_below life below is less_marks =
       let once = once_there in
       let mark : one (same_frame life.id frame) ≡ 1 = ap (λ id. one (same_frame id frame)) is ∙ ap one (same_self frame) in
@@ -114,7 +115,8 @@ module _ (cluster : Cluster) (turns : List WholeTurn) (lawful : IsLawful cluster
   trace = trace_of cluster course
 
   module _ (position : ℕ) (moved : Moved) (found : at course position ≡ Some moved)
-      (answers : (frame : FrameId) → by frame (trace.events position) ≡ true → Answers trace (trace.events position) (want_at (starts cluster.code) trace position frame)) where
+      (answers : (frame : FrameId) → by frame (trace.events position) ≡ true
+      → Answers trace (trace.events position) (want_at (starts cluster.code) trace position frame)) where
     abbrev earlier : Course
     earlier = before course position
 
@@ -134,9 +136,11 @@ module _ (cluster : Cluster) (turns : List WholeTurn) (lawful : IsLawful cluster
       stack_same (life.id ∷ []) below not.1 all.2,
     )
 
-    pub lives_same : (lives : List Life) → Each NotBy lives → AllLives cluster program stands trace position earlier lives → AllLives cluster program stands trace (suc position) later lives
+    pub lives_same : (lives : List Life) → Each NotBy lives → AllLives cluster program stands trace position earlier lives
+        → AllLives cluster program stands trace (suc position) later lives
     lives_same [] not all = tt
-    lives_same (life ∷ lives) not all = (life_same cluster turns lawful program stands position moved found answers life [] not.0 all.0, lives_same lives not.1 all.1)
+    lives_same (life ∷ lives) not all =
+        (life_same cluster turns lawful program stands position moved found answers life [] not.0 all.0, lives_same lives not.1 all.1)
 
     pub parked_same : (parked : List Parked) → EachParked cluster.code NotBy parked → AllParked cluster program stands trace position earlier parked
         → AllParked cluster program stands trace (suc position) later parked

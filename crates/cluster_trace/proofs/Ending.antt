@@ -164,12 +164,6 @@ module _ (cluster : Cluster) (turns : List WholeTurn) (lawful : IsLawful cluster
     ends_finished position number happens =
         let it = at_end position number Finished happens in main_returns position it.0 number it.1 it.2 it.3
 
-    -- So each frame that was born has.
-    pub ends_complete : (position number : ℕ) → Happens course number position (Ended Finished) → Complete (starts cluster.code) trace position
-    ends_complete position number happens =
-        let main = ends_finished position number happens in
-        complete (starts cluster.code) cluster.code.main trace (obeys cluster turns lawful program stands parted) position main.0 main.1
-
     -- Where a node ends with a trap, a frame wants that trap.
     pub ends_trapped : (position number : ℕ) (kind : TrapKind) → Happens course number position (Ended (Trapped kind))
         → (frame : FrameId) × Born trace.events position frame × (wants position frame ≡ Some (Traps kind))

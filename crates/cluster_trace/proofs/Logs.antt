@@ -48,9 +48,11 @@ ended last older end is =
     let message = posted_at older last.took in
     record {
       node = last.node;
-      earlier = with_taking last.node last.took message (with_posts last.node (record { turn = number; index = 0 }) last.posts (with_items last.node last.items (course_of older)));
+      earlier = with_taking last.node last.took message
+          (with_posts last.node (record { turn = number; index = 0 }) last.posts (with_items last.node last.items (course_of older)));
       is = ap (λ end. with_end last.node end
-          (with_taking last.node last.took message (with_posts last.node (record { turn = number; index = 0 }) last.posts (with_items last.node last.items (course_of older))))) is;
+          (with_taking last.node last.took message
+          (with_posts last.node (record { turn = number; index = 0 }) last.posts (with_items last.node last.items (course_of older))))) is;
     }
 
 -- Where a run ended, that is its latest event.

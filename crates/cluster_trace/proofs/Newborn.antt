@@ -44,9 +44,12 @@ module _ (cluster : Cluster) (turns : List WholeTurn) (lawful : IsLawful cluster
     newborn_account =
         let runs = child_runs cluster turns lawful position node frame child is in
         let none = untouched (suc position) (omega arith) in
-        let goes : starts cluster.code (suc (trace.instance frame).depth) runs.0.procedure runs.0.arguments ≡ state_at (starts cluster.code) trace (suc position) child =
-        ap (λ (it : Instance). starts cluster.code it.depth it.procedure it.arguments) (sym runs.1) ∙ sym (untouched_state cluster program stands trace (suc position) child none) in (
+        let goes : starts cluster.code (suc (trace.instance frame).depth) runs.0.procedure runs.0.arguments ≡ state_at (starts cluster.code) trace
+        (suc position) child =
+        ap (λ (it : Instance). starts cluster.code it.depth it.procedure it.arguments) (sym runs.1)
+        ∙ sym (untouched_state cluster program stands trace (suc position) child none) in (
           runs.0,
-          account_first cluster program stands trace (suc position) child (starts cluster.code (suc (trace.instance frame).depth) runs.0.procedure runs.0.arguments) goes
+          account_first cluster program stands trace (suc position) child
+          (starts cluster.code (suc (trace.instance frame).depth) runs.0.procedure runs.0.arguments) goes
               (untouched_children cluster program stands trace (suc position) child none),
         )

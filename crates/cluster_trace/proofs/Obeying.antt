@@ -17,7 +17,8 @@ use Rattle.cluster_trace.proofs.Spawning.{all_stepped, fresh_spawn, never_main, 
 use Rattle.cluster_trace.proofs.Running.{main_runs, one_deeper}
 use Rattle.cluster_trace.proofs.Blocks.{no_child_left}
 
-module _ (cluster : Cluster) (turns : List WholeTurn) (lawful : IsLawful cluster turns) (program : Program) (stands : StandsFor cluster.code program) (parted : IsParted program) where
+module _ (cluster : Cluster) (turns : List WholeTurn) (lawful : IsLawful cluster turns) (program : Program) (stands : StandsFor cluster.code program)
+    (parted : IsParted program) where
   abbrev trace : Trace
   trace = trace_of cluster (course_of turns)
 

@@ -136,11 +136,13 @@ module _ (cluster : Cluster) (turns : List WholeTurn) (lawful : IsLawful cluster
   trace = trace_of cluster course
 
   abbrev pub AnswersAt : ℕ → Type 0
-  AnswersAt position = (frame : FrameId) → by frame (trace.events position) ≡ true → Answers trace (trace.events position) (want_at (starts cluster.code) trace position frame)
+  AnswersAt position =
+      (frame : FrameId) → by frame (trace.events position) ≡ true → Answers trace (trace.events position) (want_at (starts cluster.code) trace position frame)
 
   -- An old value that a node takes is the one that its home told for it last.
   abbrev pub OldComes : Type 0
-  OldComes = (position number : ℕ) (here : Option PostAt) (message : Msg) (old : ℤ) → at course position ≡ Some (moved_by number (Took message) here) → message.body ≡ body.Added old
+  OldComes = (position number : ℕ) (here : Option PostAt) (message : Msg) (old : ℤ) → at course position ≡ Some (moved_by number (Took message) here)
+      → message.body ≡ body.Added old
       → ahead number (before course position) ≡ Some old
 
   -- A served add is the one that the first frame of the asker wants.
@@ -153,7 +155,8 @@ module _ (cluster : Cluster) (turns : List WholeTurn) (lawful : IsLawful cluster
       × (want_of life ≡ Some (Asks (want.Add word addend)))
 
   lead_none_stack : (position : ℕ) (moved : Moved) (one : Option ℤ) (stack : List Life) → one ≡ None
-      → Stacked cluster program stands trace (suc position) (moved ∷ before course position) [] stack → Stacked cluster program stands trace (suc position) (moved ∷ before course position) [] (lead one stack)
+      → Stacked cluster program stands trace (suc position) (moved ∷ before course position) [] stack
+      → Stacked cluster program stands trace (suc position) (moved ∷ before course position) [] (lead one stack)
   lead_none_stack position moved None stack none all = all
   lead_none_stack position moved (Some old) stack none all = absurd (cc)
 
@@ -202,9 +205,11 @@ module _ (cluster : Cluster) (turns : List WholeTurn) (lawful : IsLawful cluster
       quiet_led free = quiet_none cluster earlier stepped.0 number less free.quiet
 
       -- an event that is no item of a frame
-      nobody : Nobody (trace.events position) → NodeAccounts cluster program stands trace position earlier (ahead number later) (frames_on node event past frames)
+      nobody : Nobody (trace.events position) → NodeAccounts cluster program stands trace position earlier (ahead number later)
+          (frames_on node event past frames)
           → ((other : ℕ) → other ≢ number → ahead other later ≡ ahead other earlier)
-          → ((message : Msg) → event ≡ Sent message → BodyAccount cluster program stands trace position earlier message.body × Says cluster program stands trace position earlier message.body)
+          → ((message : Msg) → event ≡ Sent message → BodyAccount cluster program stands trace position earlier message.body
+          × Says cluster program stands trace position earlier message.body)
           → Old → Result event
       nobody none now aheads sent it =
           let answers : AnswersAt position = λ frame acts. (let both = sym (none frame) ∙ acts in absurd (cc)) in
@@ -214,15 +219,14 @@ module _ (cluster : Cluster) (turns : List WholeTurn) (lawful : IsLawful cluster
             answers,
             accounted_next cluster turns lawful program stands position moved found answers number (λ other below apart. all.at other below) all.letters
                 (subst (NodeAccounts cluster program stands trace (suc position) later (ahead number later)) (sym frames_now)
-                (node_same cluster turns lawful program stands position moved found answers (ahead number later) each (all_each Not (λ id goes. none id) (lead (ahead number later) each.stack))
+                (node_same cluster turns lawful program stands position moved found answers (ahead number later) each
+                (all_each Not (λ id goes. none id) (lead (ahead number later) each.stack))
                 (all_each Not (λ id goes. none id) each.ready) (all_parked Not (λ id goes. none id) cluster.code each.parked) now))
                 aheads frames_there
-                (λ message is. let both = sent message is in (body_same cluster turns lawful program stands position moved found answers message.body (all_body Not (λ id goes. none id) cluster.code message.body) both.0, says_same cluster turns lawful program stands position moved found answers message.body both.1))
+                (λ message is. let both = sent message is in (body_same cluster turns lawful program stands position moved found answers message.body
+                (all_body Not (λ id goes. none id) cluster.code message.body) both.0, says_same cluster turns lawful program stands position moved found answers message.body both.1))
                 it,
           )
-
-      same_all : (other : ℕ) → other ≢ number → ahead other earlier ≡ ahead other earlier
-      same_all other apart = refl
 
       event_reads : trace.events position ≡ happens_to cluster earlier number here event
       event_reads = event_at cluster course position moved found
@@ -240,8 +244,10 @@ module _ (cluster : Cluster) (turns : List WholeTurn) (lawful : IsLawful cluster
       top : (frame : FrameId) (life : Life) → Acts node past frame life → (below : List Life) × (live frames.stack ≡ life ∷ below)
       top frame life acts = first_is (live frames.stack) life acts.is
 
-      fewer : (life : Life) (below : List Life) → live frames.stack ≡ life ∷ below → many (named life.id) (marks (life ∷ below)) ≤ many (named life.id) (marks frames.stack)
-      fewer life below is = subst (λ list. many (named life.id) (marks list) ≤ many (named life.id) (marks frames.stack)) is (live_within frames.stack (named life.id))
+      fewer : (life : Life) (below : List Life) → live frames.stack ≡ life ∷ below
+          → many (named life.id) (marks (life ∷ below)) ≤ many (named life.id) (marks frames.stack)
+      fewer life below is =
+          subst (λ list. many (named life.id) (marks list) ≤ many (named life.id) (marks frames.stack)) is (live_within frames.stack (named life.id))
 
       some_there : (life : Life) (below : List Life) → live frames.stack ≡ life ∷ below → 1 ≤ many (named life.id) (marks frames.stack)
       some_there life below is =
@@ -251,7 +257,8 @@ module _ (cluster : Cluster) (turns : List WholeTurn) (lawful : IsLawful cluster
 
     -- ---- items
 
-    own_act : (frame : FrameId) (index : ℕ) (done : LoggedAct) → Found (Did (item.Act frame index done)) → AnsweredBefore cluster program stands trace position → IsFree past
+    own_act : (frame : FrameId) (index : ℕ) (done : LoggedAct) → Found (Did (item.Act frame index done)) → AnsweredBefore cluster program stands trace position
+        → IsFree past
         → MayAct node past frame index done → Old → Result (Did (item.Act frame index done))
     own_act frame index done found answered_before free may it =
         let event : Event = Did (item.Act frame index done) in
@@ -259,19 +266,23 @@ module _ (cluster : Cluster) (turns : List WholeTurn) (lawful : IsLawful cluster
         let led = quiet_led event found free in
         let first = top event found frame may.life may.acts in
         let all : Stacked cluster program stands trace position earlier [] (may.life ∷ first.0) =
-        subst (Stacked cluster program stands trace position earlier []) first.1 (live_here cluster program stands trace position earlier (stepped event found).0 number (less event found) it led) in
+        subst (Stacked cluster program stands trace position earlier []) first.1
+        (live_here cluster program stands trace position earlier (stepped event found).0 number (less event found) it led) in
         let reads = event_reads event found in
         let wanted = act_wanted cluster turns lawful program stands position moved found frame index done refl may all.0 in
         let answers : AnswersAt position = λ other acts.
         subst (λ (event : log.Event). Answers trace event (want_at (starts cluster.code) trace position other)) (sym reads)
         (subst (λ id. Answers trace (log.Acts number frame (act_of done)) (want_at (starts cluster.code) trace position id))
         (acts_by number frame other (act_of done) (sym (ap (by other) reads) ∙ acts)) wanted) in
-        let only : Only may.life.id (trace.events position) = λ id not. ap (by id) reads ∙ only_actor number frame (act_of done) id (λ same. not (same ∙ may.acts.named)) in
+        let only : Only may.life.id (trace.events position) = λ id not. ap (by id) reads
+        ∙ only_actor number frame (act_of done) id (λ same. not (same ∙ may.acts.named)) in
         let some = some_there event found may.life first.0 first.1 in
-        let rest = below_same cluster turns lawful program stands position moved found answers number (less event found) may.life.id only some may.life first.0 refl (fewer event found may.life first.0 first.1) all.2 in
+        let rest = below_same cluster turns lawful program stands position moved found answers number
+        (less event found) may.life.id only some may.life first.0 refl (fewer event found may.life first.0 first.1) all.2 in
         let stack = act_stack cluster turns lawful program stands position moved found answers answered_before frame index done refl may.life first.0 may.acts may.makes all rest in (
           answers,
-          item_next cluster turns lawful program stands position moved found answers number (less event found) may.life.id only some (after_act node done (live frames.stack))
+          item_next cluster turns lawful program stands position moved found answers number (less event found) may.life.id only some
+          (after_act node done (live frames.stack))
               (frames_now event found)
               (lead_none_stack position moved (ahead number earlier) (after_act node done (live frames.stack)) led
               (subst (λ list. Stacked cluster program stands trace (suc position) (moved ∷ earlier) [] (after_act node done list)) (sym first.1) stack))
@@ -285,22 +296,26 @@ module _ (cluster : Cluster) (turns : List WholeTurn) (lawful : IsLawful cluster
         let led = quiet_led event found free in
         let first = top event found frame may.life may.acts in
         let all : Stacked cluster program stands trace position earlier [] (may.life ∷ first.0) =
-        subst (Stacked cluster program stands trace position earlier []) first.1 (live_here cluster program stands trace position earlier (stepped event found).0 number (less event found) it led) in
+        subst (Stacked cluster program stands trace position earlier []) first.1
+        (live_here cluster program stands trace position earlier (stepped event found).0 number (less event found) it led) in
         let reads = event_reads event found in
         let wanted = tick_wanted cluster turns lawful program stands position moved found frame may all.0 in
         let answers : AnswersAt position = λ other acts.
         subst (λ (event : log.Event). Answers trace event (want_at (starts cluster.code) trace position other)) (sym reads)
-        (subst (λ id. Answers trace (log.Tick number frame) (want_at (starts cluster.code) trace position id)) (ticks_by number frame other (sym (ap (by other) reads) ∙ acts)) wanted) in
+        (subst (λ id. Answers trace (log.Tick number frame) (want_at (starts cluster.code) trace position id))
+        (ticks_by number frame other (sym (ap (by other) reads) ∙ acts)) wanted) in
         let only : Only may.life.id (trace.events position) = λ id not. ap (by id) reads ∙ only_ticker number frame id (λ same. not (same ∙ may.acts.named)) in
         let some = some_there event found may.life first.0 first.1 in
-        let rest = below_same cluster turns lawful program stands position moved found answers number (less event found) may.life.id only some may.life first.0 refl (fewer event found may.life first.0 first.1) all.2 in
+        let rest = below_same cluster turns lawful program stands position moved found answers number
+        (less event found) may.life.id only some may.life first.0 refl (fewer event found may.life first.0 first.1) all.2 in
         let stack : Stacked cluster program stands trace (suc position) (moved ∷ earlier) [] (with_first (answered Done) (may.life ∷ first.0)) = (
           life_tick cluster turns lawful program stands position moved found answers frame may.life refl may.acts.named all.0,
           aims_more cluster turns lawful program stands position moved found answers may.life (answered Done may.life) first.0 refl refl all.1,
           rest,
         ) in (
           answers,
-          item_next cluster turns lawful program stands position moved found answers number (less event found) may.life.id only some (with_first (answered Done) (live frames.stack))
+          item_next cluster turns lawful program stands position moved found answers number (less event found) may.life.id only some
+          (with_first (answered Done) (live frames.stack))
               (frames_now event found)
               (lead_none_stack position moved (ahead number earlier) (with_first (answered Done) (live frames.stack)) led
               (subst (λ list. Stacked cluster program stands trace (suc position) (moved ∷ earlier) [] (with_first (answered Done) list)) (sym first.1) stack))
@@ -316,10 +331,12 @@ module _ (cluster : Cluster) (turns : List WholeTurn) (lawful : IsLawful cluster
       moving = moved_by number served here
 
       -- the event for any node that asked
-      module _ (asker : ℕ) (within : asker < cluster.config.nodes) (reads : item_of cluster number past (item.Served frame index word old addend) ≡ log.Acts asker frame (log.Add word old addend))
+      module _ (asker : ℕ) (within : asker < cluster.config.nodes)
+          (reads : item_of cluster number past (item.Served frame index word old addend) ≡ log.Acts asker frame (log.Add word old addend))
           (node_number : ℕ) (inside : node_number < cluster.config.nodes) (life : Life) (below : List Life) (named_so : frame ≡ life.id)
           (all : Stacked cluster program stands trace position earlier [] (life ∷ below)) (wants_add : want_of life ≡ Some (Asks (want.Add word addend)))
-          (fewer_marks : many (named life.id) (marks (life ∷ below)) ≤ many (named life.id) (marks (stack_of (node_at cluster node_number) (own node_number earlier)))) where
+          (fewer_marks : many (named life.id) (marks (life ∷ below)) ≤ many (named life.id)
+          (marks (stack_of (node_at cluster node_number) (own node_number earlier)))) where
         reads_so : trace.events position ≡ log.Acts asker frame (log.Add word old addend)
         reads_so = event_reads served found ∙ reads
 
@@ -334,7 +351,8 @@ module _ (cluster : Cluster) (turns : List WholeTurn) (lawful : IsLawful cluster
         add_only = λ id not. ap (by id) reads_so ∙ only_actor asker frame (log.Add word old addend) id (λ same. not (same ∙ named_so))
 
         add_some : 1 ≤ many (named life.id) (marks (stack_of (node_at cluster node_number) (own node_number earlier)))
-        add_some = one_more life.id (same_self life.id) (many (named life.id) (marks below)) (many (named life.id) (marks (stack_of (node_at cluster node_number) (own node_number earlier)))) fewer_marks
+        add_some = one_more life.id (same_self life.id) (many (named life.id) (marks below))
+            (many (named life.id) (marks (stack_of (node_at cluster node_number) (own node_number earlier)))) fewer_marks
 
         add_stack : Stacked cluster program stands trace (suc position) (moving ∷ earlier) [] (added old (life ∷ below))
         add_stack = (
@@ -349,7 +367,8 @@ module _ (cluster : Cluster) (turns : List WholeTurn) (lawful : IsLawful cluster
           let led = quiet_led served found free in
           let first = top served found frame life may.add.acts in
           let all : Stacked cluster program stands trace position earlier [] (life ∷ first.0) =
-          subst (Stacked cluster program stands trace position earlier []) first.1 (live_here cluster program stands trace position earlier (stepped served found).0 number (less served found) it led) in
+          subst (Stacked cluster program stands trace position earlier []) first.1
+          (live_here cluster program stands trace position earlier (stepped served found).0 number (less served found) it led) in
           let reads : item_of cluster number past (item.Served frame index word old addend) ≡ log.Acts number frame (log.Add word old addend) =
           ap (λ adds. log.Acts (served_for number adds) frame (log.Add word old addend)) free.none_owed in
           let marks_less = fewer served found life first.0 first.1 in
@@ -360,11 +379,13 @@ module _ (cluster : Cluster) (turns : List WholeTurn) (lawful : IsLawful cluster
             answers,
             item_next cluster turns lawful program stands position moving found answers number within life.id
                 (add_only number within reads number within life first.0 may.add.acts.named all may.add.wanted marks_less)
-                (add_some number within reads number within life first.0 may.add.acts.named all may.add.wanted marks_less) (added old (live frames.stack)) (frames_now served found ∙ now)
+                (add_some number within reads number within life first.0 may.add.acts.named all may.add.wanted marks_less) (added old (live frames.stack))
+                (frames_now served found ∙ now)
                 (lead_none_stack position moving (ahead number (moving ∷ earlier)) (added old (live frames.stack))
                 (ap (λ adds. ahead_adding number old adds (ahead number earlier)) free.none_owed ∙ led)
                 (subst (λ list. Stacked cluster program stands trace (suc position) (moving ∷ earlier) [] (added old list)) (sym first.1) stack))
-                (λ other apart. ap (λ adds. ahead_adding other old adds (ahead other earlier)) free.none_owed) (frames_there served found) (λ message is. absurd (cc)) it,
+                (λ other apart. ap (λ adds. ahead_adding other old adds (ahead other earlier)) free.none_owed) (frames_there served found)
+                (λ message is. absurd (cc)) it,
           )
 
       -- that of another node, which the home owes
@@ -377,18 +398,21 @@ module _ (cluster : Cluster) (turns : List WholeTurn) (lawful : IsLawful cluster
           let there = frames_of (node_at cluster sender) (own sender earlier) in
           let before_it : Stacked cluster program stands trace position earlier [] (lead None there.stack) =
           subst (λ one. Stacked cluster program stands trace position earlier [] (lead one there.stack)) facts.1 (it.nodes sender facts.0).stack in
-          let all : Stacked cluster program stands trace position earlier [] (life ∷ below) = subst (Stacked cluster program stands trace position earlier []) facts.4 before_it in
+          let all : Stacked cluster program stands trace position earlier [] (life ∷ below) =
+          subst (Stacked cluster program stands trace position earlier []) facts.4 before_it in
           let reads : item_of cluster number past (item.Served frame index word old addend) ≡ log.Acts sender frame (log.Add word old addend) =
           ap (λ adds. log.Acts (served_for number adds) frame (log.Add word old addend)) serves.oldest in
           let marks_less : many (named life.id) (marks (life ∷ below)) ≤ many (named life.id) (marks there.stack) =
-          subst (λ list. many (named life.id) (marks list) ≤ many (named life.id) (marks there.stack)) facts.4 (no_more (many (named life.id) (marks there.stack))) in
+          subst (λ list. many (named life.id) (marks list) ≤ many (named life.id) (marks there.stack)) facts.4
+          (no_more (many (named life.id) (marks there.stack))) in
           let stack = add_stack sender facts.0 reads sender facts.0 life below (sym facts.5) all facts.6 marks_less in
           let answers = add_answers sender facts.0 reads sender facts.0 life below (sym facts.5) all facts.6 marks_less in
           let now : frames_on node served past frames ≡ frames = rw serves.oldest refl in
           let stays : (other : ℕ) → frames_of (node_at cluster other) (own other (moving ∷ earlier)) ≡ frames_of (node_at cluster other) (own other earlier) =
           λ other. frames_stay served found now other (one_or_two other number) in
           let told : ahead sender (moving ∷ earlier) ≡ Some old =
-          ap (λ adds. ahead_adding sender old adds (ahead sender earlier)) serves.oldest ∙ ap (λ b. cond b (Some old) (ahead sender earlier)) (own_number sender) in (
+          ap (λ adds. ahead_adding sender old adds (ahead sender earlier)) serves.oldest
+          ∙ ap (λ b. cond b (Some old) (ahead sender earlier)) (own_number sender) in (
             answers,
             item_next cluster turns lawful program stands position moving found answers sender facts.0 life.id
                 (add_only sender facts.0 reads sender facts.0 life below (sym facts.5) all facts.6 marks_less)
@@ -396,7 +420,8 @@ module _ (cluster : Cluster) (turns : List WholeTurn) (lawful : IsLawful cluster
                 (subst (λ one. Stacked cluster program stands trace (suc position) (moving ∷ earlier) [] (lead one there.stack)) (sym told)
                 (subst (λ list. Stacked cluster program stands trace (suc position) (moving ∷ earlier) [] (added old list)) (sym facts.4) stack))
                 (λ other apart. ap (λ adds. ahead_adding other old adds (ahead other earlier)) serves.oldest
-                ∙ ap (λ b. cond b (Some old) (ahead other earlier)) (other_number sender other (λ same. apart (sym same)))) (λ other apart. stays other) (λ message is. absurd (cc)) it,
+                ∙ ap (λ b. cond b (Some old) (ahead other earlier)) (other_number sender other (λ same. apart (sym same)))) (λ other apart. stays other)
+                (λ message is. absurd (cc)) it,
           )
 
     -- ---- all items
@@ -408,22 +433,27 @@ module _ (cluster : Cluster) (turns : List WholeTurn) (lawful : IsLawful cluster
     did_next asked answered_before (item.Tick frame) found rest posts (inl owed) it = absurd owed
     did_next asked answered_before (item.Tick frame) found rest posts (inr both) it = own_tick frame found both.0 both.1 it
     did_next asked answered_before (item.Drop page) found rest posts may it =
-        nobody (Did (item.Drop page)) found (quiet_by (Did (item.Drop page)) found (no_drop number page)) (it.nodes number (less (Did (item.Drop page)) found)) (λ other apart. refl) (λ message is. absurd (cc)) it
+        nobody (Did (item.Drop page)) found (quiet_by (Did (item.Drop page)) found (no_drop number page)) (it.nodes number (less (Did (item.Drop page)) found))
+        (λ other apart. refl) (λ message is. absurd (cc)) it
     did_next asked answered_before (item.TakeUp frame) found rest posts (inl owed) it = absurd owed
     did_next asked answered_before (item.TakeUp frame) found rest posts (inr both) it =
         let event : Event = Did (item.TakeUp frame) in
         nobody event found (quiet_by event found (no_take number frame))
-        (taken_node cluster program stands trace position earlier (stepped event found).0 number (less event found) it (quiet_led event found both.0)) (λ other apart. refl) (λ message is. absurd (cc)) it
+        (taken_node cluster program stands trace position earlier (stepped event found).0 number (less event found) it (quiet_led event found both.0))
+        (λ other apart. refl) (λ message is. absurd (cc)) it
     did_next asked answered_before (item.OwnFetch page words) found rest posts (inl owed) it = absurd owed
     did_next asked answered_before (item.OwnFetch page words) found rest posts (inr both) it =
         let event : Event = Did (item.OwnFetch page words) in
         nobody event found (quiet_by event found (no_fetch number page (words_of cluster words)))
-        (live_node cluster program stands trace position earlier (stepped event found).0 number (less event found) it (quiet_led event found both.0)) (λ other apart. refl) (λ message is. absurd (cc)) it
+        (live_node cluster program stands trace position earlier (stepped event found).0 number (less event found) it (quiet_led event found both.0))
+        (λ other apart. refl) (λ message is. absurd (cc)) it
     did_next asked answered_before (item.OwnReconcile part) found rest posts may it =
         nobody (Did (item.OwnReconcile part)) found (quiet_by (Did (item.OwnReconcile part)) found (no_reconcile number (part_of cluster part)))
         (it.nodes number (less (Did (item.OwnReconcile part)) found)) (λ other apart. refl) (λ message is. absurd (cc)) it
-    did_next asked answered_before (item.Served frame index word old addend) found rest posts (inl serves) it = other_add frame index word old addend found asked serves it
-    did_next asked answered_before (item.Served frame index word old addend) found rest posts (inr both) it = own_add frame index word old addend found both.0 both.1 it
+    did_next asked answered_before (item.Served frame index word old addend) found rest posts (inl serves) it =
+        other_add frame index word old addend found asked serves it
+    did_next asked answered_before (item.Served frame index word old addend) found rest posts (inr both) it =
+        own_add frame index word old addend found both.0 both.1 it
 
     -- ---- posts
 
@@ -437,12 +467,17 @@ module _ (cluster : Cluster) (turns : List WholeTurn) (lawful : IsLawful cluster
       same_message : (first other : Msg) → Sent first ≡ Sent other → first ≡ other
       same_message first other same = cc
 
-      sent_so : (said : Body) → message.body ≡ said → Keeps said → BodyAccount cluster program stands trace position earlier said → Says cluster program stands trace position earlier said
+      sent_so : (said : Body) → message.body ≡ said → Keeps said → BodyAccount cluster program stands trace position earlier said
+          → Says cluster program stands trace position earlier said
           → Result sending
       sent_so said is keeps account says =
-          nobody sending found (quiet_by sending found (no_post number message.receiver (note_of cluster number earlier message.body))) (subst Keeps (sym is) keeps) (λ other apart. refl)
-          (λ other same. subst (λ (it : Msg). BodyAccount cluster program stands trace position earlier it.body × Says cluster program stands trace position earlier it.body)
-          (same_message message other same) (subst (BodyAccount cluster program stands trace position earlier) (sym is) account, subst (Says cluster program stands trace position earlier) (sym is) says)) it
+          nobody sending found (quiet_by sending found (no_post number message.receiver (note_of cluster number earlier message.body)))
+          (subst Keeps (sym is) keeps) (λ other apart. refl)
+          (λ other same. subst (λ (it : Msg). BodyAccount cluster program stands trace position earlier it.body
+          × Says cluster program stands trace position earlier it.body)
+          (same_message message other same)
+          (subst (BodyAccount cluster program stands trace position earlier) (sym is) account, subst (Says cluster program stands trace position earlier)
+          (sym is) says)) it
 
       abbrev before_so : Stepped cluster earlier
       before_so = (stepped sending found).0
@@ -453,14 +488,16 @@ module _ (cluster : Cluster) (turns : List WholeTurn) (lawful : IsLawful cluster
       abbrev same_here : NodeAccounts cluster program stands trace position earlier (ahead number earlier) frames
       same_here = it.nodes number within_so
 
-      told_other : (join : JoinId) (index : ℕ) (value : ℤ) (join' : JoinId) (index' : ℕ) (value' : ℤ) → body.Done join index value ≡ body.Done join' index' value'
+      told_other : (join : JoinId) (index : ℕ) (value : ℤ) (join' : JoinId) (index' : ℕ) (value' : ℤ)
+          → body.Done join index value ≡ body.Done join' index' value'
           → Tells cluster program stands trace position earlier join index value → Tells cluster program stands trace position earlier join' index' value'
       told_other join index value join' index' value' same tells =
           let joins : join ≡ join' = cc in
           let places : index ≡ index' = cc in
           let values : value ≡ value' = cc in
           subst (λ it. Tells cluster program stands trace position earlier it index' value') joins
-          (subst (λ it. Tells cluster program stands trace position earlier join it value') places (subst (Tells cluster program stands trace position earlier join index) values tells))
+          (subst (λ it. Tells cluster program stands trace position earlier join it value') places
+          (subst (Tells cluster program stands trace position earlier join index) values tells))
 
       done_told : (join : JoinId) (index : ℕ) (value : ℤ) → Tells cluster program stands trace position earlier join index value
           → Says cluster program stands trace position earlier (body.Done join index value)
@@ -470,7 +507,8 @@ module _ (cluster : Cluster) (turns : List WholeTurn) (lawful : IsLawful cluster
       sent_next (body.Fetch page) is (inl reply) = absurd (cc)
       sent_next (body.Fetch page) is (inr may) =
           sent_so (body.Fetch page) is
-          (live_node cluster program stands trace position earlier before_so number within_so it (quiet_none cluster earlier before_so number within_so may.quiet)) tt (λ join' index' value' same. absurd (cc))
+          (live_node cluster program stands trace position earlier before_so number within_so it
+          (quiet_none cluster earlier before_so number within_so may.quiet)) tt (λ join' index' value' same. absurd (cc))
       sent_next (body.Page page words) is may = sent_so (body.Page page words) is same_here tt (λ join' index' value' same. absurd (cc))
       sent_next (body.Reconcile parts) is may = sent_so (body.Reconcile parts) is same_here tt (λ join' index' value' same. absurd (cc))
       sent_next body.Ack is may = sent_so body.Ack is same_here tt (λ join' index' value' same. absurd (cc))
@@ -489,11 +527,13 @@ module _ (cluster : Cluster) (turns : List WholeTurn) (lawful : IsLawful cluster
       sent_next (body.Park join closure) is (inl reply) = absurd (cc)
       sent_next (body.Park join closure) is (inr may) =
           sent_so (body.Park join closure) is (empty_node cluster program stands trace position earlier before_so number within_so it)
-          (park_closure cluster program stands trace position earlier before_so number within_so it message.receiver join closure may) (λ join' index' value' same. absurd (cc))
+          (park_closure cluster program stands trace position earlier before_so number within_so it message.receiver join closure may)
+          (λ join' index' value' same. absurd (cc))
       sent_next (body.Add frame index word addend) is (inl reply) = absurd (cc)
       sent_next (body.Add frame index word addend) is (inr may) =
           sent_so (body.Add frame index word addend) is
-          (live_node cluster program stands trace position earlier before_so number within_so it (quiet_none cluster earlier before_so number within_so may.quiet)) tt (λ join' index' value' same. absurd (cc))
+          (live_node cluster program stands trace position earlier before_so number within_so it
+          (quiet_none cluster earlier before_so number within_so may.quiet)) tt (λ join' index' value' same. absurd (cc))
       sent_next (body.Added old) is may = sent_so (body.Added old) is same_here tt (λ join' index' value' same. absurd (cc))
 
     -- ---- takings
@@ -503,22 +543,27 @@ module _ (cluster : Cluster) (turns : List WholeTurn) (lawful : IsLawful cluster
       taking = Took message
 
       took_so : (said : Body) → message.body ≡ said
-          → NodeAccounts cluster program stands trace position earlier (cond (eqb number number) (ahead_taking said (ahead number earlier)) (ahead number earlier))
+          → NodeAccounts cluster program stands trace position earlier
+          (cond (eqb number number) (ahead_taking said (ahead number earlier)) (ahead number earlier))
           (frames_took node said (Took message ∷ past) frames)
           → Result taking
       took_so said is keeps =
           nobody taking found (quiet_by taking found (no_took number (taken_from earlier here)))
-          (subst (λ said. NodeAccounts cluster program stands trace position earlier (cond (eqb number number) (ahead_taking said (ahead number earlier)) (ahead number earlier))
+          (subst (λ said. NodeAccounts cluster program stands trace position earlier
+          (cond (eqb number number) (ahead_taking said (ahead number earlier)) (ahead number earlier))
           (frames_took node said (Took message ∷ past) frames)) (sym is) keeps)
-          (λ other apart. ap (λ b. cond b (ahead_taking message.body (ahead other earlier)) (ahead other earlier)) (other_number number other (λ same. apart (sym same))))
+          (λ other apart. ap (λ b. cond b (ahead_taking message.body (ahead other earlier)) (ahead other earlier))
+          (other_number number other (λ same. apart (sym same))))
           (λ other same. absurd (cc)) it
 
-      took_plain : (said : Body) → message.body ≡ said → ahead_taking said (ahead number earlier) ≡ ahead number earlier → ((old : ℤ) → said ≡ body.Added old → ⊥) → Result taking
+      took_plain : (said : Body) → message.body ≡ said → ahead_taking said (ahead number earlier) ≡ ahead number earlier
+          → ((old : ℤ) → said ≡ body.Added old → ⊥) → Result taking
       took_plain said is same not =
           took_so said is
           (subst (λ led. NodeAccounts cluster program stands trace position earlier led (frames_took node said (Took message ∷ past) frames))
           (sym (cond_same (eqb number number) (ahead_taking said (ahead number earlier)) (ahead number earlier) same))
-          (took_node cluster program stands trace position earlier (stepped taking found).0 number (less taking found) it here message (stepped taking found).1.carries said is not))
+          (took_node cluster program stands trace position earlier (stepped taking found).0 number (less taking found) it here message
+          (stepped taking found).1.carries said is not))
 
       took_next : OldComes → (said : Body) → message.body ≡ said → Result taking
       took_next comes (body.Fetch page) is = took_plain (body.Fetch page) is refl (λ old same. absurd (cc))
@@ -533,8 +578,10 @@ module _ (cluster : Cluster) (turns : List WholeTurn) (lawful : IsLawful cluster
       took_next comes (body.Add frame index word addend) is = took_plain (body.Add frame index word addend) is refl (λ old same. absurd (cc))
       took_next comes (body.Added old) is =
           took_so (body.Added old) is
-          (subst (λ b. NodeAccounts cluster program stands trace position earlier (cond b None (ahead number earlier)) (record frames { stack = added old frames.stack })) (sym (own_number number))
-          (added_node cluster program stands trace position earlier (stepped taking found).0 number (less taking found) it here message (stepped taking found).1.carries old
+          (subst (λ b. NodeAccounts cluster program stands trace position earlier (cond b None (ahead number earlier))
+          (record frames { stack = added old frames.stack })) (sym (own_number number))
+          (added_node cluster program stands trace position earlier (stepped taking found).0 number (less taking found) it here message
+          (stepped taking found).1.carries old
           (comes position number here message old found is)))
 
     -- ---- each event
@@ -546,4 +593,5 @@ module _ (cluster : Cluster) (turns : List WholeTurn) (lawful : IsLawful cluster
         sent_next message found it message.body refl (may_post node past message (stepped (Sent message) found).1.allowed)
     event_next comes asked answered_before (Took message) found it = took_next message found it comes message.body refl
     event_next comes asked answered_before (Ended end) found it =
-        nobody (Ended end) found (quiet_by (Ended end) found (no_end number)) (it.nodes number (less (Ended end) found)) (λ other apart. refl) (λ message is. absurd (cc)) it
+        nobody (Ended end) found (quiet_by (Ended end) found (no_end number)) (it.nodes number (less (Ended end) found)) (λ other apart. refl)
+        (λ message is. absurd (cc)) it

@@ -79,7 +79,8 @@ module _ (cluster : Cluster) (program : Program) (stands : StandsFor cluster.cod
 
   -- ---- at a Grant
 
-  aligned_one : (id : FrameId) (away : List Child) (gone : List FrameId) (entry : Child) (child : FrameId) → Born id entry.index child course → entry.target ≡ trace.target child
+  aligned_one : (id : FrameId) (away : List Child) (gone : List FrameId) (entry : Child) (child : FrameId) → Born id entry.index child course
+      → entry.target ≡ trace.target child
       → Aligned cluster program stands trace course id away gone → Aligned cluster program stands trace course id (away ++ entry ∷ []) (gone ++ child ∷ [])
   aligned_one id [] [] entry child born aims aligned = (born, aims, tt)
   aligned_one id [] (other ∷ gone) entry child born aims aligned = absurd aligned
@@ -90,7 +91,8 @@ module _ (cluster : Cluster) (program : Program) (stands : StandsFor cluster.cod
   joins_none node past None none = absurd (cc)
   joins_none node past (Some join) none = absurd (cc)
 
-  pub separated : (node : Node) (past : Past) (child parent : Life) → Born parent.id child.spawned.index child.id course → child.spawned.target ≡ trace.target child.id
+  pub separated : (node : Node) (past : Past) (child parent : Life) → Born parent.id child.spawned.index child.id course
+      → child.spawned.target ≡ trace.target child.id
       → Has parent (child.id ∷ []) → Has (parted node past child parent) []
   separated node past child parent born aims it = record {
     gone = it.gone ++ child.id ∷ [];
@@ -103,7 +105,8 @@ module _ (cluster : Cluster) (program : Program) (stands : StandsFor cluster.cod
   relinked : (child : Life) (link : Link) (above : List FrameId) → Has child above → Has (record child { link = link }) above
   relinked child link above it = record { gone = it.gone; aligned = it.aligned; none_away = it.none_away; depth = it.depth; account = it.account }
 
-  aims_bottom : (life : Life) (above : List Life) (child parent : Life) (link : Link) → Aims cluster program stands trace life (above ++ (child ∷ (parent ∷ [])))
+  aims_bottom : (life : Life) (above : List Life) (child parent : Life) (link : Link)
+      → Aims cluster program stands trace life (above ++ (child ∷ (parent ∷ [])))
       → Aims cluster program stands trace life (above ++ (record child { link = link } ∷ []))
   aims_bottom life [] child parent link aims = aims
   aims_bottom life (second ∷ above) child parent link aims = aims
@@ -136,7 +139,8 @@ module _ (cluster : Cluster) (program : Program) (stands : StandsFor cluster.cod
     given_from {B} by (first ∷ events) any = on (by first) refl any (given_from by events)
       where
         on : (found : Option B) → by first ≡ found → is_some found || list_any (λ event. is_some (by event)) events ≡ true
-            → (list_any (λ event. is_some (by event)) events ≡ true → (event : Event) × (value : B) × Among event events × (by event ≡ Some value) × (given by events ≡ Some value))
+            → (list_any (λ event. is_some (by event)) events ≡ true
+            → (event : Event) × (value : B) × Among event events × (by event ≡ Some value) × (given by events ≡ Some value))
             → (event : Event) × (value : B) × Among event (first ∷ events) × (by event ≡ Some value) × (given by (first ∷ events) ≡ Some value)
         on (Some value) is any rest = (first, value, inl refl, is, rw is refl)
         on None is any rest =
@@ -145,17 +149,20 @@ module _ (cluster : Cluster) (program : Program) (stands : StandsFor cluster.cod
     done_value : (join : JoinId) (index : ℕ) (event : Event) (value : ℤ) → done_by join index event ≡ Some value → Among event past → Tells join index value
     done_value join index event value is among =
         let done = done_event join index event (ap is_some is) in
-        let told : Some done.1 ≡ Some value = sym (done_self join index done.1) ∙ ap (done_in join index) (sym done.3) ∙ ap (done_by join index) (sym done.2) ∙ is in
+        let told : Some done.1 ≡ Some value = sym (done_self join index done.1) ∙ ap (done_in join index) (sym done.3) ∙ ap (done_by join index) (sym done.2)
+        ∙ is in
         let same : done.1 ≡ value = cc in
         took done.0 (subst (λ it. Among it past) done.2 among) join index value (done.3 ∙ ap (body.Done join index) same)
 
     one_named : (join : JoinId) (one other : FrameId) → Named join one course → Named join other course → one ≡ other
     one_named join one other first second = let both : Some one ≡ Some other = sym first ∙ second in cc
 
-    gift_is : (child : FrameId) (target : Option ℕ) (value : ℤ) → target ≡ trace.target child → want_at (starts cluster.code) trace at child ≡ Some (Returns value)
+    gift_is : (child : FrameId) (target : Option ℕ) (value : ℤ) → target ≡ trace.target child
+        → want_at (starts cluster.code) trace at child ≡ Some (Returns value)
         → ◌≡◌ {A = Deposit} (target, value) (gift cluster program stands trace at child)
     gift_is child target value aims returns =
-        let told : replies.value_in (want_at (starts cluster.code) trace at child) ≡ value = ap replies.value_in returns ∙ gives cluster program stands trace value in
+        let told : replies.value_in (want_at (starts cluster.code) trace at child) ≡ value = ap replies.value_in returns
+        ∙ gives cluster program stands trace value in
         cc
 
     pub gave : (join : JoinId) (id : FrameId) (away : List Child) (gone : List FrameId) → Named join id course → list_all (is_done join past) away ≡ true
@@ -170,8 +177,10 @@ module _ (cluster : Cluster) (program : Program) (stands : StandsFor cluster.cod
         let it = given_from (done_by join entry.index) past both.0 in
         let tells = done_value join entry.index it.0 it.1 it.3 it.2 in
         let parent = one_named join tells.parent id tells.named named in
-        let same : tells.child ≡ child = once id entry.index tells.child child (subst (λ frame. Born frame entry.index tells.child course) parent tells.born) aligned.0 in
-        let returns : want_at (starts cluster.code) trace at child ≡ Some (Returns it.1) = ap (want_at (starts cluster.code) trace at) (sym same) ∙ tells.returns in (
+        let same : tells.child ≡ child = once id entry.index tells.child child
+        (subst (λ frame. Born frame entry.index tells.child course) parent tells.born) aligned.0 in
+        let returns : want_at (starts cluster.code) trace at child ≡ Some (Returns it.1) = ap (want_at (starts cluster.code) trace at) (sym same)
+        ∙ tells.returns in (
           ap (λ found. deposit_of entry found ++ done_deposits join away past) it.4
               ∙ ap (λ one. one ∷ done_deposits join away past) (gift_is child entry.target it.1 aligned.1 returns)
               ∙ ap (λ more. gift cluster program stands trace at child ∷ more) rest.0,
@@ -188,7 +197,8 @@ module _ (cluster : Cluster) (program : Program) (stands : StandsFor cluster.cod
           aligned = tt;
           none_away = λ none. refl;
           depth = it.depth;
-          account = subst (λ kept. Account cluster program stands trace at first.closure.id (wants cluster.code first.closure.frame.frame) kept [] []) (sym gifted.0)
+          account =
+              subst (λ kept. Account cluster program stands trace at first.closure.id (wants cluster.code first.closure.frame.frame) kept [] []) (sym gifted.0)
               (account_joined cluster program stands trace at first.closure.id (wants cluster.code first.closure.frame.frame) it.gone gifted.1 it.account);
         }
 
@@ -196,7 +206,8 @@ module _ (cluster : Cluster) (program : Program) (stands : StandsFor cluster.cod
     AllNamed [] = Unit {0}
     AllNamed (first ∷ parked) = Named first.join first.closure.id course × AllNamed parked
 
-    pub all_from : (number : ℕ) (parked : List Parked) → AllNamed parked → AllParked parked → AllLives (all_joined (node_at cluster number) past parked) × AllParked (still_parked past parked)
+    pub all_from : (number : ℕ) (parked : List Parked) → AllNamed parked → AllParked parked
+        → AllLives (all_joined (node_at cluster number) past parked) × AllParked (still_parked past parked)
     all_from number [] named all = (tt, tt)
     all_from number (first ∷ parked) named all = on (is_complete past first) refl (all_from number parked named.1 all.1)
       where

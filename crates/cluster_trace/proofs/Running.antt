@@ -33,7 +33,8 @@ module _ (frame : FrameId) where
   instance_else (Did (item.Act parent index (act.Read word value))) earlier not = refl
   instance_else (Did (item.Act parent index (act.Write word value))) earlier not = refl
   instance_else (Did (item.Act parent index (act.Print value))) earlier not = refl
-  instance_else (Did (item.Act parent index (act.Spawn child procedure arguments))) earlier not = if_other child (child_of procedure arguments (earlier parent)) (earlier frame) not
+  instance_else (Did (item.Act parent index (act.Spawn child procedure arguments))) earlier not =
+      if_other child (child_of procedure arguments (earlier parent)) (earlier frame) not
   instance_else (Did (item.Act parent index act.Sync)) earlier not = refl
   instance_else (Did (item.Tick other)) earlier not = refl
   instance_else (Did (item.Drop page)) earlier not = refl
@@ -45,7 +46,8 @@ module _ (frame : FrameId) where
   instance_else (Took message) earlier not = refl
   instance_else (Ended end) earlier not = refl
 
-  target_else : (event : Event) (wanted : Option ℕ) (earlier : FrameId → Option ℕ) → (Spawns frame event → ⊥) → target_on event wanted earlier frame ≡ earlier frame
+  target_else : (event : Event) (wanted : Option ℕ) (earlier : FrameId → Option ℕ) → (Spawns frame event → ⊥)
+      → target_on event wanted earlier frame ≡ earlier frame
   target_else (Did (item.Act parent index (act.Read word value))) wanted earlier not = refl
   target_else (Did (item.Act parent index (act.Write word value))) wanted earlier not = refl
   target_else (Did (item.Act parent index (act.Print value))) wanted earlier not = refl
@@ -64,7 +66,8 @@ module _ (frame : FrameId) where
 -- ---- the event that spawns it
 
 instance_new : (child parent : FrameId) (index procedure : ℕ) (arguments : List ℤ) (event : Event) (earlier : FrameId → Instance)
-    → event ≡ Did (item.Act parent index (act.Spawn child procedure arguments)) → instance_on event earlier child ≡ child_of procedure arguments (earlier parent)
+    → event ≡ Did (item.Act parent index (act.Spawn child procedure arguments))
+    → instance_on event earlier child ≡ child_of procedure arguments (earlier parent)
 instance_new child parent index procedure arguments event earlier is =
     ap (λ it. instance_on it earlier child) is ∙ ap (λ b. cond b (child_of procedure arguments (earlier parent)) (earlier child)) (same_self child)
 
@@ -87,7 +90,8 @@ pub instance_more : (cluster : Cluster) (frame : FrameId) (later base : Course) 
     → instance_of cluster (later ++ base) frame ≡ instance_of cluster base frame
 instance_more cluster frame [] base stepped made = refl
 instance_more cluster frame (moved ∷ later) base stepped made =
-    instance_else frame moved.event (instance_of cluster (later ++ base)) (λ spawns. spawned_new cluster (later ++ base) moved stepped frame spawns (made_more frame later base made))
+    instance_else frame moved.event (instance_of cluster (later ++ base))
+    (λ spawns. spawned_new cluster (later ++ base) moved stepped frame spawns (made_more frame later base made))
     ∙ instance_more cluster frame later base stepped.0 made
 
 pub target_more : (cluster : Cluster) (frame : FrameId) (later base : Course) → Stepped cluster (later ++ base) → WasMade frame base
@@ -102,7 +106,8 @@ target_more cluster frame (moved ∷ later) base stepped made =
 pub main_runs : (cluster : Cluster) (course : Course) → Stepped cluster course → instance_of cluster course main_id ≡ main_instance cluster
 main_runs cluster [] stepped = refl
 main_runs cluster (moved ∷ course) stepped =
-    instance_else main_id moved.event (instance_of cluster course) (λ spawns. spawned_new cluster course moved stepped main_id spawns (inl refl)) ∙ main_runs cluster course stepped.0
+    instance_else main_id moved.event (instance_of cluster course) (λ spawns. spawned_new cluster course moved stepped main_id spawns (inl refl))
+    ∙ main_runs cluster course stepped.0
 
 -- ---- at a position
 
@@ -134,7 +139,8 @@ module _ (cluster : Cluster) (turns : List WholeTurn) (lawful : IsLawful cluster
 
   -- A child runs what its Spawn says, one deeper than its parent.
   pub child_runs : (position node : ℕ) (frame child : FrameId) → events_of cluster course position ≡ log.Acts node frame (log.Spawn child)
-      → (it : BirthAt cluster turns lawful position node frame child) × (instance_of cluster course child ≡ child_of it.procedure it.arguments (instance_of cluster course frame))
+      → (it : BirthAt cluster turns lawful position node frame child)
+      × (instance_of cluster course child ≡ child_of it.procedure it.arguments (instance_of cluster course frame))
   child_runs position node frame child is =
       let it = birth_at cluster turns lawful position node frame child is in
       let spawns = birth_there cluster turns lawful position node frame child it in
@@ -162,7 +168,8 @@ module _ (cluster : Cluster) (turns : List WholeTurn) (lawful : IsLawful cluster
       ∙ ap (λ number. target_by (highest (node_at cluster number) (own number (before course position)))) it.node_is
 
   -- A child at the event that spawns it.
-  module _ (position : ℕ) (moved : Moved) (found : at course position ≡ Some moved) (frame : FrameId) (index : ℕ) (child : FrameId) (procedure : ℕ) (arguments : List ℤ)
+  module _ (position : ℕ) (moved : Moved) (found : at course position ≡ Some moved) (frame : FrameId) (index : ℕ) (child : FrameId) (procedure : ℕ)
+      (arguments : List ℤ)
       (is : moved.event ≡ Did (item.Act frame index (act.Spawn child procedure arguments))) where
     spawned_there : events_of cluster course position ≡ log.Acts moved.node frame (log.Spawn child)
     spawned_there = event_at cluster course position moved found ∙ ap (happens_to cluster (before course position) moved.node moved.message) is
@@ -177,5 +184,6 @@ module _ (cluster : Cluster) (turns : List WholeTurn) (lawful : IsLawful cluster
     pub child_aims : target_of cluster course child ≡ target_by (highest (node_at cluster moved.node) (own moved.node (before course position)))
     child_aims =
         target_then position moved found child (inr (inl (birth_spawns child frame index procedure arguments moved.event is)))
-        ∙ target_new child frame index procedure arguments moved.event (target_by (highest (node_at cluster moved.node) (own moved.node (before course position))))
+        ∙ target_new child frame index procedure arguments moved.event
+        (target_by (highest (node_at cluster moved.node) (own moved.node (before course position))))
         (target_of cluster (before course position)) is

@@ -46,7 +46,8 @@ pub sync_tells : (node : ℕ) (frame : FrameId) (given : List Deposit) → answe
 unfolding reply_to
 sync_tells node frame given = refl
 
-pub add_tells : (node : ℕ) (frame : FrameId) (word : ℕ) (old addend : ℤ) (given : List Deposit) → answer_of (reply_to (log.Acts node frame (log.Add word old addend)) given) ≡ Value old
+pub add_tells : (node : ℕ) (frame : FrameId) (word : ℕ) (old addend : ℤ) (given : List Deposit)
+    → answer_of (reply_to (log.Acts node frame (log.Add word old addend)) given) ≡ Value old
 unfolding reply_to
 add_tells node frame word old addend given = refl
 
@@ -62,15 +63,18 @@ pub sync_ends : (node : ℕ) (frame : FrameId) (kids : List FrameId) → childre
 unfolding children_after
 sync_ends node frame kids = refl
 
-pub add_leaves : (node : ℕ) (frame : FrameId) (word : ℕ) (old addend : ℤ) (kids : List FrameId) → children_after (log.Acts node frame (log.Add word old addend)) kids ≡ kids
+pub add_leaves : (node : ℕ) (frame : FrameId) (word : ℕ) (old addend : ℤ) (kids : List FrameId)
+    → children_after (log.Acts node frame (log.Add word old addend)) kids ≡ kids
 unfolding children_after
 add_leaves node frame word old addend kids = refl
 
-pub read_leaves : (node : ℕ) (frame : FrameId) (word : ℕ) (value : ℤ) (kids : List FrameId) → children_after (log.Acts node frame (log.Read word value)) kids ≡ kids
+pub read_leaves : (node : ℕ) (frame : FrameId) (word : ℕ) (value : ℤ) (kids : List FrameId)
+    → children_after (log.Acts node frame (log.Read word value)) kids ≡ kids
 unfolding children_after
 read_leaves node frame word value kids = refl
 
-pub write_leaves : (node : ℕ) (frame : FrameId) (word : ℕ) (value : ℤ) (kids : List FrameId) → children_after (log.Acts node frame (log.Write word value)) kids ≡ kids
+pub write_leaves : (node : ℕ) (frame : FrameId) (word : ℕ) (value : ℤ) (kids : List FrameId)
+    → children_after (log.Acts node frame (log.Write word value)) kids ≡ kids
 unfolding children_after
 write_leaves node frame word value kids = refl
 
@@ -98,7 +102,8 @@ module _ (cluster : Cluster) (program : Program) (stands : StandsFor cluster.cod
   one_back at (first ∷ kids) all child (inr on_it) = one_back at kids (All-tail (Back at) first kids all) child on_it
 
   -- Where no child of its block is out, each has returned.
-  pub account_settled : (at : ℕ) (id : FrameId) (goes : Meaning) (kept : List Deposit) → Account cluster program stands trace at id goes kept [] [] → (child : FrameId)
+  pub account_settled : (at : ℕ) (id : FrameId) (goes : Meaning) (kept : List Deposit) → Account cluster program stands trace at id goes kept [] []
+      → (child : FrameId)
       → IsOn child (children trace.events at id) → Returned cluster program stands trace at child
   account_settled at id goes kept it child on_it =
       let same = subst (λ list. IsPermutation list (children trace.events at id)) (append-nil (it.inside ++ it.giving)) it.all in

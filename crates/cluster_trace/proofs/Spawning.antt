@@ -61,7 +61,8 @@ births frame (Sent message) spawns = absurd spawns
 births frame (Took message) spawns = absurd spawns
 births frame (Ended end) spawns = absurd spawns
 
-pub birth_spawns : (frame parent : FrameId) (index procedure : ℕ) (arguments : List ℤ) (event : Event) → event ≡ Did (item.Act parent index (act.Spawn frame procedure arguments))
+pub birth_spawns : (frame parent : FrameId) (index procedure : ℕ) (arguments : List ℤ) (event : Event)
+    → event ≡ Did (item.Act parent index (act.Spawn frame procedure arguments))
     → Spawns frame event
 birth_spawns frame parent index procedure arguments event is = subst (Spawns frame) (sym is) refl
 
@@ -85,11 +86,13 @@ spawned_at frame (moved ∷ course) (inr was) =
 
 -- ---- by events
 
-act_spawn : (child : FrameId) (done : LoggedAct) → act_of done ≡ log.Spawn child → (procedure : ℕ) × (arguments : List ℤ) × (done ≡ act.Spawn child procedure arguments)
+act_spawn : (child : FrameId) (done : LoggedAct) → act_of done ≡ log.Spawn child
+    → (procedure : ℕ) × (arguments : List ℤ) × (done ≡ act.Spawn child procedure arguments)
 act_spawn child (act.Read word value) is = absurd (cc)
 act_spawn child (act.Write word value) is = absurd (cc)
 act_spawn child (act.Print value) is = absurd (cc)
-act_spawn child (act.Spawn other procedure arguments) is = let same : other ≡ child = cc in (procedure, arguments, ap (λ it. act.Spawn it procedure arguments) same)
+act_spawn child (act.Spawn other procedure arguments) is =
+    let same : other ≡ child = cc in (procedure, arguments, ap (λ it. act.Spawn it procedure arguments) same)
 act_spawn child act.Sync is = absurd (cc)
 
 module _ (cluster : Cluster) (turns : List WholeTurn) (lawful : IsLawful cluster turns) where
@@ -118,7 +121,8 @@ module _ (cluster : Cluster) (turns : List WholeTurn) (lawful : IsLawful cluster
   pub birth_at : (position node : ℕ) (frame child : FrameId) → events position ≡ log.Acts node frame (log.Spawn child) → BirthAt position node frame child
   birth_at position node frame child is = on (acted_is cluster course position node frame (log.Spawn child) is)
     where
-      on : Acted cluster course position node frame (log.Spawn child) ⊎ Served cluster course position node frame (log.Spawn child) → BirthAt position node frame child
+      on : Acted cluster course position node frame (log.Spawn child) ⊎ Served cluster course position node frame (log.Spawn child)
+          → BirthAt position node frame child
       on (inr it) = let not = it.act_is in absurd (cc)
       on (inl it) =
           let done = act_spawn child it.act it.act_is in
@@ -138,7 +142,8 @@ module _ (cluster : Cluster) (turns : List WholeTurn) (lawful : IsLawful cluster
   -- ---- what was made
 
   -- the frame of an act or a served add was made before
-  claimer_made : (number position : ℕ) (frame : FrameId) (index : ℕ) (done : Item) → Happens course number position (Did done) → Claims frame index done → WasMade frame (before course position)
+  claimer_made : (number position : ℕ) (frame : FrameId) (index : ℕ) (done : Item) → Happens course number position (Did done) → Claims frame index done
+      → WasMade frame (before course position)
   claimer_made number position frame index done happens claims =
       claims_made cluster (before course position) happens.moved (step_then position happens.moved happens.is) done happens.event_is frame index claims
 
@@ -153,7 +158,8 @@ module _ (cluster : Cluster) (turns : List WholeTurn) (lawful : IsLawful cluster
   ticker_made position node frame is =
       let happens = ticked_is cluster course position node frame is in
       let may = (tick_allowed cluster turns lawful node position frame happens).1 in
-      let less : node < cluster.config.nodes = subst (λ it. it < cluster.config.nodes) happens.by (step_at cluster course all_stepped position happens.moved happens.is).within in
+      let less : node < cluster.config.nodes = subst (λ it. it < cluster.config.nodes) happens.by
+      (step_at cluster course all_stepped position happens.moved happens.is).within in
       held_made cluster (before course position) (stepped_before cluster course all_stepped position) frame
       (actor_held cluster (before course position) node frame may.life less may.acts)
 
@@ -176,7 +182,8 @@ module _ (cluster : Cluster) (turns : List WholeTurn) (lawful : IsLawful cluster
       })
 
   -- so it is at an event
-  pub made_born : (position : ℕ) (moved : Moved) → at course position ≡ Some moved → (frame : FrameId) → WasMade frame (before course position) → Born events position frame
+  pub made_born : (position : ℕ) (moved : Moved) → at course position ≡ Some moved → (frame : FrameId) → WasMade frame (before course position)
+      → Born events position frame
   made_born position moved found frame made = made_first position frame (subst (WasMade frame) (sym (first_at position course moved found)) made)
 
   -- ---- what executions keep of births
@@ -186,7 +193,8 @@ module _ (cluster : Cluster) (turns : List WholeTurn) (lawful : IsLawful cluster
   fresh_spawn position again node other frame second child is is' =
       let one = birth_at position node frame child is in
       let two = birth_at again other second child is' in
-      spawned_once cluster course all_stepped child position again one.moved two.moved one.found two.found (birth_there position node frame child one) (birth_there again other second child two)
+      spawned_once cluster course all_stepped child position again one.moved two.moved one.found two.found (birth_there position node frame child one)
+      (birth_there again other second child two)
 
   pub never_main : (position node : ℕ) (frame child : FrameId) → events position ≡ log.Acts node frame (log.Spawn child) → child ≢ log.main_id
   never_main position node frame child is main =
@@ -198,7 +206,8 @@ module _ (cluster : Cluster) (turns : List WholeTurn) (lawful : IsLawful cluster
   made_there position frame log.Nothing is acts = absurd (cc)
   made_there position frame (log.Acts node actor done) is acts =
       subst (λ it. WasMade it (before course position)) (same_name actor frame acts) (actor_made position node actor done is)
-  made_there position frame (log.Tick node actor) is acts = subst (λ it. WasMade it (before course position)) (same_name actor frame acts) (ticker_made position node actor is)
+  made_there position frame (log.Tick node actor) is acts =
+      subst (λ it. WasMade it (before course position)) (same_name actor frame acts) (ticker_made position node actor is)
   made_there position frame (log.Drop node page) is acts = absurd (cc)
   made_there position frame (log.TakeUp node taken) is acts = absurd (cc)
   made_there position frame (log.OwnFetch node page words) is acts = absurd (cc)

@@ -41,7 +41,8 @@ module _ (cluster : Cluster) (program : Program) (stands : StandsFor cluster.cod
   Stacked at course above (life ∷ below) = LifeAccount at course life above × Aims life below × Stacked at course (life.id ∷ []) below
 
   -- what it wants is what its instance does
-  pub account_wants : (at : ℕ) (course : Course) (life : Life) (above : List FrameId) → LifeAccount at course life above → want_at (starts cluster.code) trace at life.id ≡ now life.goes
+  pub account_wants : (at : ℕ) (course : Course) (life : Life) (above : List FrameId) → LifeAccount at course life above
+      → want_at (starts cluster.code) trace at life.id ≡ now life.goes
   account_wants at course life above it = ap first_of (sym (it.account.goes_is []))
 
   pub value_returns : (wanted : Option Want) (value : ℤ) → value_in wanted ≡ Some value → wanted ≡ Some (Returns value)
@@ -55,7 +56,8 @@ module _ (cluster : Cluster) (program : Program) (stands : StandsFor cluster.cod
     Nothing : FromAbove at [] []
     Gives : (child : FrameId) → Returned cluster program stands trace at child → FromAbove at (child ∷ []) (gift cluster program stands trace at child ∷ [])
 
-  kept_account : (at : ℕ) (course : Course) (life : Life) (above : List FrameId) (deposits : List Deposit) → FromAbove at above deposits → LifeAccount at course life above
+  kept_account : (at : ℕ) (course : Course) (life : Life) (above : List FrameId) (deposits : List Deposit) → FromAbove at above deposits
+      → LifeAccount at course life above
       → LifeAccount at course (with_kept deposits life) []
   kept_account at course life _ _ Nothing it = record {
     gone = it.gone;
@@ -80,27 +82,34 @@ module _ (cluster : Cluster) (program : Program) (stands : StandsFor cluster.cod
   unfolding replies.value_in
   gives value = refl
 
-  same_deposit : (target : FrameId → Option ℕ) (id : FrameId) (other : Option ℕ) (value found : ℤ) → found ≡ value → other ≡ target id → ◌≡◌ {A = Deposit} (target id, found) (other, value)
+  same_deposit : (target : FrameId → Option ℕ) (id : FrameId) (other : Option ℕ) (value found : ℤ) → found ≡ value → other ≡ target id
+      → ◌≡◌ {A = Deposit} (target id, found) (other, value)
   same_deposit target id other value found told aims = cc
 
-  live_next : (at : ℕ) (course : Course) (above : List FrameId) (deposits : List Deposit) (life : Life) (below : List Life) (value : Option ℤ) → returned life ≡ value → FromAbove at above deposits
+  live_next : (at : ℕ) (course : Course) (above : List FrameId) (deposits : List Deposit) (life : Life) (below : List Life) (value : Option ℤ)
+      → returned life ≡ value → FromAbove at above deposits
       → Stacked at course above (life ∷ below)
       → ((given : List Deposit) → FromAbove at (life.id ∷ []) given → Stacked at course [] (live_from given below))
       → Stacked at course [] (elim value [ None ↦ with_kept deposits life ∷ below | Some it ↦ live_from ((life.spawned.target, it) ∷ []) below ])
-  live_next at course above deposits life below None is from stacked rest = (kept_account at course life above deposits from stacked.0, aims_kept deposits life below stacked.1, stacked.2)
+  live_next at course above deposits life below None is from stacked rest =
+      (kept_account at course life above deposits from stacked.0, aims_kept deposits life below stacked.1, stacked.2)
   live_next at course above deposits life [] (Some value) is from stacked rest = tt
   live_next at course above deposits life (lower ∷ below) (Some value) is from stacked rest =
-      let wanted : want_at (starts cluster.code) trace at life.id ≡ Some (Returns value) = account_wants at course life above stacked.0 ∙ value_returns (now life.goes) value is in
+      let wanted : want_at (starts cluster.code) trace at life.id ≡ Some (Returns value) = account_wants at course life above stacked.0
+      ∙ value_returns (now life.goes) value is in
       let told : replies.value_in (want_at (starts cluster.code) trace at life.id) ≡ value = ap replies.value_in wanted ∙ gives value in
-      let same : ◌≡◌ {A = Deposit} (gift cluster program stands trace at life.id) (life.spawned.target, value) = same_deposit trace.target life.id life.spawned.target value _ told stacked.1 in
+      let same : ◌≡◌ {A = Deposit} (gift cluster program stands trace at life.id) (life.spawned.target, value) =
+      same_deposit trace.target life.id life.spawned.target value _ told stacked.1 in
       subst (λ it. Stacked at course [] (live_from (it ∷ []) (lower ∷ below))) same
       (rest (gift cluster program stands trace at life.id ∷ []) (Gives life.id (value, wanted)))
 
-  live_from_stacked : (at : ℕ) (course : Course) (above : List FrameId) (deposits : List Deposit) (stack : List Life) → FromAbove at above deposits → Stacked at course above stack
+  live_from_stacked : (at : ℕ) (course : Course) (above : List FrameId) (deposits : List Deposit) (stack : List Life) → FromAbove at above deposits
+      → Stacked at course above stack
       → Stacked at course [] (live_from deposits stack)
   live_from_stacked at course above deposits [] from stacked = tt
   live_from_stacked at course above deposits (life ∷ below) from stacked =
-      live_next at course above deposits life below (returned life) refl from stacked (λ given next. live_from_stacked at course (life.id ∷ []) given below next stacked.2)
+      live_next at course above deposits life below (returned life) refl from stacked
+      (λ given next. live_from_stacked at course (life.id ∷ []) given below next stacked.2)
 
   -- The frames that have not returned keep their accounts, where those that have are taken off.
   pub live_stacked : (at : ℕ) (course : Course) (stack : List Life) → Stacked at course [] stack → Stacked at course [] (live stack)

@@ -56,7 +56,8 @@ module _ (cluster : Cluster) (program : Program) (stands : StandsFor cluster.cod
   -- ---- at its start
 
   -- a frame without children, that wants what its instance does
-  pub account_first : (at : ℕ) (id : FrameId) (goes : Meaning) → goes ≡ state_at begins trace at id → children trace.events at id ≡ [] → Account cluster program stands trace at id goes [] [] []
+  pub account_first : (at : ℕ) (id : FrameId) (goes : Meaning) → goes ≡ state_at begins trace at id → children trace.events at id ≡ []
+      → Account cluster program stands trace at id goes [] [] []
   account_first at id goes is none = record {
     inside = [];
     giving = [];
@@ -72,7 +73,8 @@ module _ (cluster : Cluster) (program : Program) (stands : StandsFor cluster.cod
   Untouched zero id = Unit {0}
   Untouched (suc at) id = Untouched at id × (by id (trace.events at) ≡ false)
 
-  pub untouched_state : (at : ℕ) (id : FrameId) → Untouched at id → state_at begins trace at id ≡ begins (trace.instance id).depth (trace.instance id).procedure (trace.instance id).arguments
+  pub untouched_state : (at : ℕ) (id : FrameId) → Untouched at id
+      → state_at begins trace at id ≡ begins (trace.instance id).depth (trace.instance id).procedure (trace.instance id).arguments
   unfolding replies.replies behind
   untouched_state zero id none = refl
   untouched_state (suc at) id none = state_same cluster program stands trace at id none.1 ∙ untouched_state at id none.0
@@ -90,12 +92,14 @@ module _ (cluster : Cluster) (program : Program) (stands : StandsFor cluster.cod
       let first : Meaning = begins (trace.instance id).depth (trace.instance id).procedure (trace.instance id).arguments in
       let told : List Reply = replies.replies begins trace at id in
       behind_said first told (Children one ∷ rest)
-      ∙ ap (drop (length told)) (order_is_free cluster.code one other apart same rest (trace.instance id).depth (trace.instance id).procedure (trace.instance id).arguments (said told))
+      ∙ ap (drop (length told)) (order_is_free cluster.code one other apart same rest (trace.instance id).depth (trace.instance id).procedure
+      (trace.instance id).arguments (said told))
       ∙ sym (behind_said first told (Children other ∷ rest))
 
   -- Behind a Sync, where no child of the block is out.
   pub account_sync : (at : ℕ) (id : FrameId) (goes : Meaning) (kept : List Deposit) → by id (trace.events at) ≡ true
-      → answer_of (reply_to (trace.events at) (given at id)) ≡ Children (given at id) → children_after (trace.events at) (children trace.events at id) ≡ [] → AreApart (targets_of (given at id))
+      → answer_of (reply_to (trace.events at) (given at id)) ≡ Children (given at id) → children_after (trace.events at) (children trace.events at id) ≡ []
+      → AreApart (targets_of (given at id))
       → Account cluster program stands trace at id goes kept [] [] → Account cluster program stands trace (suc at) id (after goes (Children kept)) [] [] []
   account_sync at id goes kept acts tells none apart it =
       account_first (suc at) id (after goes (Children kept)) (λ i rest. goes_next rest i) (children_next cluster program stands trace at id acts ∙ none)

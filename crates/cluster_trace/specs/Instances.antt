@@ -26,7 +26,8 @@ abbrev pub instance_act : LoggedAct → FrameId → (FrameId → Instance) → F
 instance_act (act.Read word value) parent earlier frame = earlier frame
 instance_act (act.Write word value) parent earlier frame = earlier frame
 instance_act (act.Print value) parent earlier frame = earlier frame
-instance_act (act.Spawn child procedure arguments) parent earlier frame = if same_frame child frame then child_of procedure arguments (earlier parent) else earlier frame
+instance_act (act.Spawn child procedure arguments) parent earlier frame =
+    if same_frame child frame then child_of procedure arguments (earlier parent) else earlier frame
 instance_act act.Sync parent earlier frame = earlier frame
 
 abbrev pub instance_item : Item → (FrameId → Instance) → FrameId → Instance

@@ -19,5 +19,7 @@ RunsObey = (cluster : Cluster) (program : Program) (log : List Turn) → StandsF
 
 -- Where a run ended, its execution has come to that end behind all events.
 abbrev pub RunsComeToEnds : Type 0
-RunsComeToEnds = (cluster : Cluster) (program : Program) (log : List Turn) (end : NodeEnd) → StandsFor cluster.code program → IsParted program → (run : IsRun cluster log) →
-    HasEnd log end → ComesTo (starts cluster.code) (trace_of cluster (course_of (reverse run.turns))) (length (course_of (reverse run.turns))) end
+RunsComeToEnds =
+    (cluster : Cluster) (program : Program) (log : List Turn) (end : NodeEnd) → StandsFor cluster.code program → IsParted program →
+    (run : IsRun cluster log) → HasEnd log end →
+    ComesTo (starts cluster.code) (trace_of cluster (course_of (reverse run.turns))) (length (course_of (reverse run.turns))) end

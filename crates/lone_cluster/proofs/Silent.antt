@@ -5,7 +5,7 @@ use Rattle.std.proofs.Math.Nat.{mod-one}
 use Rattle.cilk_meaning.specs.Wants.{Deposit, Answer, Value, Done}
 use Rattle.page_messages.specs.declared.closure.FrameId.{FrameId}
 use Rattle.page_messages.specs.declared.closure.JoinId.{JoinId}
-use Rattle.page_messages.specs.declared.closure.Link.TheVariants.{Root, Away}
+use Rattle.page_messages.specs.declared.closure.Link.TheVariants.{Away}
 use Rattle.page_messages.specs.declared.message.Msg.{Msg}
 use Rattle.page_messages.specs.declared.message.Body.{Body}
 use Rattle.page_messages.specs.declared.message.Body.TheVariants as body
@@ -19,7 +19,7 @@ use Rattle.cluster_rules.specs.Walking.{is_empty, last_of, latest, with_first}
 use Rattle.cluster_rules.specs.Turns.{Event, Did, Sent, Took, Ended, Past}
 use Rattle.cluster_rules.specs.Node.{Node, page_of, home_of}
 use Rattle.cluster_rules.specs.Home.{owed_home_replies, owed_adds, owed_olds, after_served, told_by}
-use Rattle.cluster_rules.specs.Lives.{Life, main_id, main_life, made, with_kept, live_from, live, answered, added, after_act, returned}
+use Rattle.cluster_rules.specs.Lives.{Life, main_life, made, with_kept, live_from, live, answered, added, after_act, returned}
 use Rattle.cluster_rules.specs.Frames.{Frames, frames_item, frames_on, frames_of, stack_of}
 use Rattle.cluster_rules.specs.Asks.{asks_of, next_victim, following, receiver_of, sends_ask}
 use Rattle.cluster_rules.specs.Paging.{EachIsSending, MayTakeUp}
@@ -128,85 +128,84 @@ no_asks node (Ended end ∷ past) silent = no_asks node past silent.1
 
 -- ---- its frames
 
--- A frame that never left its node: it was not parted from its parent, no child was parted from it, and where it has no parent it is `main`.
-pub record IsHomely (life : Life) : Type 0 where
-  pub rooted : life.link ≡ Root → life.id ≡ main_id
+-- A frame that never left its node: it was not parted from its parent, and no child was parted from it.
+pub record IsStaying (life : Life) : Type 0 where
   pub near : (join : JoinId) → life.link ≡ Away join → ⊥
   pub whole : life.join ≡ None
 
-abbrev pub AllHomely : List Life → Type 0
-AllHomely [] = Unit {0}
-AllHomely (life ∷ below) = IsHomely life × AllHomely below
+abbrev pub AllStaying : List Life → Type 0
+AllStaying [] = Unit {0}
+AllStaying (life ∷ below) = IsStaying life × AllStaying below
 
-pub record AtHome (frames : Frames) : Type 0 where
-  pub stack : AllHomely frames.stack
+pub record OnOneStack (frames : Frames) : Type 0 where
+  pub stack : AllStaying frames.stack
   pub ready : frames.ready ≡ []
   pub parked : frames.parked ≡ []
 
-kept_homely : (deposits : List Deposit) (life : Life) → IsHomely life → IsHomely (with_kept deposits life)
-kept_homely deposits life it = record { rooted = it.rooted; near = it.near; whole = it.whole }
+kept_stays : (deposits : List Deposit) (life : Life) → IsStaying life → IsStaying (with_kept deposits life)
+kept_stays deposits life it = record { near = it.near; whole = it.whole }
 
-live_on : (deposits : List Deposit) (life : Life) (below : List Life) (value : Option ℤ) → AllHomely (life ∷ below)
-    → ((given : List Deposit) → AllHomely (live_from given below))
-    → AllHomely (elim value [ None ↦ with_kept deposits life ∷ below | Some it ↦ live_from ((life.spawned.target, it) ∷ []) below ])
-live_on deposits life below None all rest = (kept_homely deposits life all.0, all.1)
+live_on : (deposits : List Deposit) (life : Life) (below : List Life) (value : Option ℤ) → AllStaying (life ∷ below)
+    → ((given : List Deposit) → AllStaying (live_from given below))
+    → AllStaying (elim value [ None ↦ with_kept deposits life ∷ below | Some it ↦ live_from ((life.spawned.target, it) ∷ []) below ])
+live_on deposits life below None all rest = (kept_stays deposits life all.0, all.1)
 live_on deposits life below (Some value) all rest = rest ((life.spawned.target, value) ∷ [])
 
-live_from_homely : (deposits : List Deposit) (stack : List Life) → AllHomely stack → AllHomely (live_from deposits stack)
-live_from_homely deposits [] all = tt
-live_from_homely deposits (life ∷ below) all = live_on deposits life below (returned life) all (λ given. live_from_homely given below all.1)
+live_from_stays : (deposits : List Deposit) (stack : List Life) → AllStaying stack → AllStaying (live_from deposits stack)
+live_from_stays deposits [] all = tt
+live_from_stays deposits (life ∷ below) all = live_on deposits life below (returned life) all (λ given. live_from_stays given below all.1)
 
-live_homely : (stack : List Life) → AllHomely stack → AllHomely (live stack)
-live_homely stack all = live_from_homely [] stack all
+live_stays : (stack : List Life) → AllStaying stack → AllStaying (live stack)
+live_stays stack all = live_from_stays [] stack all
 
-pub last_homely : (stack : List Life) (life : Life) → last_of stack ≡ Some life → AllHomely stack → IsHomely life
-last_homely [] life is all = absurd (cc)
-last_homely (first ∷ []) life is all = let same : first ≡ life = cc in subst IsHomely same all.0
-last_homely (first ∷ (second ∷ below)) life is all = last_homely (second ∷ below) life is all.1
+pub last_stays : (stack : List Life) (life : Life) → last_of stack ≡ Some life → AllStaying stack → IsStaying life
+last_stays [] life is all = absurd (cc)
+last_stays (first ∷ []) life is all = let same : first ≡ life = cc in subst IsStaying same all.0
+last_stays (first ∷ (second ∷ below)) life is all = last_stays (second ∷ below) life is all.1
 
-act_homely : (node : Node) (done : LoggedAct) (stack : List Life) → AllHomely stack → AllHomely (after_act node done stack)
-act_homely node done [] all = tt
-act_homely node (act.Read word value) (life ∷ below) all = (record { rooted = all.0.rooted; near = all.0.near; whole = all.0.whole }, all.1)
-act_homely node (act.Write word value) (life ∷ below) all = (record { rooted = all.0.rooted; near = all.0.near; whole = all.0.whole }, all.1)
-act_homely node (act.Print value) (life ∷ below) all = (record { rooted = all.0.rooted; near = all.0.near; whole = all.0.whole }, all.1)
-act_homely node (act.Spawn child procedure arguments) (life ∷ below) all = (
-  record { rooted = λ is. absurd (cc); near = λ join is. absurd (cc); whole = refl },
-  (record { rooted = all.0.rooted; near = all.0.near; whole = all.0.whole }, all.1),
+act_stays : (node : Node) (done : LoggedAct) (stack : List Life) → AllStaying stack → AllStaying (after_act node done stack)
+act_stays node done [] all = tt
+act_stays node (act.Read word value) (life ∷ below) all = (record { near = all.0.near; whole = all.0.whole }, all.1)
+act_stays node (act.Write word value) (life ∷ below) all = (record { near = all.0.near; whole = all.0.whole }, all.1)
+act_stays node (act.Print value) (life ∷ below) all = (record { near = all.0.near; whole = all.0.whole }, all.1)
+act_stays node (act.Spawn child procedure arguments) (life ∷ below) all = (
+  record { near = λ join is. absurd (cc); whole = refl },
+  (record { near = all.0.near; whole = all.0.whole }, all.1),
 )
-act_homely node act.Sync (life ∷ below) all = (record { rooted = all.0.rooted; near = all.0.near; whole = refl }, all.1)
+act_stays node act.Sync (life ∷ below) all = (record { near = all.0.near; whole = refl }, all.1)
 
-first_homely : (change : Life → Life) → ((life : Life) → IsHomely life → IsHomely (change life)) → (stack : List Life) → AllHomely stack
-    → AllHomely (with_first change stack)
-first_homely change each [] all = tt
-first_homely change each (life ∷ below) all = (each life all.0, all.1)
+first_stays : (change : Life → Life) → ((life : Life) → IsStaying life → IsStaying (change life)) → (stack : List Life) → AllStaying stack
+    → AllStaying (with_first change stack)
+first_stays change each [] all = tt
+first_stays change each (life ∷ below) all = (each life all.0, all.1)
 
-answered_homely : (answer : Answer) (life : Life) → IsHomely life → IsHomely (answered answer life)
-answered_homely answer life it = record { rooted = it.rooted; near = it.near; whole = it.whole }
+answered_stays : (answer : Answer) (life : Life) → IsStaying life → IsStaying (answered answer life)
+answered_stays answer life it = record { near = it.near; whole = it.whole }
 
-made_homely : (answer : Answer) (life : Life) → IsHomely life → IsHomely (made answer life)
-made_homely answer life it = record { rooted = it.rooted; near = it.near; whole = it.whole }
+made_stays : (answer : Answer) (life : Life) → IsStaying life → IsStaying (made answer life)
+made_stays answer life it = record { near = it.near; whole = it.whole }
 
-item_home : (node : Node) (done : Item) (past : Past) (frames : Frames) → OwnItem done → AtHome frames → AtHome (frames_item node done past frames)
-item_home node (item.Act frame index done) past frames own it =
-    record { stack = act_homely node done (live frames.stack) (live_homely frames.stack it.stack); ready = it.ready; parked = it.parked }
-item_home node (item.Tick frame) past frames own it =
-    let stack = first_homely (answered Done) (answered_homely Done) (live frames.stack) (live_homely frames.stack it.stack) in
+item_stays : (node : Node) (done : Item) (past : Past) (frames : Frames) → OwnItem done → OnOneStack frames → OnOneStack (frames_item node done past frames)
+item_stays node (item.Act frame index done) past frames own it =
+    record { stack = act_stays node done (live frames.stack) (live_stays frames.stack it.stack); ready = it.ready; parked = it.parked }
+item_stays node (item.Tick frame) past frames own it =
+    let stack = first_stays (answered Done) (answered_stays Done) (live frames.stack) (live_stays frames.stack it.stack) in
     record { stack = stack; ready = it.ready; parked = it.parked }
-item_home node (item.Drop page) past frames own it = it
-item_home node (item.TakeUp frame) past frames own it = absurd own
-item_home node (item.OwnFetch page words) past frames own it = record { stack = live_homely frames.stack it.stack; ready = it.ready; parked = it.parked }
-item_home node (item.OwnReconcile part) past frames own it = it
-item_home node (item.Served frame index word old addend) past frames own it =
+item_stays node (item.Drop page) past frames own it = it
+item_stays node (item.TakeUp frame) past frames own it = absurd own
+item_stays node (item.OwnFetch page words) past frames own it = record { stack = live_stays frames.stack it.stack; ready = it.ready; parked = it.parked }
+item_stays node (item.OwnReconcile part) past frames own it = it
+item_stays node (item.Served frame index word old addend) past frames own it =
     record { stack = on (is_empty (owed_adds past)); ready = it.ready; parked = it.parked }
   where
-    on : (b : Bool) → AllHomely (cond b (added old (live frames.stack)) frames.stack)
-    on true = first_homely (made (Value old)) (made_homely (Value old)) (live frames.stack) (live_homely frames.stack it.stack)
+    on : (b : Bool) → AllStaying (cond b (added old (live frames.stack)) frames.stack)
+    on true = first_stays (made (Value old)) (made_stays (Value old)) (live frames.stack) (live_stays frames.stack it.stack)
     on false = it.stack
 
-home_start : (node : Node) → node.me ≡ 0 → AtHome (frames_of node [])
+starts_staying : (node : Node) → node.me ≡ 0 → OnOneStack (frames_of node [])
 unfolding frames_of
-home_start node is =
-    let main : IsHomely (main_life node) = record { rooted = λ root. refl; near = λ join away. absurd (cc); whole = refl } in
+starts_staying node is =
+    let main : IsStaying (main_life node) = record { near = λ join away. absurd (cc); whole = refl } in
     rw is (record { stack = (main, tt); ready = refl; parked = refl })
 
 -- ---- it may not post
@@ -233,7 +232,7 @@ module _ (cluster : Cluster) (alone : cluster.config.nodes ≡ 1) where
           choose true = one_number (other + 2)
           choose false = one_number (other + 1)
 
-  module _ (past : Past) (silent : SilentPast past) (home : AtHome (frames_of node past)) where
+  module _ (past : Past) (silent : SilentPast past) (frames : OnOneStack (frames_of node past)) where
     not_oldest : (sender : ℕ) (kept : Bool) → IsOldestAsk node past sender kept → ⊥
     not_oldest sender kept oldest = let both = sym oldest.1 ∙ no_asks node past silent in absurd (cc)
 
@@ -249,9 +248,9 @@ module _ (cluster : Cluster) (alone : cluster.config.nodes ≡ 1) where
     may_not_post receiver body.Ask may = may.other (may.to ∙ victim_here past)
     may_not_post receiver (body.Grant closure) may = not_oldest receiver true may.ask
     may_not_post receiver body.Refuse may = not_oldest receiver may.kept may.ask
-    may_not_post receiver (body.Done join index value) may = (last_homely (stack_of node past) may.life may.returned.at_bottom home.stack).near join may.link
+    may_not_post receiver (body.Done join index value) may = (last_stays (stack_of node past) may.life may.returned.at_bottom frames.stack).near join may.link
     may_not_post receiver (body.Park join closure) may =
-        let whole = (subst AllHomely may.at_join.alone (live_homely (stack_of node past) home.stack)).0.whole in
+        let whole = (subst AllStaying may.at_join.alone (live_stays (stack_of node past) frames.stack)).0.whole in
         let both = sym whole ∙ may.at_join.granted in absurd (cc)
     may_not_post receiver (body.Add frame index word addend) may = may.other (may.add.at_home ∙ home_here (page_of node word))
     may_not_post receiver (body.Added old) may = let both = sym may.oldest ∙ no_olds node past silent in absurd (cc)
@@ -261,7 +260,7 @@ module _ (cluster : Cluster) (alone : cluster.config.nodes ≡ 1) where
     may_not_send message (inr sends) = may_not_post message.receiver message.body sends.may
 
     may_not_take_up : (frame : FrameId) (rest : List Item) → MayTakeUp node past frame rest → ⊥
-    may_not_take_up frame rest may = let both = sym may.oldest ∙ home.ready in absurd (cc)
+    may_not_take_up frame rest may = let both = sym may.oldest ∙ frames.ready in absurd (cc)
 
     own_item : (done : Item) (rest : List Item) (posts : List Msg) → IsOwed node past done ⊎ (IsFree past × MayDo node past done rest posts) → OwnItem done
     own_item (item.Act frame index act) rest posts may = tt
@@ -279,15 +278,15 @@ module _ (cluster : Cluster) (alone : cluster.config.nodes ≡ 1) where
   pub own_here : (moved : Moved) (course : Course) → moved.node ≡ 0 → own 0 (moved ∷ course) ≡ moved.event ∷ own 0 course
   own_here moved course is = subst (λ number. own number (moved ∷ course) ≡ moved.event ∷ own number course) is (own_first moved course)
 
-  frames_here : (event : Event) (past : Past) → AtHome (frames_on node event past (frames_of node past)) → AtHome (frames_of node (event ∷ past))
+  frames_here : (event : Event) (past : Past) → OnOneStack (frames_on node event past (frames_of node past)) → OnOneStack (frames_of node (event ∷ past))
   unfolding frames_of
   frames_here event past it = it
 
   abbrev pub Lone : Course → Type 0
-  Lone course = Silent course × AtHome (frames_of node (own 0 course))
+  Lone course = Silent course × OnOneStack (frames_of node (own 0 course))
 
   pub lone : (course : Course) → Stepped cluster course → Lone course
-  lone [] stepped = (tt, home_start node refl)
+  lone [] stepped = (tt, starts_staying node refl)
   lone (moved ∷ course) stepped = on (lone course stepped.0) moved.event refl
     where
       here : moved.node ≡ 0
@@ -299,8 +298,8 @@ module _ (cluster : Cluster) (alone : cluster.config.nodes ≡ 1) where
       frames : Frames
       frames = frames_of node past
 
-      goes_on : (event : Event) → OwnEvent event → AtHome frames → AtHome (frames_on node event past frames)
-      goes_on (Did done) own home = item_home node done past frames own home
+      goes_on : (event : Event) → OwnEvent event → OnOneStack frames → OnOneStack (frames_on node event past frames)
+      goes_on (Did done) own home = item_stays node done past frames own home
       goes_on (Sent message) own home = absurd own
       goes_on (Took message) own home = absurd own
       goes_on (Ended end) own home = home
@@ -308,7 +307,7 @@ module _ (cluster : Cluster) (alone : cluster.config.nodes ≡ 1) where
       behind : (event : Event) → moved.event ≡ event → Lone course → OwnEvent event → Lone (moved ∷ course)
       behind event is it own = (
         (here, subst OwnEvent (sym is) own, it.0),
-        subst (λ past. AtHome (frames_of node past)) (sym (own_here moved course here ∙ ap (λ event. event ∷ past) is))
+        subst (λ past. OnOneStack (frames_of node past)) (sym (own_here moved course here ∙ ap (λ event. event ∷ past) is))
             (frames_here event past (goes_on event own it.1)),
       )
 

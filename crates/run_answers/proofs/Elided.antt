@@ -1,24 +1,21 @@
 -- Where a run has done just what the elision did, it answers as that.
-use Rattle.std.proofs.Common.{◌≡◌, ◌+◌, ℕ, ℤ, List, length, map, reverse, sym, ◌∙◌, ap, arith}
-use Rattle.std.specs.List.{sum}
+use Rattle.std.proofs.Common.{◌≡◌, ℕ, ℤ, List, length, reverse, ◌∙◌, ap}
 use Rattle.backer_order.specs.Log.{SharedMemory}
 use Rattle.cilk_meaning.specs.Instance.{limits, wants}
 use Rattle.cilk_meaning.specs.Parted.{IsParted}
 use Rattle.cilk_meaning.specs.Resolved.{Program}
-use Rattle.cilk_meaning.specs.World as world
 use Rattle.cilk_meaning.specs.World.{End, ticks_of}
 use Rattle.machine_code.specs.StandsFor.{StandsFor, start_words_of}
 use Rattle.page_messages.specs.declared.closure.FrameId.{FrameId}
 use Rattle.page_messages.specs.declared.log.Turn.{Turn}
 use Rattle.span_tree.specs.History.{History}
 use Rattle.span_tree.specs.Memory.{output_of}
-use Rattle.cluster_rules.specs.Counting.{counts_of}
 use Rattle.cluster_rules.specs.Histories.{IsHistoryOf}
 use Rattle.cluster_rules.specs.Moments.{Listed, IsHomeOrder}
 use Rattle.cluster_rules.specs.Positions.{Course, course_of}
 use Rattle.cluster_rules.specs.Runs.{Cluster, IsRun}
 use Rattle.cluster_rules.specs.Turns.{WholeTurn}
-use Rattle.cluster_order.specs.Reading.{events_of, memory_of}
+use Rattle.cluster_order.specs.Reading.{memory_of}
 use Rattle.determinacy.specs.Ending.{OneHistory, MemoryOf}
 use Rattle.determinacy.specs.Replies.{Trace}
 use Rattle.determinacy.specs.Serial.{LastOf}
@@ -39,7 +36,8 @@ use Rattle.run_answers.specs.Laws.{IsElision, elision_of}
 use Rattle.run_answers.proofs.Executions.{begins, obeys_it, rows_of, runs_as}
 use Rattle.run_answers.proofs.OfTheProgram.{of_turns}
 
-module _ (cluster : Cluster) (program : Program) (log : List Turn) (run : IsRun cluster log) (stands : StandsFor cluster.code program) (parted : IsParted program)
+module _ (cluster : Cluster) (program : Program) (log : List Turn) (run : IsRun cluster log) (stands : StandsFor cluster.code program)
+    (parted : IsParted program)
     (budget : ℕ) where
   abbrev turns : List WholeTurn
   turns = reverse run.turns
@@ -65,7 +63,8 @@ module _ (cluster : Cluster) (program : Program) (log : List Turn) (run : IsRun 
   -- Its frames are the elision's rows, one for one and told the same, each word is left as there, and its ticks are its items.
   pub record GoesThrough : Type 0 where
     pub one : OneHistory (wants program) trace serial (length course) finish
-    pub word : (word : ℕ) (here there : ℤ) → MemoryOf trace.events memory (length course) word here → LastOf serial.events memory word finish there → here ≡ there
+    pub word : (word : ℕ) (here there : ℤ) → MemoryOf trace.events memory (length course) word here → LastOf serial.events memory word finish there
+        → here ≡ there
     pub ticks : ticks_counted cluster log ≡ items_in cluster course
 
   module _ (goes : GoesThrough) where

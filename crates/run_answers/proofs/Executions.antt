@@ -44,13 +44,15 @@ pub begins : (cluster : Cluster) → Begins (memory_of cluster) (start_words_of 
 begins cluster = record { starts = λ word. refl; sums = λ old addend. refl }
 
 -- What the code wants is what the program does.
-pub obeys_program : (cluster : Cluster) (program : Program) (trace : Trace) → StandsFor cluster.code program → Obeys (starts cluster.code) cluster.code.main trace
+pub obeys_program : (cluster : Cluster) (program : Program) (trace : Trace) → StandsFor cluster.code program
+    → Obeys (starts cluster.code) cluster.code.main trace
     → Obeys (wants program) program.main trace
 obeys_program cluster program trace stands obeys =
     subst (λ main. Obeys (wants program) main trace) stands.main (subst (λ (begin : Starts). Obeys begin cluster.code.main trace) stands.wants obeys)
 
 -- Where a run ended, its execution has come to that end.
-pub comes_to : (cluster : Cluster) (program : Program) (log : List Turn) (end : NodeEnd) → StandsFor cluster.code program → IsParted program → (run : IsRun cluster log)
+pub comes_to : (cluster : Cluster) (program : Program) (log : List Turn) (end : NodeEnd) → StandsFor cluster.code program → IsParted program
+    → (run : IsRun cluster log)
     → HasEnd log end → ComesTo (wants program) (trace_of cluster (course_of (reverse run.turns))) (length (course_of (reverse run.turns))) end
 comes_to cluster program log end stands parted run has =
     subst (λ (begin : Starts). ComesTo begin (trace_of cluster (course_of (reverse run.turns))) (length (course_of (reverse run.turns))) end) stands.wants
@@ -87,5 +89,6 @@ module _ (cluster : Cluster) (program : Program) (turns : List WholeTurn) (lawfu
     is_history_of = is_history (wants program) program.main trace obeys_it (length (course_of turns)) frames history rows_of runs_as
 
     -- It is complete where `main` has returned at the end.
-    pub is_complete_of : (value : ℤ) → want_at (wants program) trace (length (course_of turns)) main_id ≡ Some (Returns value) → of_program.IsCompleteOf program history
+    pub is_complete_of : (value : ℤ) → want_at (wants program) trace (length (course_of turns)) main_id ≡ Some (Returns value)
+        → of_program.IsCompleteOf program history
     is_complete_of value want = is_complete (wants program) program.main trace obeys_it (length (course_of turns)) frames history rows_of runs_as value want

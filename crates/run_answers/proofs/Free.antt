@@ -1,11 +1,11 @@
 -- Where the elision finishes without race, each run ends as it does.
-use Rattle.std.proofs.Common.{◌≡◌, ◌<◌, ⊥, ¬◌, ℕ, ℤ, List, Some, length, map, reverse, sym, ◌∙◌, subst, arith}
+use Rattle.std.proofs.Common.{◌≡◌, ◌<◌, ℕ, ℤ, List, Some, length, reverse, sym, ◌∙◌, subst, arith}
 use Rattle.cilk_meaning.specs.declared.ends.NodeEnd.TheVariants.{Finished, Trapped, Budget}
 use Rattle.cilk_meaning.specs.declared.ends.TrapKind.{TrapKind}
 use Rattle.cilk_meaning.specs.Instance.{limits, wants}
 use Rattle.cilk_meaning.specs.Parted.{IsParted}
 use Rattle.cilk_meaning.specs.Resolved.{Program}
-use Rattle.cilk_meaning.specs.Wants.{Request, Asks, Returns}
+use Rattle.cilk_meaning.specs.Wants.{Returns}
 use Rattle.cilk_meaning.specs.World.{End, ticks_of}
 use Rattle.backer_order.specs.Log.{main_id}
 use Rattle.determinacy.specs.Replies.{want_at}
@@ -17,11 +17,11 @@ use Rattle.page_messages.specs.declared.log.Turn.{Turn}
 use Rattle.span_tree.specs.History.{History}
 use Rattle.span_tree.specs.Memory.{HasNoRace}
 use Rattle.cluster_rules.specs.Histories.{IsHistoryOf}
-use Rattle.cluster_rules.specs.Positions.{Course, course_of}
+use Rattle.cluster_rules.specs.Positions.{course_of}
 use Rattle.cluster_rules.specs.Runs.{Cluster, IsRun}
 use Rattle.cluster_rules.specs.Turns.{WholeTurn}
 use Rattle.cluster_order.specs.Reading.{memory_of}
-use Rattle.determinacy.specs.Determinate.{Determined, IsOpen}
+use Rattle.determinacy.specs.Determinate.{Determined}
 use Rattle.determinacy.proofs.Determined.{then_serial}
 use Rattle.elision_history.specs.Logged.{history_of}
 use Rattle.elision_trace.proofs.Elisions.{elision_ticks}
@@ -34,8 +34,10 @@ use Rattle.run_answers.proofs.Elided.{trace, serial, finish, GoesThrough, is_eli
 use Rattle.run_answers.proofs.Executions.{begins, comes_to, obeys_it, runs_program, rows_of}
 use Rattle.run_answers.proofs.OfTheProgram.{of_turns}
 
-module _ (cluster : Cluster) (program : Program) (log : List Turn) (run : IsRun cluster log) (stands : StandsFor cluster.code program) (parted : IsParted program)
-    (budget : ℕ) (finished : (elision_of cluster program budget).end ≡ Finished) (free : HasNoRace (history_of program (elision_of cluster program budget))) where
+module _ (cluster : Cluster) (program : Program) (log : List Turn) (run : IsRun cluster log) (stands : StandsFor cluster.code program)
+    (parted : IsParted program)
+    (budget : ℕ) (finished : (elision_of cluster program budget).end ≡ Finished)
+    (free : HasNoRace (history_of program (elision_of cluster program budget))) where
   abbrev turns : List WholeTurn
   turns = reverse run.turns
 
@@ -46,10 +48,12 @@ module _ (cluster : Cluster) (program : Program) (log : List Turn) (run : IsRun 
   elision = elision_of cluster program budget
 
   -- the run goes as the elision
-  determined : Determined (wants program) (trace cluster program log run stands parted budget) (serial cluster program log run stands parted budget) (memory_of cluster)
+  determined : Determined (wants program) (trace cluster program log run stands parted budget) (serial cluster program log run stands parted budget)
+      (memory_of cluster)
       (finish cluster program log run stands parted budget) now
   determined =
-      then_serial (wants program) program.main (trace cluster program log run stands parted budget) (serial cluster program log run stands parted budget) (memory_of cluster)
+      then_serial (wants program) program.main (trace cluster program log run stands parted budget) (serial cluster program log run stands parted budget)
+      (memory_of cluster)
       (finish cluster program log run stands parted budget) (runs_program cluster program turns run.lawful stands parted)
       (elision_is_serial limits program (start_words_of cluster.code) budget (memory_of cluster) parted (begins cluster) finished free) now
 
@@ -68,7 +72,8 @@ module _ (cluster : Cluster) (program : Program) (log : List Turn) (run : IsRun 
   for_code : (value : ℤ) → want_at (wants program) (trace cluster program log run stands parted budget) now main_id ≡ Some (Returns value)
       → want_at (starts cluster.code) (trace cluster program log run stands parted budget) now main_id ≡ Some (Returns value)
   for_code value returns =
-      subst (λ (begin : Starts). want_at begin (trace cluster program log run stands parted budget) now main_id ≡ Some (Returns value)) (sym stands.wants) returns
+      subst (λ (begin : Starts). want_at begin (trace cluster program log run stands parted budget) now main_id ≡ Some (Returns value))
+      (sym stands.wants) returns
 
   goes_through : HasEnd log Finished → GoesThrough cluster program log run stands parted budget
   goes_through has =
@@ -81,7 +86,8 @@ module _ (cluster : Cluster) (program : Program) (log : List Turn) (run : IsRun 
 
   no_race_here : (frames : List FrameId) (history : History) → IsHistoryOf cluster.code.main log frames history → HasNoRace history
   no_race_here frames history its =
-      no_race (wants program) program.main (trace cluster program log run stands parted budget) (obeys_it cluster program turns run.lawful stands parted) now frames history
+      no_race (wants program) program.main (trace cluster program log run stands parted budget)
+      (obeys_it cluster program turns run.lawful stands parted) now frames history
       (rows_of cluster program turns run.lawful stands parted frames history (of_turns cluster log run frames history its)) determined.free
 
   pub ends_as_elision : EndsAsElision cluster program log run elision
@@ -93,4 +99,5 @@ module _ (cluster : Cluster) (program : Program) (log : List Turn) (run : IsRun 
   }
 
 pub race_free_runs_end_as_elision : RaceFreeRunsEndAsElision
-race_free_runs_end_as_elision cluster program log budget stands parted run finished free = ends_as_elision cluster program log run stands parted budget finished free
+race_free_runs_end_as_elision cluster program log budget stands parted run finished free =
+    ends_as_elision cluster program log run stands parted budget finished free

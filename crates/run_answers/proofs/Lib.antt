@@ -1,3 +1,6 @@
 pub mod Running
 pub mod Executions
-pub mod Answers
+pub mod OfTheProgram
+pub mod Elided
+pub mod Free
+pub mod Lone

@@ -53,7 +53,8 @@ module _ (cluster : Cluster) (frame : FrameId) where
   birth_within course = given (birth_of frame) (births_of (done_in course))
 
   abbrev Agreed : Event → (FrameId → Instance) → Option Birth → Type 0
-  Agreed event earlier past = Agrees (or_else past (birth_on event)) (instance_on event earlier frame) × (Spawns frame event ⊎ (or_else past (birth_on event) ≡ past))
+  Agreed event earlier past =
+      Agrees (or_else past (birth_on event)) (instance_on event earlier frame) × (Spawns frame event ⊎ (or_else past (birth_on event) ≡ past))
 
   -- an event that is no birth leaves all
   left : (past : Option Birth) (instance : Instance) → Agrees past instance → Agrees (or_else past None) instance
@@ -69,22 +70,27 @@ module _ (cluster : Cluster) (frame : FrameId) where
   agreed_spawn parent index child procedure arguments earlier past agrees none = on (same_frame child frame) refl
     where
       first_birth : (past : Option Birth) → past ≡ None
-          → Agrees (or_else past (Some (record { child = child; parent = parent; index = index; procedure = procedure; arguments = arguments }))) (child_of procedure arguments (earlier parent))
+          → Agrees (or_else past (Some (record { child = child; parent = parent; index = index; procedure = procedure; arguments = arguments })))
+          (child_of procedure arguments (earlier parent))
       first_birth None is = (refl, refl)
       first_birth (Some other) is = absurd (cc)
 
       on : (b : Bool) → same_frame child frame ≡ b
-          → Agrees (or_else past (or_else (cond b (Some (record { child = child; parent = parent; index = index; procedure = procedure; arguments = arguments })) None) None))
+          → Agrees (or_else past (or_else
+          (cond b (Some (record { child = child; parent = parent; index = index; procedure = procedure; arguments = arguments })) None) None))
           (cond b (child_of procedure arguments (earlier parent)) (earlier frame))
-          × ((child ≡ frame) ⊎ (or_else past (or_else (cond b (Some (record { child = child; parent = parent; index = index; procedure = procedure; arguments = arguments })) None) None) ≡ past))
+          × ((child ≡ frame) ⊎ (or_else past
+          (or_else (cond b (Some (record { child = child; parent = parent; index = index; procedure = procedure; arguments = arguments })) None) None) ≡ past))
       on true is = let same = same_name child frame is in (first_birth past (none same), inl same)
       on false is = (left past (earlier frame) agrees, inr (same_past past))
 
-  agreed : (event : Event) (earlier : FrameId → Instance) (past : Option Birth) → Agrees past (earlier frame) → (Spawns frame event → past ≡ None) → Agreed event earlier past
+  agreed : (event : Event) (earlier : FrameId → Instance) (past : Option Birth) → Agrees past (earlier frame) → (Spawns frame event → past ≡ None)
+      → Agreed event earlier past
   agreed (Did (item.Act parent index (act.Read word value))) earlier past agrees none = (left past (earlier frame) agrees, inr (same_past past))
   agreed (Did (item.Act parent index (act.Write word value))) earlier past agrees none = (left past (earlier frame) agrees, inr (same_past past))
   agreed (Did (item.Act parent index (act.Print value))) earlier past agrees none = (left past (earlier frame) agrees, inr (same_past past))
-  agreed (Did (item.Act parent index (act.Spawn child procedure arguments))) earlier past agrees none = agreed_spawn parent index child procedure arguments earlier past agrees none
+  agreed (Did (item.Act parent index (act.Spawn child procedure arguments))) earlier past agrees none =
+      agreed_spawn parent index child procedure arguments earlier past agrees none
   agreed (Did (item.Act parent index act.Sync)) earlier past agrees none = (left past (earlier frame) agrees, inr (same_past past))
   agreed (Did (item.Tick other)) earlier past agrees none = (left past (earlier frame) agrees, inr (same_past past))
   agreed (Did (item.Drop page)) earlier past agrees none = (left past (earlier frame) agrees, inr (same_past past))
@@ -96,13 +102,15 @@ module _ (cluster : Cluster) (frame : FrameId) where
   agreed (Took message) earlier past agrees none = (left past (earlier frame) agrees, inr (same_past past))
   agreed (Ended end) earlier past agrees none = (left past (earlier frame) agrees, inr (same_past past))
 
-  birth_more : (course : Course) (event : Event) → given (birth_of frame) (births_of (done_in course ++ done_by event)) ≡ or_else (birth_within course) (birth_on event)
+  birth_more : (course : Course) (event : Event) → given (birth_of frame) (births_of (done_in course ++ done_by event)) ≡ or_else (birth_within course)
+      (birth_on event)
   birth_more course event =
       ap (given (birth_of frame)) (filter_map-append birth_in (done_in course) (done_by event))
       ∙ given_both (birth_of frame) (births_of (done_in course)) (births_of (done_by event))
 
   -- In a course a frame runs what its birth says.
-  runs_birth : (course : Course) → Stepped cluster course → Agrees (birth_within course) (instance_of cluster course frame) × (WasSpawned frame course ⊎ (birth_within course ≡ None))
+  runs_birth : (course : Course) → Stepped cluster course
+      → Agrees (birth_within course) (instance_of cluster course frame) × (WasSpawned frame course ⊎ (birth_within course ≡ None))
   runs_birth [] stepped = (refl, inr refl)
   runs_birth (moved ∷ course) stepped =
       let before = runs_birth course stepped.0 in
@@ -138,7 +146,8 @@ module _ (cluster : Cluster) (turns : List WholeTurn) (lawful : IsLawful cluster
   its_run : (frame : FrameId) → ((row_of frames cluster.code.main items frame).proc ≡ (instance_of cluster (course_of turns) frame).procedure)
       × ((row_of frames cluster.code.main items frame).args ≡ (instance_of cluster (course_of turns) frame).arguments)
   its_run frame =
-      row_runs cluster frame frames (given (birth_of frame) (births_of items)) (filter_map (act_in frames frame) items) (instance_of cluster (course_of turns) frame)
+      row_runs cluster frame frames (given (birth_of frame) (births_of items)) (filter_map (act_in frames frame) items)
+      (instance_of cluster (course_of turns) frame)
       (subst (λ it. Agrees cluster frame (given (birth_of frame) (births_of it)) (instance_of cluster (course_of turns) frame)) (done_is turns)
       (runs_birth cluster frame (course_of turns) (all_stepped cluster turns lawful)).0)
 

@@ -1,5 +1,5 @@
 -- What runs of the written cluster answer, beside what the serial elision of their program answers.
-use Rattle.std.specs.Prelude.{◌≡◌, ⊥, ¬◌, ℕ, ◌<◌, ℤ, Some, List, [], ◌∷◌, ◌++◌, reverse}
+use Rattle.std.specs.Prelude.{◌≡◌, ℕ, ◌<◌, List, reverse}
 use Rattle.std.specs.List.{sum}
 use Rattle.cilk_meaning.specs.declared.ends.NodeEnd.{NodeEnd}
 use Rattle.cilk_meaning.specs.declared.ends.NodeEnd.TheVariants.{Finished, Trapped, Budget}
@@ -36,8 +36,8 @@ pub record IsElision (cluster : Cluster) (program : Program) (log : List Turn) (
   pub history : (frames : List FrameId) (history : History) → IsHistoryOf cluster.code.main log frames history → history ≡ history_of program elision
   pub output : (frames : List FrameId) (history : History) → IsHistoryOf cluster.code.main log frames history → output_of history ≡ world.output_of elision
   pub words : (frames : List FrameId) (history : History) (word : ℕ) (order : List Listed) → IsHistoryOf cluster.code.main log frames history →
-      IsHomeOrder cluster (course_of (reverse run.turns)) word order → left_in_order (start_words_of cluster.code) history (places_by frames (course_of (reverse run.turns)) order) word
-      ≡ elision.world.memory word
+      IsHomeOrder cluster (course_of (reverse run.turns)) word order →
+      left_in_order (start_words_of cluster.code) history (places_by frames (course_of (reverse run.turns)) order) word ≡ elision.world.memory word
   pub ticks : sum (counts_of cluster.config.nodes log).ticks ≡ ticks_of elision
 
 -- Where the elision finishes without race, a run of the cluster ends as it does: no run traps, none whose nodes may each make the elision's

@@ -78,13 +78,15 @@ module _ (number : ℕ) where
   own_ticks moved course true is =
       let same = equal_number moved.node number is in
       let more : ticks_of (own number (moved ∷ course)) ≡ ticks_of (moved.event ∷ own number course) = rw is refl in
-      let past : ticks_on moved.event (own number course) ≡ ticks_on moved.event (own moved.node course) = ap (λ it. ticks_on moved.event (own it course)) (sym same) in
+      let past : ticks_on moved.event (own number course) ≡ ticks_on moved.event (own moved.node course) =
+      ap (λ it. ticks_on moved.event (own it course)) (sym same) in
       omega (arith, more, past)
   own_ticks moved course false is = let same : ticks_of (own number (moved ∷ course)) ≡ ticks_of (own number course) = rw is refl in omega (arith, same)
 
   module _ (cluster : Cluster) where
     -- What the node posted is done by its home, or under way.
-    node_ticks : (course : Course) → Stepped cluster course → ticks_of (own number course) + served_amount add_by course ≤ items_in cluster course + posted_amount add_by course
+    node_ticks : (course : Course) → Stepped cluster course
+        → ticks_of (own number course) + served_amount add_by course ≤ items_in cluster course + posted_amount add_by course
     unfolding ticks_of
     node_ticks [] stepped = omega arith
     node_ticks (moved ∷ course) stepped =
@@ -96,14 +98,16 @@ module _ (number : ℕ) where
     none_waits : (course : Course) → Stepped cluster course → phase_of number course ≡ Idle → (adds : ℕ) → waiting add_by cluster course ≡ adds → adds ≡ 0
     none_waits course stepped idle zero is = refl
     none_waits course stepped idle (suc adds) is =
-        let it = some_waits add_by (λ message some. (both_true (adds_in message.body) (eqb message.sender number) (is_one (adds_in message.body && eqb message.sender number) some)).0)
+        let it = some_waits add_by (λ message some.
+        (both_true (adds_in message.body) (eqb message.sender number) (is_one (adds_in message.body && eqb message.sender number) some)).0)
         cluster course (omega (arith, is)) in
         let sent = (both_true (adds_in it.0.body) (eqb it.0.sender number) (is_one (adds_in it.0.body && eqb it.0.sender number) it.1)).1 in
         let asked = asked_by cluster course (phased cluster course stepped) it.0.sender it.2 it.3 it.4 in
         let both : Asked it.2 it.3 ≡ Idle = sym asked ∙ ap (λ node. phase_of node course) (equal_number it.0.sender number sent) ∙ idle in absurd (cc)
 
     -- A node that waits for nothing has no more ticks than there are items.
-    pub quiet_node : (course : Course) → Stepped cluster course → number < cluster.config.nodes → IsQuiet (own number course) → ticks_of (own number course) ≤ items_in cluster course
+    pub quiet_node : (course : Course) → Stepped cluster course → number < cluster.config.nodes → IsQuiet (own number course)
+        → ticks_of (own number course) ≤ items_in cluster course
     quiet_node course stepped less quiet =
         let idle = quiet_idle cluster course number None less (phased cluster course stepped) quiet in
         let none = none_waits course stepped idle (waiting add_by cluster course) refl in

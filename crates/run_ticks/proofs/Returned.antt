@@ -88,4 +88,5 @@ module _ (cluster : Cluster) (turns : List WholeTurn) (lawful : IsLawful cluster
         on zero is = refl
         on (suc adds) is =
             let it = some_waits is_add (λ message some. is_one (adds_in message.body) some) cluster course (omega (arith, is)) in
-            absurd (none_asks it.0.sender it.2 it.3 (asked_by cluster course (phased cluster course (all_stepped cluster turns lawful)) it.0.sender it.2 it.3 it.4))
+            absurd (none_asks it.0.sender it.2 it.3
+            (asked_by cluster course (phased cluster course (all_stepped cluster turns lawful)) it.0.sender it.2 it.3 it.4))

@@ -21,7 +21,8 @@ returned_ticks cluster program log stands parted run value returned =
     let all = run_ticks cluster log run in
     let none = asked_none cluster (reverse run.turns) run.lawful program stands parted value returned in omega (arith, all, none)
 
-spent : (cluster : Cluster) (node : ℕ) (earlier : Course) → Stepped cluster (ended_at node Budget ∷ earlier) → cluster.config.budget ≤ items_in cluster (ended_at node Budget ∷ earlier)
+spent : (cluster : Cluster) (node : ℕ) (earlier : Course) → Stepped cluster (ended_at node Budget ∷ earlier)
+    → cluster.config.budget ≤ items_in cluster (ended_at node Budget ∷ earlier)
 spent cluster node earlier stepped =
     let ticks = stepped.1.allowed.1.ticks in
     let quiet = quiet_node node cluster earlier stepped.0 stepped.1.within stepped.1.allowed.0 in

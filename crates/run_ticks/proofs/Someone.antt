@@ -60,7 +60,8 @@ module _ (measure : Msg → ℕ) (only : (message : Msg) → 1 ≤ measure messa
   some_letter [] some = absurd (omega (arith, some))
   some_letter (letter ∷ letters) some = elim (some_of (measure letter.message) (amount_of measure letters) some) [
     | inl here ↦
-        let it = add_of letter.message letter.message.body refl (only letter.message here) in let amount = it.2 in (letter.message, here, it.0, it.1, omega (arith, amount))
+        let it = add_of letter.message letter.message.body refl (only letter.message here) in let amount = it.2 in
+        (letter.message, here, it.0, it.1, omega (arith, amount))
     | inr rest ↦ let it = some_letter letters rest in let amount = it.4 in (it.0, it.1, it.2, it.3, omega (arith, amount))
   ]
 

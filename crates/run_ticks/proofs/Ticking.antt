@@ -171,7 +171,3 @@ module _ (cluster : Cluster) where
       let served = served_same course stepped in
       let posted = posted_same course in
       let ticks = posted_sum course stepped in omega (arith, sum, served, posted, ticks)
-
-  -- Where none is, they are equal.
-  pub quiet_ticks : (course : Course) → Stepped cluster course → adds_under_way course ≡ 0 → ticks_sum_of cluster course ≡ items_in cluster course
-  quiet_ticks course stepped none = let sum = ticks_sum course stepped in omega (arith, sum, none)

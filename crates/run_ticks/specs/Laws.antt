@@ -41,4 +41,5 @@ ReturnedTicks =
 
 -- Where a run ended with a spent budget, a node has made all of it, and each of its ticks is an item.
 abbrev pub SpentTicks : Type 0
-SpentTicks = (cluster : Cluster) (log : List Turn) (run : IsRun cluster log) → HasEnd log Budget → cluster.config.budget ≤ items_in cluster (course_of (reverse run.turns))
+SpentTicks =
+    (cluster : Cluster) (log : List Turn) (run : IsRun cluster log) → HasEnd log Budget → cluster.config.budget ≤ items_in cluster (course_of (reverse run.turns))

@@ -21,7 +21,8 @@ use Rattle.word_order.proofs.Rows.{act_by, acts_before, number_get}
 use Rattle.word_order.proofs.Places.{AreRows, number_is}
 use Rattle.trace_rows.proofs.Alone.{nothing_more, no_act}
 use Rattle.trace_rows.proofs.InStep.{Pairwise, pairwise_both, Alike, Plain, BothSpawn, AreInStep, same_history}
-use Rattle.trace_rows.proofs.RunAs.{RunAs, within, first_is_main, main_first, spawning, row_of_child}
+use Rattle.trace_rows.proofs.RunAs.{within, first_is_main, main_first, spawning, row_of_child}
+use Rattle.trace_rows.specs.RunAs.{RunAs}
 
 -- the act, where it is the frame's
 one_each : (Rows : ℕ → ℕ → Type 0) (first second : Bool) (act made : Act) → first ≡ true → second ≡ true → Alike Rows act made →
