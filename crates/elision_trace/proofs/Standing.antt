@@ -1,8 +1,8 @@
 -- An entry of the service stands for a frame of the trace: what it goes on with is the frame's state, and what it keeps is what the
 -- children of its block gave back. One item more keeps that.
-use Rattle.std.proofs.Common.{◌≡◌, ◌≢◌, ℕ, suc, inl, inr, ℤ, true, false, Some, List, [], sym, ◌∙◌, ap, subst, arith}
+use Rattle.std.proofs.Common.{◌≡◌, ◌≢◌, ℕ, suc, inl, inr, ℤ, false, Some, List, [], sym, ◌∙◌, ap, subst, arith}
 use Rattle.backer_order.specs.Edges.{IsOn}
-use Rattle.backer_order.specs.Log.{Spawn, Event, Nothing, Acts}
+use Rattle.backer_order.specs.Log.{Spawn, Event, Acts}
 use Rattle.cilk_meaning.specs.Serve as serve
 use Rattle.cilk_meaning.specs.Serve.{Entry, Parent, after, answered}
 use Rattle.cilk_meaning.specs.Wants.{Returns, Answer}
