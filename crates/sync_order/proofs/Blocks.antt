@@ -98,7 +98,7 @@ module _ (code : Code) (early : TakesEarly code) (depth procedure : ℕ) (argume
       is = came.has_run.is;
       comes =
           one_event code event came.events (start_run came.has_run.proc arguments depth) (record { frame = f; block = block })
-              (record { frame = g; block = next }) came.has_run.comes is;
+          (record { frame = g; block = next }) came.has_run.comes is;
     };
     apart = apart;
   }
@@ -108,7 +108,7 @@ module _ (code : Code) (early : TakesEarly code) (depth procedure : ℕ) (argume
   spawn_apart block f came None child given follows is = apart_nameless block came.apart
   spawn_apart block f came (Some target) child given follows is =
       apart_more block target came.apart
-          (early.apart depth procedure arguments came.events (record { frame = f; block = block }) came.has_run target child given follows is)
+      (early.apart depth procedure arguments came.events (record { frame = f; block = block }) came.has_run target child given follows is)
 
   request_apart : (block : Block) (f : Frame) (came : Came block f) (request : Request) (follows : Answer → Option Frame) →
       look code f ≡ Requests request follows → AreApart (block_after request block)
@@ -176,11 +176,11 @@ module _ (code : Code) (early : TakesEarly code) (depth procedure : ℕ) (argume
 
   want_apart : (block : Block) (count : ℕ) (move : Move) (answer : Answer) (next : Frame → List Want) → AreApart block → Leads block move →
       ((after : Block) (g : Frame) → Came after g → AreApart (block_of after (take count (next g))))
-          → AreApart (block_of block (take (suc count) (want_and move answer next)))
+      → AreApart (block_of block (take (suc count) (want_and move answer next)))
   want_apart block count (GoesOn f) answer next apart leads later = apart
   want_apart block count (Requests request follows) answer next apart leads later =
       resumed_apart (block_after request block) count (follows answer) next leads.apart
-          (λ g led. later (block_after request block) g (leads.comes answer g led))
+      (λ g led. later (block_after request block) g (leads.comes answer g led))
   want_apart block count (Ends want) answer next apart leads later = end_more block count want leads apart
   want_apart block count Stuck answer next apart leads later = apart
 
@@ -190,7 +190,7 @@ module _ (code : Code) (early : TakesEarly code) (depth procedure : ℕ) (argume
   frame_apart [] (suc count) block f came = last_apart block count (settled code f) came.apart (settled_leads block f came)
   frame_apart (answer ∷ answers) (suc count) block f came =
       want_apart block count (settled code f) answer (wants_for code answers) came.apart (settled_leads block f came)
-          (λ after g comes. frame_apart answers count after g comes)
+      (λ after g comes. frame_apart answers count after g comes)
 
   pub block_apart : (answers : List Answer) (count : ℕ) → AreApart (block_of [] (take count (starts code depth procedure arguments answers)))
   block_apart answers count = at_proc (slice_get code.procs procedure) refl

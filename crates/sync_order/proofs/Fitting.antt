@@ -98,12 +98,14 @@ module _ (code : Code) (early : TakesEarly code) (depth procedure : ℕ) (argume
     first = one.first;
     ordered = behind.ordered;
     same = (one.same, behind.same);
-    fits =
-        (one.fits, subst (λ frame. AllFit (block_after request block) (resumed frame (wants_for code behind.ordered)) behind.ordered)
-            (sym one.led) behind.fits);
+    fits = (
+      one.fits,
+      subst (λ frame. AllFit (block_after request block) (resumed frame (wants_for code behind.ordered)) behind.ordered)
+          (sym one.led) behind.fits,
+    );
     goes =
         λ rest. ap (λ frame. Asks request ∷ resumed frame (wants_for code (behind.ordered ++ rest))) one.led
-            ∙ ap (λ wants. Asks request ∷ wants) (behind.goes rest);
+        ∙ ap (λ wants. Asks request ∷ wants) (behind.goes rest);
   }
 
   nothing_behind : (block : Block) (want : Want) (answer : Answer) (answers : List Answer) → AllFitInAnyOrder block (want ∷ []) (answer ∷ answers) →
@@ -116,14 +118,14 @@ module _ (code : Code) (early : TakesEarly code) (depth procedure : ℕ) (argume
       → Leads code early depth procedure arguments block move →
       AllFitInAnyOrder block (want_and move answer (wants_for code answers)) (answer ∷ answers) →
       ((after : Block) (g : Frame) → Came code early depth procedure arguments after g → AllFitInAnyOrder after (wants_for code answers g) answers
-          → AllOrdered after g answers) →
+      → AllOrdered after g answers) →
       MoveOrdered block move answer answers
   move_ordered block (GoesOn f) answer answers apart leads fit later =
       record { first = answer; ordered = answers; same = same_answers (answer ∷ answers); fits = tt; goes = λ rest. refl }
   move_ordered block (Requests request follows) answer answers apart leads fit later =
       request_ordered block request follows answer answers (one_ordered block request follows answer apart leads.is_free fit.0)
       (rest_ordered (block_after request block) (follows answer) answers fit.1
-          (λ g led fits. later (block_after request block) g (leads.comes answer g led) fits))
+      (λ g led fits. later (block_after request block) g (leads.comes answer g led) fits))
   move_ordered block (Ends want) answer answers apart leads fit later = absurd (nothing_behind block want answer answers fit leads)
   move_ordered block Stuck answer answers apart leads fit later =
       record { first = answer; ordered = answers; same = same_answers (answer ∷ answers); fits = tt; goes = λ rest. refl }
@@ -139,8 +141,12 @@ module _ (code : Code) (early : TakesEarly code) (depth procedure : ℕ) (argume
   all_ordered : (answers : List Answer) (block : Block) (f : Frame) → Came code early depth procedure arguments block f →
       AllFitInAnyOrder block (wants_for code answers f) answers → AllOrdered block f answers
   all_ordered [] block f came fit =
-      record { ordered = []; same = tt; fits = last_fits block (settled code f) (settled_leads code early depth procedure arguments block f came);
-          goes = λ rest. refl }
+      record {
+        ordered = [];
+        same = tt;
+        fits = last_fits block (settled code f) (settled_leads code early depth procedure arguments block f came);
+        goes = λ rest. refl;
+      }
   all_ordered (answer ∷ answers) block f came fit =
       let leads = settled_leads code early depth procedure arguments block f came in
       let all = move_ordered block (settled code f) answer answers came.apart leads fit (λ after g comes fits. all_ordered answers after g comes fits) in
@@ -176,7 +182,7 @@ module _ (code : Code) (early : TakesEarly code) (depth procedure : ℕ) (argume
             fits = subst (λ it. AllFit [] (starts_at code depth it arguments all.ordered) all.ordered) (sym is) all.fits;
             goes =
                 λ rest. subst (λ it. starts_at code depth it arguments (all.ordered ++ rest) ≡ starts_at code depth it arguments (answers ++ rest)) (sym is)
-                    (all.goes rest);
+                (all.goes rest);
           }
 
 -- ---- of a program
@@ -190,7 +196,7 @@ module _ (code : Code) (program : Program) (stands : StandsFor code program) (de
       → GoesAsOrdered program depth procedure arguments answers
   goes_as_ordered answers fit =
       let all = start_ordered code stands.early depth procedure arguments answers
-          (subst (λ wants. AllFitInAnyOrder [] wants answers) (sym (as_program answers)) fit) in
+      (subst (λ wants. AllFitInAnyOrder [] wants answers) (sym (as_program answers)) fit) in
       record {
         ordered = all.ordered;
         same = all.same;

@@ -92,10 +92,10 @@ module _ (code : Code) where
       pop_behaves f.running.operands _ (λ i rest. given_behaves (word_of (extent_of code.shared array) i) _ (λ word. free None))
   act_behaves f (Some (instr.WriteShared array)) =
       pop_behaves f.running.operands _
-          (λ v below. pop_behaves below _ (λ i rest. given_behaves (word_of (extent_of code.shared array) i) _ (λ word. free None)))
+      (λ v below. pop_behaves below _ (λ i rest. given_behaves (word_of (extent_of code.shared array) i) _ (λ word. free None)))
   act_behaves f (Some (instr.AddShared array)) =
       pop_behaves f.running.operands _
-          (λ addend below. pop_behaves below _ (λ i rest. given_behaves (word_of (extent_of code.shared array) i) _ (λ word. free None)))
+      (λ addend below. pop_behaves below _ (λ i rest. given_behaves (word_of (extent_of code.shared array) i) _ (λ word. free None)))
   act_behaves f (Some instr.PrintTop) = pop_behaves f.running.operands _ (λ v rest. free None)
   act_behaves f (Some instr.Turn) = free None
   act_behaves f (Some (instr.Call procedure)) =
