@@ -88,8 +88,13 @@ module _ (events : Events) (memory : SharedMemory) (has_returned : Returns) (sta
     | inl k ↦ elim (same_frame_or_not g frame) [
       | inr ne ↦ inl (k, λ same. absurd (ne same))
       | inl same ↦ elim (same_frame_or_not r.child child) [
-        | inl same_child ↦ inr (inr (same, record { front =
-            r.front; is = subst (λ i. Bottom (stack now node) child i r.front) same (subst (λ i. Bottom (stack now node) i g r.front) same_child r.old) }))
+        | inl same_child ↦ inr (inr (
+          same,
+          record {
+            front = r.front;
+            is = subst (λ i. Bottom (stack now node) child i r.front) same (subst (λ i. Bottom (stack now node) i g r.front) same_child r.old);
+          },
+        ))
         | inr ne ↦ inl (k, λ same' a. ne (bottom_same (stack now node) r.front a.front r.child child g frame r.old a.is).0)
       ]
     ]
@@ -131,8 +136,12 @@ module _ (events : Events) (memory : SharedMemory) (has_returned : Returns) (sta
   kept_pop now node frame child above below top others old each new t = kept_others now node frame child others t
       (λ same. elim (cut_front t.front above below t.back child frame (sym t.is ∙ ap (stack now) same ∙ old)) [
         | inl m ↦ inl (each child m)
-        | inr (rest, same_tail) ↦ inr (record { node =
-            node; front = top ++ rest; back = t.back; is = new ∙ ap (λ l. top ++ l) same_tail ∙ sym (append_assoc top rest (child ∷ (frame ∷ t.back))) })
+        | inr (rest, same_tail) ↦ inr (record {
+          node = node;
+          front = top ++ rest;
+          back = t.back;
+          is = new ∙ ap (λ l. top ++ l) same_tail ∙ sym (append_assoc top rest (child ∷ (frame ∷ t.back)));
+        })
       ])
 
   kept_leave : (now node : ℕ) (frame child g : FrameId) → Empties has_returned stack now node g → OnTop now child frame →
@@ -157,13 +166,20 @@ module _ (events : Events) (memory : SharedMemory) (has_returned : Returns) (sta
       Kept now frame child
   stands_at now (Acts node g (Spawn d)) is r frame child ih (inl h) = moved_on now node g frame child (d ∷ []) r (ih h)
   stands_at now (Acts node g (Spawn d)) is r frame child ih (inr (h, h')) =
-      inr (record { node = node; front = []; back =
-          r.below; is = subst (λ i. stack (suc now) node ≡ child ∷ (i ∷ r.below)) h (subst (λ i. stack (suc now) node ≡ i ∷ (g ∷ r.below)) h' r.new) })
+      inr (record {
+        node = node;
+        front = [];
+        back = r.below;
+        is = subst (λ i. stack (suc now) node ≡ child ∷ (i ∷ r.below)) h (subst (λ i. stack (suc now) node ≡ i ∷ (g ∷ r.below)) h' r.new);
+      })
   stands_at now (Acts node g Sync) is r frame child ih h = moved_on now node g frame child [] r (ih h.0)
   stands_at now (Acts node g (Read word value)) is r frame child ih h = moved_on now node g frame child [] r (ih h)
   stands_at now (Acts node g (Add word value addend)) is r frame child ih h =
-      elim (same_or_not (memory.home (memory.page word)) node) [ inl e' ↦ moved_on now node g frame child [] (r.own e') (ih h) | inr ne ↦
-          elim (ih h) [ inl k ↦ inl k | inr t ↦ inr (record { node = t.node; front = t.front; back = t.back; is = r.other ne t.node ∙ t.is }) ] ]
+      elim (same_or_not (memory.home (memory.page word)) node) [
+        | inl e' ↦ moved_on now node g frame child [] (r.own e') (ih h)
+        | inr ne ↦
+            elim (ih h) [ inl k ↦ inl k | inr t ↦ inr (record { node = t.node; front = t.front; back = t.back; is = r.other ne t.node ∙ t.is }) ]
+      ]
   stands_at now (Acts node g (Write word value)) is r frame child ih h = moved_on now node g frame child [] r (ih h)
   stands_at now (Acts node g (Print value)) is r frame child ih h = moved_on now node g frame child [] r (ih h)
   stands_at now (Tick node g) is r frame child ih h = moved_on now node g frame child [] r (ih h)
@@ -175,8 +191,11 @@ module _ (events : Events) (memory : SharedMemory) (has_returned : Returns) (sta
     | inl k ↦ inl k
     | inr t ↦ kept_others now node frame child r.others t
         (λ same. elim (cut_last t.front (r.front ++ r.child ∷ []) t.back child frame d (sym t.is ∙ ap (stack now) same ∙ r.old ∙ assoc r.front r.child d)) [
-          | inl (same_tail, l) ↦ absurd (h.1 (sym same_tail) (record { front = t.front; is = r.old ∙ assoc r.front r.child d ∙ ap (λ i. i ++ d ∷ []) l
-              ∙ sym (assoc t.front child d) ∙ ap (λ i. t.front ++ child ∷ (i ∷ [])) (sym same_tail) }))
+          | inl (same_tail, l) ↦ absurd (h.1 (sym same_tail) (record {
+            front = t.front;
+            is = r.old ∙ assoc r.front r.child d ∙ ap (λ i. i ++ d ∷ []) l
+                ∙ sym (assoc t.front child d) ∙ ap (λ i. t.front ++ child ∷ (i ∷ [])) (sym same_tail);
+          }))
           | inr (rest, same_tail) ↦ inr (record { node = node; front = t.front; back = rest; is = r.new ∙ same_tail })
         ])
   ]

@@ -196,10 +196,10 @@ module _ (events : Events) (memory : SharedMemory) (caching : Caching events mem
       Precedes events x y → Before events memory end word other x node y
   dag_kept end other node word x y yn ax (inl (inl (value, ay))) h =
       settled.early_first events memory caching has_returned stack edges taken end other node ay.frame word x y (Write word value) yn ay.is
-          (precedes_early x y node ay.frame (Write word value) ay.is (λ k. cc) h) ax (inl (inl (value, ay)))
+      (precedes_early x y node ay.frame (Write word value) ay.is (λ k. cc) h) ax (inl (inl (value, ay)))
   dag_kept end other node word x y yn ax (inl (inr (value, ay))) h =
       settled.early_first events memory caching has_returned stack edges taken end other node ay.frame word x y (Read word value) yn ay.is
-          (precedes_early x y node ay.frame (Read word value) ay.is (λ k. cc) h) ax (inl (inr (value, ay)))
+      (precedes_early x y node ay.frame (Read word value) ay.is (λ k. cc) h) ax (inl (inr (value, ay)))
   dag_kept end other node word x y yn ax (inr (old, ay)) h =
       settled.early_first events memory caching has_returned stack edges taken end other node ay.frame word x y (Add word old ay.addend) yn ay.is
-          (precedes_early x y node ay.frame (Add word old ay.addend) ay.is (λ k. cc) h) ax (inr (old, ay))
+      (precedes_early x y node ay.frame (Add word old ay.addend) ay.is (λ k. cc) h) ax (inr (old, ay))

@@ -113,23 +113,34 @@ module _ (events : Events) where
   -- what an arrival is
   as_page : (node page a : ℕ) → IsArrival events node page a →
       ((h k : ℕ) × (words : ℕ → ℤ) × (events a ≡ Took node k) × (events k ≡ Post h node (Page page words)))
-          ⊎ ((words : ℕ → ℤ) × (events a ≡ OwnFetch node page words))
+      ⊎ ((words : ℕ → ℤ) × (events a ≡ OwnFetch node page words))
   as_page node page a (words, ByPage h k t e) = inl (h, k, words, t, e)
   as_page node page a (words, ByOwn e) = inr (words, e)
 
   page_at : (node page a k : ℕ) (e : Event) → events k ≡ e → events a ≡ Took node k → Decided (IsArrival events node page a)
   page_at node page a k (Post other r (Page u ws)) is t = elim (same_or_not r node) [
-    | inr ne ↦ inr (λ x. elim (as_page node page a x) [ inl (h, k', ws', t', e') ↦ let same : k' ≡ k = cc in let e'' : events k ≡ Post h node (Page page ws') =
-        subst (λ i. events i ≡ Post h node (Page page ws')) same e' in ne cc | inr (ws', e') ↦ absurd cc ])
+    | inr ne ↦ inr (λ x. elim (as_page node page a x) [
+      | inl (h, k', ws', t', e') ↦
+          let same : k' ≡ k = cc in
+          let e'' : events k ≡ Post h node (Page page ws') = subst (λ i. events i ≡ Post h node (Page page ws')) same e' in ne cc
+      | inr (ws', e') ↦ absurd cc
+    ])
     | inl e ↦ elim (same_or_not u page) [
-      | inr ne ↦ inr (λ x. elim (as_page node page a x) [ inl (h, k', ws', t', e') ↦ let same : k' ≡ k = cc in let e'' : events k
-          ≡ Post h node (Page page ws') = subst (λ i. events i ≡ Post h node (Page page ws')) same e' in ne cc | inr (ws', e') ↦ absurd cc ])
+      | inr ne ↦ inr (λ x. elim (as_page node page a x) [
+        | inl (h, k', ws', t', e') ↦ let same : k' ≡ k = cc in let e'' : events k
+            ≡ Post h node (Page page ws') = subst (λ i. events i ≡ Post h node (Page page ws')) same e' in ne cc
+        | inr (ws', e') ↦ absurd cc
+      ])
       | inl e' ↦ inl (ws, ByPage other k t cc)
     ]
   ]
   page_at node page a k e is t =
-      inr (λ x. elim (as_page node page a x) [ inl (h, k', ws', t', e') ↦ let same : k' ≡ k = cc in let e'' : events k ≡ Post h node (Page page ws') =
-          subst (λ i. events i ≡ Post h node (Page page ws')) same e' in absurd cc | inr (ws', e') ↦ absurd cc ])
+      inr (λ x. elim (as_page node page a x) [
+        | inl (h, k', ws', t', e') ↦
+            let same : k' ≡ k = cc in
+            let e'' : events k ≡ Post h node (Page page ws') = subst (λ i. events i ≡ Post h node (Page page ws')) same e' in absurd cc
+        | inr (ws', e') ↦ absurd cc
+      ])
 
   arrival_at : (node page a : ℕ) (e : Event) → events a ≡ e → Decided (IsArrival events node page a)
   arrival_at node page a (Took other k) is = elim (same_or_not other node) [

@@ -23,8 +23,15 @@ module _ (events : Events) (memory : SharedMemory) (caching : Caching events mem
   pub trans : (node x other y r z : ℕ) → Bef node x other y → Bef other y r z → Bef node x r z
   trans node x other y r z (inl (inl a)) (inl (inl b)) =
       let e = last.moment_unique events memory caching other word y a.second b.first a.second_is b.first_is in
-      inl (inl (record { first = a.first; second = b.second; first_is = a.first_is; second_is = b.second_is; first_in = a.first_in; second_in = b.second_in;
-          order = lex a.first a.second b.second x y z a.order (subst (λ i. (i < b.second) ⊎ ((i ≡ b.second) × (y < z))) (sym e) b.order) }))
+      inl (inl (record {
+        first = a.first;
+        second = b.second;
+        first_is = a.first_is;
+        second_is = b.second_is;
+        first_in = a.first_in;
+        second_in = b.second_in;
+        order = lex a.first a.second b.second x y z a.order (subst (λ i. (i < b.second) ⊎ ((i ≡ b.second) × (y < z))) (sym e) b.order);
+      }))
   trans node x other y r z (inl (inl a)) (inl (inr b)) =
       inl (inr (record { first = a.first; first_is = a.first_is; first_in = a.first_in; second_is = b.second_is }))
   trans node x other y r z (inl (inl a)) (inr b) = absurd (b.first_is a.second a.second_in a.second_is)
@@ -114,7 +121,7 @@ module _ (events : Events) (memory : SharedMemory) (caching : Caching events mem
 
   as_act : (node i : ℕ) → IsAccess events node word i →
       ((v : ℤ) × (frame : FrameId) × (events i ≡ Acts node frame (Write word v))) ⊎ (((v : ℤ) × (frame : FrameId) × (events i ≡ Acts node frame (Read word v)))
-          ⊎ ((old : ℤ) × (frame : FrameId) × (d : ℤ) × (events i ≡ Acts node frame (Add word old d))))
+      ⊎ ((old : ℤ) × (frame : FrameId) × (d : ℤ) × (events i ≡ Acts node frame (Add word old d))))
   as_act node i (inl (inl a)) = inl (a.0, a.1.frame, a.1.is)
   as_act node i (inl (inr a)) = inr (inl (a.0, a.1.frame, a.1.is))
   as_act node i (inr a) = inr (inr (a.0, a.1.frame, a.1.addend, a.1.is))
@@ -153,8 +160,11 @@ module _ (events : Events) (memory : SharedMemory) (caching : Caching events mem
         | inr not ↦ record {
           list = u.list;
           all =
-              λ node i l a. elim (compare i k) [ Less3 l' ↦ u.all node i l' a | Same3 e ↦ absurd (not node (subst (λ j. IsAccess events node word j) e a))
-                  | More3 l' ↦ absurd (omega arith) ];
+              λ node i l a. elim (compare i k) [
+                | Less3 l' ↦ u.all node i l' a
+                | Same3 e ↦ absurd (not node (subst (λ j. IsAccess events node word j) e a))
+                | More3 l' ↦ absurd (omega arith)
+              ];
           only = λ i m. let l = u.only i m in omega arith;
           sorted = u.sorted;
         }
@@ -163,8 +173,12 @@ module _ (events : Events) (memory : SharedMemory) (caching : Caching events mem
             record {
               list = r.list;
               all =
-                  λ node i l a. elim (compare i k) [ Less3 l' ↦ r.keeps i (inr (u.all node i l' a)) | Same3 e ↦ r.keeps i (inl (sym e)) | More3 l' ↦
-                      absurd (omega arith) ];
+                  λ node i l a. elim (compare i k) [
+                    | Less3 l' ↦ r.keeps i (inr (u.all node i l' a))
+                    | Same3 e ↦ r.keeps i (inl (sym e))
+                    | More3 l' ↦
+                        absurd (omega arith)
+                  ];
               only = λ i m. elim (r.only i m) [ inl e ↦ omega arith | inr m' ↦ let l = u.only i m' in omega arith ];
               sorted = r.sorted;
             }

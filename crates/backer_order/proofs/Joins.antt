@@ -90,7 +90,7 @@ module _ (events : Events) (memory : SharedMemory) (has_returned : Returns) (sta
       (places.all_invs events memory has_returned stack edges.frames taken j.at) park.before grant.before (park.sender, inr park.is)
       (grant.sender, inl grant.is) park.none grant.none in
       absurd (not_both park.post park.sender grant.sender j.node frame park.is
-          (subst (λ i. events i ≡ Post grant.sender j.node (Grant frame)) (sym same) grant.is))
+      (subst (λ i. events i ≡ Post grant.sender j.node (Grant frame)) (sym same) grant.is))
     where
       not_both : (k sender other node : ℕ) (frame : FrameId) → events k ≡ Post sender node (Park frame) →
           events k ≡ Post other node (Grant frame) → ⊥

@@ -10,6 +10,6 @@ location_consistent events memory returns stack stage now caching edges ready = 
   lists = λ word. home_list events memory caching now word;
   dag = λ node other word act later inside act_is later_is precedes.
       dag_kept events memory caching returns stack edges
-          (taken events memory returns stack edges.frames stage ready) now node other word act later inside act_is later_is precedes;
+      (taken events memory returns stack edges.frames stage ready) now node other word act later inside act_is later_is precedes;
   reads = reads_last events memory caching now;
 }

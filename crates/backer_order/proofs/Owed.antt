@@ -73,7 +73,7 @@ module _ (push pop : ℕ → Bool) where
   pushed (suc n) =
       let e = pushed n in
       choose (λ x. EachIn (λ i. push i ≡ true) x) (pop n) (rest_of (queue push pop n)) (cond (push n) (queue push pop n ++ n ∷ []) (queue push pop n))
-          (each_rest (λ i. push i ≡ true) (queue push pop n) e) (pushed_on n (push n) (queue push pop n) refl e)
+      (each_rest (λ i. push i ≡ true) (queue push pop n) e) (pushed_on n (push n) (queue push pop n) refl e)
 
   pub head-pushed : (r t : ℕ) → Head push pop r t → push t ≡ true
   head-pushed r t a =

@@ -244,8 +244,11 @@ module _ (events : Events) (memory : SharedMemory) (caching : Caching events mem
     before = omega (arith, r.before);
     arrives = r.arrives;
     kept =
-        λ i h k e. elim (compare i x) [ Less3 l' ↦ r.kept i h l' e | Same3 e' ↦ act_no_drop x node page act (subst (λ y. events y ≡ Drop node page) e' e)
-            | More3 l' ↦ none i l' k (inl e) ];
+        λ i h k e. elim (compare i x) [
+          | Less3 l' ↦ r.kept i h l' e
+          | Same3 e' ↦ act_no_drop x node page act (subst (λ y. events y ≡ Drop node page) e' e)
+          | More3 l' ↦ none i l' k (inl e)
+        ];
     last = λ i h k e. elim (compare i x) [
       | Less3 l' ↦ r.last i h l' e
       | Same3 e' ↦ act_no_arrival x node page e.0 act (subst (λ y. Arrives events node page y e.0) e' e.1)
@@ -260,8 +263,13 @@ module _ (events : Events) (memory : SharedMemory) (caching : Caching events mem
   dropped node page x a now words item act r l absent = elim (find_first (Leave node page) (decide_leave node page) x now) [
     | inr none ↦ absurd (absent a words (stays node page x a now words act r l none))
     | inl hit ↦ elim (hit.here) [
-      | inl d ↦ record { at =
-          hit.at; after = hit.after; before = hit.before; is = d; resident = stays node page x a hit.at words act r (omega (arith, hit.after)) hit.none }
+      | inl d ↦ record {
+        at = hit.at;
+        after = hit.after;
+        before = hit.before;
+        is = d;
+        resident = stays node page x a hit.at words act r (omega (arith, hit.after)) hit.none;
+      }
       | inr (ws, a2) ↦
           let b = behind node page hit.at ws a2 in
           let h = b.after x item hit.after in
@@ -300,8 +308,8 @@ module _ (events : Events) (memory : SharedMemory) (caching : Caching events mem
             record { after = hit.after; sends = hit.here; none = hit.none } in
             elim (compare hit.at K) [
               | More3 l' ↦ absurd (omega (arith, hit.before))
-              | Same3 e ↦ let (m, t, l') =
-                  settled_received node K now st in (hit.at, m, first, subst (λ y. Received events y m) (sym e) t, l')
+              | Same3 e ↦
+                  let (m, t, l') = settled_received node K now st in (hit.at, m, first, subst (λ y. Received events y m) (sym e) t, l')
               | Less3 l' ↦
                   let cl = caching.cleans node K part sd in
                   let (z', last, none) = cl.marked word (sym pg) marked in
@@ -331,8 +339,20 @@ module _ (events : Events) (memory : SharedMemory) (caching : Caching events mem
         let (v, wr) = z.here in
         record {
           at = m;
-          moment = inl (tx, inl (record { arrival = a; words = words; resident = r; write =
-              z.at; value = v; last = record { after = z.after; before = z.before; writes = wr; none = z.none }; post = k; first = first; received = t }));
+          moment = inl (
+            tx,
+            inl (record {
+              arrival = a;
+              words = words;
+              resident = r;
+              write = z.at;
+              value = v;
+              last = record { after = z.after; before = z.before; writes = wr; none = z.none };
+              post = k;
+              first = first;
+              received = t;
+            }),
+          );
           before = b;
         }
   ]
@@ -357,9 +377,12 @@ module _ (events : Events) (memory : SharedMemory) (caching : Caching events mem
       x < y → (mo : Stay events memory node word y m) → a ≡ (start_of node word y m mo).0 → Has node word x (suc m)
   same_stay node word x y a m words r ax l (inr d) e =
       let r' : Resident events node (memory.page word) x (d.arrival) d.words =
-      record { before =
-          omega (arith, r.before); arrives = d.resident.arrives; kept = subst (λ i. NoneBetween (λ j. events j ≡ Drop node (memory.page word)) i x) e r.kept;
-          last = subst (λ i. NoneBetween (IsArrival events node (memory.page word)) i x) e r.last } in
+      record {
+        before = omega (arith, r.before);
+        arrives = d.resident.arrives;
+        kept = subst (λ i. NoneBetween (λ j. events j ≡ Drop node (memory.page word)) i x) e r.kept;
+        last = subst (λ i. NoneBetween (IsArrival events node (memory.page word)) i x) e r.last;
+      } in
       record {
         at = m;
         moment = inl (ax, inr (record { arrival = d.arrival; words = d.words; resident = r'; none = λ i h k. d.none i h (omega arith); source = d.source }));
@@ -379,8 +402,20 @@ module _ (events : Events) (memory : SharedMemory) (caching : Caching events mem
             let make : (k t : ℕ) → FirstSending events node (memory.page word) (z.at) k → Received events k t → t < suc m → Has node word x (suc m)
             = λ k t first tk h. record {
               at = t;
-              moment = inl (ax, inl (record { arrival = a; words = words; resident = r; write =
-                  z.at; value = v; last = record { after = z.after; before = z.before; writes = wr; none = z.none }; post = k; first = first; received = tk }));
+              moment = inl (
+                ax,
+                inl (record {
+                  arrival = a;
+                  words = words;
+                  resident = r;
+                  write = z.at;
+                  value = v;
+                  last = record { after = z.after; before = z.before; writes = wr; none = z.none };
+                  post = k;
+                  first = first;
+                  received = tk;
+                }),
+              );
               before = h;
             } in
             elim (find_first (Sends events node (memory.page word)) (decide_sending events node (memory.page word)) z.at (suc d.post)) [
@@ -507,7 +542,7 @@ module _ (events : Events) (memory : SharedMemory) (caching : Caching events mem
           | inl o ↦ elim (compare b.from sv.post) [
             | Less3 k ↦
                 let an =
-                    caching.access.alone node sv.post b.from o.home (memory.home (memory.page word)) (Fetch page) (AddTo frame word d) sv.posted tt k o.fetch in
+                caching.access.alone node sv.post b.from o.home (memory.home (memory.page word)) (Fetch page) (AddTo frame word d) sv.posted tt k o.fetch in
                 let l2 = o.back sv.post an in absurd (omega arith)
             | Same3 e ↦
                 let fe = o.fetch in
@@ -515,7 +550,7 @@ module _ (events : Events) (memory : SharedMemory) (caching : Caching events mem
                 subst (λ i. events i ≡ Post node o.home (Fetch page)) e fe in let po = sv.posted in absurd cc
             | More3 k ↦
                 let l2 = done_later b.from (caching.access.alone node b.from sv.post (memory.home (memory.page word)) o.home (AddTo frame word d)
-                    (Fetch page) o.fetch tt k sv.posted) in
+                (Fetch page) o.fetch tt k sv.posted) in
                 let l3 = b.from_first in omega arith
           ]
         ]

@@ -28,7 +28,7 @@ module _ (events : Events) (memory : SharedMemory) (has_returned : Returns) (sta
       (IsOn frame top → Comes now node frame) → IsOn frame (stack (suc now) other) → IsOn frame (stack now other) ⊎ Comes now other frame
   moved now node other g frame top r go m = old_mem now node other frame (top ++ g ∷ r.below) r.others r.new
       (λ k. elim (mem_cases frame top (g ∷ r.below) k)
-          [ inl h ↦ inr (go h) | inr h ↦ inl (subst (λ l. IsOn frame l) (sym r.old) (mem_right frame r.above (g ∷ r.below) h)) ]) m
+      [ inl h ↦ inr (go h) | inr h ↦ inl (subst (λ l. IsOn frame l) (sym r.old) (mem_right frame r.above (g ∷ r.below) h)) ]) m
 
   top_comes : (now node : ℕ) (g d frame : FrameId) → events now ≡ Acts node g (Spawn d) → IsOn frame (d ∷ []) → Comes now node frame
   top_comes now node g d frame is (inl h) = inl (g, subst (λ i. events now ≡ Acts node g (Spawn i)) h is)
@@ -44,7 +44,7 @@ module _ (events : Events) (memory : SharedMemory) (has_returned : Returns) (sta
   comes_at now (Acts node g (Read word value)) is r other frame m = moved now node other g frame [] r (λ h. absurd h) m
   comes_at now (Acts node g (Add word value addend)) is r other frame m =
       elim (same_or_not (memory.home (memory.page word)) node)
-          [ inl e' ↦ moved now node other g frame [] (r.own e') (λ h. absurd h) m | inr ne ↦ inl (subst (λ l. IsOn frame l) (r.other ne other) m) ]
+      [ inl e' ↦ moved now node other g frame [] (r.own e') (λ h. absurd h) m | inr ne ↦ inl (subst (λ l. IsOn frame l) (r.other ne other) m) ]
   comes_at now (Acts node g (Write word value)) is r other frame m = moved now node other g frame [] r (λ h. absurd h) m
   comes_at now (Acts node g (Print value)) is r other frame m = moved now node other g frame [] r (λ h. absurd h) m
   comes_at now (Acts node g Sync) is r other frame m = moved now node other g frame [] r (λ h. absurd h) m
@@ -238,7 +238,7 @@ module _ (events : Events) (memory : SharedMemory) (has_returned : Returns) (sta
   pub sent_out : (now node : ℕ) (frame : FrameId) → Invs now → (t : Sent now node frame) → (i : ℕ) → t.post < i → i ≤ now → Out frame i
   sent_out now node frame invs t i h h' =
       stays_out frame t.post now t.out (λ j l l' sp. not_again t.post t.node frame j (invs t.post (omega (arith, t.before))) t.on (omega arith) sp)
-          t.none i h h'
+      t.none i h h'
 
   distinct_move : (now node other : ℕ) (g : FrameId) (top : List FrameId) → Inv now → (r : Moves has_returned stack now node g top) →
       Distinct (top ++ g ∷ r.below) → Distinct (stack (suc now) other)
@@ -250,14 +250,18 @@ module _ (events : Events) (memory : SharedMemory) (has_returned : Returns) (sta
 
   distinct_at : (now : ℕ) (x : Event) → events now ≡ x → StackRule memory has_returned stack now x → Inv now → (other : ℕ) →
       Distinct (stack (suc now) other)
-  distinct_at now (Acts node g (Spawn d)) is r inv other = distinct_move now node other g (d ∷ []) inv r
-      ((λ m. not_again now node d now inv (subst (λ l. IsOn d l) (sym r.old) (mem_right d r.above (g ∷ r.below) m)) (omega arith) (node, g, is)),
-          rest_distinct now node g (d ∷ []) inv r)
+  distinct_at now (Acts node g (Spawn d)) is r inv other = distinct_move now node other g (d ∷ []) inv r (
+    (λ m. not_again now node d now inv (subst (λ l. IsOn d l) (sym r.old) (mem_right d r.above (g ∷ r.below) m)) (omega arith) (node, g, is)),
+    rest_distinct now node g (d ∷ []) inv r,
+  )
   distinct_at now (Acts node g (Read word value)) is r inv other =
       distinct_move now node other g [] inv r (rest_distinct now node g [] inv r)
   distinct_at now (Acts node g (Add word value addend)) is r inv other =
-      elim (same_or_not (memory.home (memory.page word)) node) [ inl e' ↦ distinct_move now node other g [] inv (r.own e')
-          (rest_distinct now node g [] inv (r.own e')) | inr ne ↦ subst (λ l. Distinct l) (sym (r.other ne other)) (inv.distinct other) ]
+      elim (same_or_not (memory.home (memory.page word)) node) [
+        | inl e' ↦ distinct_move now node other g [] inv (r.own e')
+            (rest_distinct now node g [] inv (r.own e'))
+        | inr ne ↦ subst (λ l. Distinct l) (sym (r.other ne other)) (inv.distinct other)
+      ]
   distinct_at now (Acts node g (Write word value)) is r inv other =
       distinct_move now node other g [] inv r (rest_distinct now node g [] inv r)
   distinct_at now (Acts node g (Print value)) is r inv other = distinct_move now node other g [] inv r (rest_distinct now node g [] inv r)
@@ -307,8 +311,11 @@ module _ (events : Events) (memory : SharedMemory) (has_returned : Returns) (sta
         apart = λ node other frame m m'. elim (comes now node frame m) [
           | inl o ↦
               elim (comes now other frame m') [ inl o' ↦ inv.apart node other frame o o' | inr k' ↦ absurd (came_not_old now other node frame invs tu k' o) ]
-          | inr k ↦ elim (comes now other frame m') [ inl o' ↦ absurd (came_not_old now node other frame invs tu k o') | inr k' ↦
-              came_same now node other frame k k' ]
+          | inr k ↦ elim (comes now other frame m') [
+            | inl o' ↦ absurd (came_not_old now node other frame invs tu k o')
+            | inr k' ↦
+                came_same now node other frame k k'
+          ]
         ];
         born = λ node frame m. elim (comes now node frame m) [
           | inl o ↦ elim (inv.born node frame o) [ inl z ↦ inl z | inr (i, l, sp) ↦ inr (i, omega arith, sp) ]
@@ -330,7 +337,7 @@ module _ (events : Events) (memory : SharedMemory) (has_returned : Returns) (sta
     distinct = λ node. subst (λ l. Distinct l) (sym (frames.start node)) (start_distinct node);
     apart =
         λ node other frame m m'. (start_mem node frame (subst (λ l. IsOn frame l) (frames.start node) m)).0
-            ∙ sym (start_mem other frame (subst (λ l. IsOn frame l) (frames.start other) m')).0;
+        ∙ sym (start_mem other frame (subst (λ l. IsOn frame l) (frames.start other) m')).0;
     born = λ node frame m. inl (start_mem node frame (subst (λ l. IsOn frame l) (frames.start node) m)).1;
   }
 

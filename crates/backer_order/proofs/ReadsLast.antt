@@ -36,8 +36,14 @@ module _ (events : Events) (memory : SharedMemory) (caching : Caching events mem
   of_write_stay node word y m x (inl d) = elim (compare d.write y) [
     | Less3 h ↦ absurd (d.last.none y h (omega arith) x)
     | More3 h ↦ absurd (omega (arith, d.last.before))
-    | Same3 e ↦ record { arrival = d.arrival; words = d.words; resident =
-        d.resident; post = d.post; first = subst (λ i. FirstSending events node (memory.page word) i d.post) e d.first; received = d.received }
+    | Same3 e ↦ record {
+      arrival = d.arrival;
+      words = d.words;
+      resident = d.resident;
+      post = d.post;
+      first = subst (λ i. FirstSending events node (memory.page word) i d.post) e d.first;
+      received = d.received;
+    }
   ]
 
   pub of_write : (node word y m : ℕ) → IsWrite events node word y → Moment events memory node word y m → Sent node word y m
@@ -77,7 +83,7 @@ module _ (events : Events) (memory : SharedMemory) (caching : Caching events mem
             let b = pages.behind events memory caching node (memory.page word) cl.arrival cl.found found.arrives in
             let l = (b.after y (pages.write_item events memory caching node word y x) h).0 in
             let d = pages.dropped events memory caching node (memory.page word) y o.arrival b.from o.words
-                (pages.write_item events memory caching node word y x) act o.resident l b.absent in
+            (pages.write_item events memory caching node word y x) act o.resident l b.absent in
             let dr = caching.drops node (memory.page word) d.at d.is in
             let same : dr.arrival ≡ o.arrival =
             pages.resident_unique events memory caching node (memory.page word) d.at dr.arrival o.arrival dr.found o.words dr.resident
@@ -86,9 +92,11 @@ module _ (events : Events) (memory : SharedMemory) (caching : Caching events mem
             let (mk, rk, bk) = pages.settled_received events memory caching node cd.post d.at cd.settled in
             let lk = pages.received_later events memory caching cd.post mk rk in
             absurd (o.first.none cd.post cd.after (omega (arith, d.before, b.from_first, b.at_first, found.before)) (cd.part, cd.sends, cd.page))
-      ] in
-      (part.words word, MergedAt node o.post part sd o.received pg
-          (cl.all word y (sym pg) x since o.first.after (λ i k k' h. o.first.none i k k' (subst (λ j. Sends events node j i) pg h))) refl)
+      ] in (
+        part.words word,
+        MergedAt node o.post part sd o.received pg
+            (cl.all word y (sym pg) x since o.first.after (λ i k k' h. o.first.none i k k' (subst (λ j. Sends events node j i) pg h))) refl,
+      )
 
   -- an access that leaves a value is a change at its moment
   leaving_case : (node word y : ℕ) → IsLeaving events memory node word y →
@@ -152,8 +160,10 @@ module _ (events : Events) (memory : SharedMemory) (caching : Caching events mem
       Resident events node (memory.page word) x a words → LastWrite events node word a (suc x) z value → Sent node word z m →
       Moment events memory node word x m
   with_z node word x a z value m words tx r l o =
-      inl (tx,
-          inl (record { arrival = a; words = words; resident = r; write = z; value = value; last = l; post = o.post; first = o.first; received = o.received }))
+      inl (
+        tx,
+        inl (record { arrival = a; words = words; resident = r; write = z; value = value; last = l; post = o.post; first = o.first; received = o.received }),
+      )
 
   earlier_last : (now node word x a z : ℕ) (value : ℤ) (other y m m' : ℕ) (words : ℕ → ℤ) →
       Resident events node (memory.page word) x a words → LastWrite events node word a (suc x) z value → Stay events memory node word x m →
@@ -161,23 +171,37 @@ module _ (events : Events) (memory : SharedMemory) (caching : Caching events mem
       → IsLeaving events memory other word y → Moment events memory other word y m' → (m' < m) ⊎ ((m' ≡ m) × (y < x)) →
       (y ≡ z) ⊎ Before events memory now word other y node z
   earlier_last now node word x a z value other y m m' words r l mx lm lm' lv my (inl h) =
-      inr (inl (inl (record { first = m'; second = m; first_is = my; second_is =
-          own_moment node word z value m l.writes (of_z node word x a z value m words r l mx); first_in = lm'; second_in = lm; order = inl h })))
+      inr (inl (inl (record {
+        first = m';
+        second = m;
+        first_is = my;
+        second_is = own_moment node word z value m l.writes (of_z node word x a z value m words r l mx);
+        first_in = lm';
+        second_in = lm;
+        order = inl h;
+      })))
   earlier_last now node word x a z value other y m m' words r l mx lm lm' lv my (inr (e, h)) =
       let oz = of_z node word x a z value m words r l mx in
       elim (leaving_case other word y lv) [
         | inr (ay, ch) ↦
             let same : m' ≡ y = add_moment other word y m' ay my in
             absurd (pages.received_no_act events memory caching oz.post m other ay.1.frame (Add word ay.0 ay.1.addend) oz.received
-                (subst (λ i. events i ≡ Acts other ay.1.frame (Add word ay.0 ay.1.addend)) (sym same ∙ e) ay.1.is))
+            (subst (λ i. events i ≡ Acts other ay.1.frame (Add word ay.0 ay.1.addend)) (sym same ∙ e) ay.1.is))
         | inl iy ↦
             let oy = of_write other word y m' iy my in
             let k : oy.post ≡ oz.post = one_source oy.post oz.post m (subst (λ i. Received events oy.post i) e oy.received) oz.received in
             let same_node : other ≡ node = one_sender other node (memory.page word) oy.post oz.post oy.first.sends oz.first.sends k in
             elim (compare y z) [
               | Same3 e' ↦ inl e'
-              | Less3 h' ↦ inr (inl (inl (record { first = m'; second = m; first_is = my; second_is = own_moment node word z value m l.writes oz;
-                  first_in = lm'; second_in = lm; order = inr (e, h') })))
+              | Less3 h' ↦ inr (inl (inl (record {
+                first = m';
+                second = m;
+                first_is = my;
+                second_is = own_moment node word z value m l.writes oz;
+                first_in = lm';
+                second_in = lm;
+                order = inr (e, h');
+              })))
               | More3 h' ↦ absurd (l.none y h' (omega arith) (subst (λ i. IsWrite events i word y) same_node iy))
             ]
       ]
@@ -207,7 +231,7 @@ module _ (events : Events) (memory : SharedMemory) (caching : Caching events mem
   stay_unique node word x m m' (inr d) (inr d') =
       let a = pages.resident_unique events memory caching node (memory.page word) x d.arrival d'.arrival d.words d'.words d.resident d'.resident in
       pages.source_same events memory caching node (memory.page word) d'.arrival m m'
-          (subst (λ i. Source events node (memory.page word) i m) a d.source) d'.source
+      (subst (λ i. Source events node (memory.page word) i m) a d.source) d'.source
 
   pub moment_unique : (node word x m m' : ℕ) → Moment events memory node word x m → Moment events memory node word x m' → m ≡ m'
   moment_unique node word x m m' (inl d) (inl d') = stay_unique node word x m m' d.1 d'.1
@@ -236,8 +260,24 @@ module _ (events : Events) (memory : SharedMemory) (caching : Caching events mem
                   let first : FirstSending events node (memory.page word) (z.at) (hit.at) =
                   record { after = hit.after; sends = hit.here; none = hit.none } in
                   elim (find_first (Received events hit.at) (decide_received events hit.at) z.at now) [
-                    | inl t ↦ inl (t.at, t.before, inl (ax, inl (record { arrival = a; words = words; resident = r; write = z.at; value = value; last = l;
-                        post = hit.at; first = first; received = t.here })))
+                    | inl t ↦ inl (
+                      t.at,
+                      t.before,
+                      inl (
+                        ax,
+                        inl (record {
+                          arrival = a;
+                          words = words;
+                          resident = r;
+                          write = z.at;
+                          value = value;
+                          last = l;
+                          post = hit.at;
+                          first = first;
+                          received = t.here;
+                        }),
+                      ),
+                    )
                     | inr none ↦ inr (λ m lm mo.
                         let o = of_z node word x a z.at value m words r l (stay_of node word x m ax mo) in
                         let k : o.post ≡ hit.at = elim (compare o.post hit.at) [
@@ -271,8 +311,15 @@ module _ (events : Events) (memory : SharedMemory) (caching : Caching events mem
               at = z;
               leaves = OfWrite l.writes;
               earlier = zx;
-              before = inl (inl (record { first = m; second =
-                  m; first_is = own_moment node word z value' m l.writes oz; second_is = mo; first_in = lm; second_in = lm; order = inr (refl, zx) }));
+              before = inl (inl (record {
+                first = m;
+                second = m;
+                first_is = own_moment node word z value' m l.writes oz;
+                second_is = mo;
+                first_in = lm;
+                second_in = lm;
+                order = inr (refl, zx);
+              }));
               last = λ other y ly lv b. elim b [
                 | inl (inl both) ↦ earlier_last now node word x a z value' other y m both.first words r l stay lm both.first_in lv both.first_is
                     (subst (λ i. (both.first < i) ⊎ ((both.first ≡ i) × (y < x))) (moment_unique node word x both.second m both.second_is mo) both.order)
@@ -341,19 +388,33 @@ module _ (events : Events) (memory : SharedMemory) (caching : Caching events mem
           at = u;
           leaves = lv;
           earlier = omega (arith, tx);
-          before = inl (inl (record { first =
-              u; second = t; first_is = inr (au, refl); second_is = mo; first_in = omega (arith, xn, tx); second_in = tn; order = inl before }));
+          before = inl (inl (record {
+            first = u;
+            second = t;
+            first_is = inr (au, refl);
+            second_is = mo;
+            first_in = omega (arith, xn, tx);
+            second_in = tn;
+            order = inl before;
+          }));
           last = λ other y ly lv bf.
               let (m, my, lt) = changed_before other y lv bf in
               elim (compare m u) [
-                | Less3 h ↦ inr (inl (inl (record { first = m; second = u; first_is = my; second_is = inr (au, refl); first_in = omega (arith, xn, tx);
-                    second_in = omega (arith, xn, tx); order = inl h })))
+                | Less3 h ↦ inr (inl (inl (record {
+                  first = m;
+                  second = u;
+                  first_is = my;
+                  second_is = inr (au, refl);
+                  first_in = omega (arith, xn, tx);
+                  second_in = omega (arith, xn, tx);
+                  order = inl h;
+                })))
                 | More3 h ↦ absurd (none m h lt (change_at other word y m lv my))
                 | Same3 h ↦ elim (leaving_case other word y lv) [
                   | inl iy ↦
                       let o = of_write other word y m iy my in
                       absurd (pages.received_no_act events memory caching o.post u node' frame (Add word old d)
-                          (subst (λ i. Received events o.post i) h o.received) is)
+                      (subst (λ i. Received events o.post i) h o.received) is)
                   | inr (ay, ch) ↦ inl (sym (add_moment other word y m ay my) ∙ h)
                 ]
               ];
@@ -388,8 +449,15 @@ module _ (events : Events) (memory : SharedMemory) (caching : Caching events mem
           last = λ other y ly lv bf.
               let (m, my, lt) = changed_before other y lv bf in
               elim (compare m u) [
-                | Less3 h ↦ inr (inl (inl (record { first = m; second = u; first_is = my; second_is = mz; first_in = omega (arith, xn, tx);
-                    second_in = omega (arith, xn, tx); order = inl h })))
+                | Less3 h ↦ inr (inl (inl (record {
+                  first = m;
+                  second = u;
+                  first_is = my;
+                  second_is = mz;
+                  first_in = omega (arith, xn, tx);
+                  second_in = omega (arith, xn, tx);
+                  order = inl h;
+                })))
                 | More3 h ↦ absurd (none m h lt (change_at other word y m lv my))
                 | Same3 h ↦ elim (leaving_case other word y lv) [
                   | inr (ay, ch) ↦ absurd (pages.received_no_act events memory caching k u other ay.1.frame (Add word ay.0 ay.1.addend) rc
@@ -401,8 +469,15 @@ module _ (events : Events) (memory : SharedMemory) (caching : Caching events mem
                       one_sender other node' (memory.page word) oy.post k oy.first.sends (part, sd, pg) kk in
                       elim (compare y z) [
                         | Same3 e' ↦ inl e'
-                        | Less3 h' ↦ inr (inl (inl (record { first = m; second = u; first_is = my; second_is = mz; first_in = omega (arith, xn, tx);
-                            second_in = omega (arith, xn, tx); order = inr (h, h') })))
+                        | Less3 h' ↦ inr (inl (inl (record {
+                          first = m;
+                          second = u;
+                          first_is = my;
+                          second_is = mz;
+                          first_in = omega (arith, xn, tx);
+                          second_in = omega (arith, xn, tx);
+                          order = inr (h, h');
+                        })))
                         | More3 h' ↦ absurd (l.none y h' (subst (λ i. y < i) kk oy.first.after) (subst (λ i. IsWrite events i word y) same_node iy))
                       ]
                 ]
@@ -480,7 +555,7 @@ module _ (events : Events) (memory : SharedMemory) (caching : Caching events mem
             home_case now node word x b.at xn (omega (arith, b.at_first, r.before)) mo
             (λ k other page sn rc. page_not_received node (memory.page word) a words b k other page sn rc)
             (λ other y ay e l. given_no_act node (memory.page word) a other ay.1.frame words (Add word ay.0 ay.1.addend) b
-                (subst (λ i. events i ≡ Acts other ay.1.frame (Add word ay.0 ay.1.addend)) e ay.1.is))
+            (subst (λ i. events i ≡ Acts other ay.1.frame (Add word ay.0 ay.1.addend)) e ay.1.is))
             value (subst (λ i. HomeWord events memory word (b.at) i) (sym same) (b.given word refl))
       ]
     where

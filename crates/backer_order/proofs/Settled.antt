@@ -49,7 +49,7 @@ module _ (events : Events) (memory : SharedMemory) (caching : Caching events mem
   early_born zero frame x h = absurd h
   early_born (suc now) frame x h =
       elim (blocks.early_step events memory has_returned stack edges now frame x h)
-          [ inl k ↦ born_more frame now (early_born now frame x k) | inr k ↦ newly_born now frame x k ]
+      [ inl k ↦ born_more frame now (early_born now frame x k) | inr k ↦ newly_born now frame x k ]
 
   pub early_before : (now : ℕ) (frame : FrameId) (x : ℕ) → Early events now frame x → x < now
   unfolding Early
@@ -130,8 +130,15 @@ module _ (events : Events) (memory : SharedMemory) (caching : Caching events mem
   passed_on k node now taker frame m x clean g l l' is l2 other word ax = elim (g other word ax) [
     | inl same ↦
         let h = ups.clean_has events memory caching node k word x clean (subst (λ i. IsAccess events i word x) same ax) l in
-        inr (record { moment = h.at; is = subst (λ i. Moment events memory i word x h.at) (sym same) h.moment; at = now; frame = frame; takes_up = is;
-            first = omega (arith, h.before); before = l2 })
+        inr (record {
+          moment = h.at;
+          is = subst (λ i. Moment events memory i word x h.at) (sym same) h.moment;
+          at = now;
+          frame = frame;
+          takes_up = is;
+          first = omega (arith, h.before);
+          before = l2;
+        })
     | inr h ↦ inr (record { moment = h.moment; is = h.is; at = now; frame = frame; takes_up = is; first = omega (arith, h.first, h.before); before = l2 })
   ]
 
@@ -237,7 +244,7 @@ module _ (events : Events) (memory : SharedMemory) (caching : Caching events mem
           (inv now).apart t.node node frame
           (subst (λ l. IsOn frame l) (sym t.is) (mem_right frame t.front (d ∷ (frame ∷ t.back)) (inr (inl refl)))) on in
           old_early now node d x fines
-              (subst (λ i. IsOn d (stack now i)) same_node (subst (λ l. IsOn d l) (sym t.is) (mem_middle d t.front (frame ∷ t.back)))) m
+          (subst (λ i. IsOn d (stack now i)) same_node (subst (λ l. IsOn d l) (sym t.is) (mem_middle d t.front (frame ∷ t.back)))) m
     ]
   ]
 
@@ -246,7 +253,7 @@ module _ (events : Events) (memory : SharedMemory) (caching : Caching events mem
     from : places.Sent events memory has_returned stack edges.frames now node frame
     from =
         places.sent events memory has_returned stack edges.frames now node frame (places.all_invs events memory has_returned stack edges.frames taken now)
-            (taken now) is
+        (taken now) is
 
     quiet : Quiet frame (from.post) (suc now)
     quiet i h l (other, a, is') = elim (compare from.post i) [
@@ -273,7 +280,7 @@ module _ (events : Events) (memory : SharedMemory) (caching : Caching events mem
         ] in
         let b = here_born from.post frame d h0 in
         let old =
-            frozen d x from.post (suc now) (inr (b.birth, b.before, b.spawned)) (returned_quiet d from.post (suc now) r0) (omega (arith, from.before)) m in
+        frozen d x from.post (suc now) (inr (b.birth, b.before, b.spawned)) (returned_quiet d from.post (suc now) r0) (omega (arith, from.before)) m in
         let g = (fines from.post (omega (arith, from.before))).kept from.node frame d x from.on h0 r0 old in
         passed_on from.post from.node now node frame (suc now) x from.clean g (early_before from.post d x old) from.before is (omega arith)
 

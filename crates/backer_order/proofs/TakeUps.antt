@@ -85,8 +85,15 @@ module _ (events : Events) (memory : SharedMemory) (caching : Caching events mem
         | inl (m, lm, mo) ↦ elim (good other word ax) [
           | inr k ↦
               let h = after_take_up has_returned stack edges node k.frame word y m k.at k.takes_up ay k.before mo in
-              inl (inl (record { first = k.moment; second = m; first_is = k.is; second_is = mo; first_in = omega (arith, k.first, k.before); second_in = lm;
-                  order = inl (omega (arith, k.first)) }))
+              inl (inl (record {
+                first = k.moment;
+                second = m;
+                first_is = k.is;
+                second_is = mo;
+                first_in = omega (arith, k.first, k.before);
+                second_in = lm;
+                order = inl (omega (arith, k.first));
+              }))
           | inl same ↦
               let ax' : IsAccess events node word x = subst (λ i. IsAccess events i word x) same ax in
               let h = pages.never_fall events memory caching node word x y m ax' ay l mo in

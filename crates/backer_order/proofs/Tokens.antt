@@ -46,7 +46,7 @@ module _ (events : Events) (memory : SharedMemory) (has_returned : Returns) (sta
   abbrev Dones : ℕ → Type 0
   Dones now =
       (k node other : ℕ) (frame d : FrameId) → k < now → events k ≡ Post other node (Park frame) → stage now k ≡ Ready → Away events stack now frame d
-          → HasDone events now frame d
+      → HasDone events now frame d
 
   more_done : (now : ℕ) (frame d : FrameId) → HasDone events now frame d → HasDone events (suc now) frame d
   more_done now frame d h = record { post = h.post; sender = h.sender; receiver = h.receiver; is = h.is; before = omega (arith, h.before) }
@@ -69,7 +69,7 @@ module _ (events : Events) (memory : SharedMemory) (has_returned : Returns) (sta
             let sd : SendsFrame events k node frame = (other, inr is) in
             let none = tok k node frame l' sd (ready_not_up (stage now k) old) in
             absurd (places.out_since events memory has_returned stack frames now k node frame invs l' sd none now l' (omega arith) u
-                (places.grant_mem events memory has_returned stack frames now u v frame gr))
+            (places.grant_mem events memory has_returned stack frames now u v frame gr))
       ]
     ]
   ]
@@ -81,10 +81,22 @@ module _ (events : Events) (memory : SharedMemory) (has_returned : Returns) (sta
     where
       go : Rises events stage now node frame → FromGrant events now node frame ⊎ FromJoin events stack now node frame
       go r = let (other, which) = r.sends in elim which [
-        | inl g ↦ inl (record { post =
-            r.post; sender = other; is = g; before = r.before; none = tok r.post node frame r.before r.sends (ready_not_up (stage now r.post) r.ready) })
-        | inr g ↦ inr (record { post = r.post; sender = other; is = g; before = r.before; none = tok r.post node frame r.before r.sends
-            (ready_not_up (stage now r.post) r.ready); complete = λ d a. dn r.post node other frame d r.before g r.ready a })
+        | inl g ↦ inl (record {
+          post = r.post;
+          sender = other;
+          is = g;
+          before = r.before;
+          none = tok r.post node frame r.before r.sends (ready_not_up (stage now r.post) r.ready);
+        })
+        | inr g ↦ inr (record {
+          post = r.post;
+          sender = other;
+          is = g;
+          before = r.before;
+          none = tok r.post node frame r.before r.sends
+              (ready_not_up (stage now r.post) r.ready);
+          complete = λ d a. dn r.post node other frame d r.before g r.ready a;
+        })
       ]
 
   -- all together, along the log
@@ -98,8 +110,12 @@ module _ (events : Events) (memory : SharedMemory) (has_returned : Returns) (sta
 
   along : (now : ℕ) → Along now
   along zero =
-      record { invs = λ i h. subst (λ j. places.Inv events memory has_returned stack frames j) (omega arith)
-          (places.first_inv events memory has_returned stack frames); tok = tok_first; dones = dones_first }
+      record {
+        invs = λ i h. subst (λ j. places.Inv events memory has_returned stack frames j) (omega arith)
+            (places.first_inv events memory has_returned stack frames);
+        tok = tok_first;
+        dones = dones_first;
+      }
   along (suc now) =
       let a = along now in
       let next = places.next_inv events memory has_returned stack frames now a.invs (rule_at now a.tok a.dones) in
