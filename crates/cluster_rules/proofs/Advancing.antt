@@ -156,7 +156,7 @@ module _ (cluster : Cluster) (course : Course) (moved : Moved) (stepped : Steppe
       → many (otherwise frame (counted cluster frame (moved ∷ course))) (born_by moved.event) ≡ 0
   born_right frame (inl none) =
       let less = many_less (otherwise frame (counted cluster frame (moved ∷ course))) (named frame)
-          (otherwise_named frame (counted cluster frame (moved ∷ course))) (born_by moved.event) in
+      (otherwise_named frame (counted cluster frame (moved ∷ course))) (born_by moved.event) in
       omega (arith, none, less)
   born_right frame (inr born) =
       let no_acts = born_none frame born in
@@ -187,14 +187,14 @@ module _ (cluster : Cluster) (course : Course) (moved : Moved) (stepped : Steppe
       let such = otherwise frame (counted cluster frame (moved ∷ course)) in
       let changes = held_changes cluster course moved stepped step such in
       let here : many (otherwise frame old) (advanced cluster course moved) ≡ one (otherwise frame old (record { id = frame; acts = acts })) + 0 =
-          ap (many (otherwise frame old)) is in
+      ap (many (otherwise frame old)) is in
       let within = advanced_held cluster course moved step (otherwise frame old) in
       let none = counts.acts frame in
       let acts_is : acts ≡ old = otherwise_none frame old acts (omega (arith, here, within, none)) in
       let differs : eqb acts (suc old) ≡ false = grind (arith, nat_tests) in
       let was : many such (advanced cluster course moved) ≡ 1 =
       ap (many such) is ∙ ap (λ it. one (otherwise frame it (record { id = frame; acts = acts })) + 0) next
-          ∙ ap (λ it. it + 0) (otherwise_other frame (suc old) acts differs) ∙ refl in
+      ∙ ap (λ it. it + 0) (otherwise_other frame (suc old) acts differs) ∙ refl in
       let rises : many such (risen (advanced cluster course moved)) ≡ 0 =
       ap (λ it. many such (risen it)) is ∙ ap (λ it. one (otherwise frame it (record { id = frame; acts = suc acts })) + 0) next
       ∙ ap (λ it. one (otherwise frame (suc old) (record { id = frame; acts = suc it })) + 0) acts_is ∙ ap (λ it. it + 0) (otherwise_same frame (suc old)) in

@@ -27,7 +27,7 @@ resident_since page past resident =
         brought = brought.1;
         kept =
             none_front (drops page) latest.newer (found.0 ∷ latest.older)
-                (subst (λ events. list_any (drops page) events ≡ false) latest.parts (since_none (drops page) past));
+            (subst (λ events. list_any (drops page) events ≡ false) latest.parts (since_none (drops page) past));
         last = latest.none;
       },
     )
@@ -39,7 +39,7 @@ stay_is page past words arrival =
 pub brought_is : (page : ℕ) (past : Past) (words : List ℤ) (arrival : Arrival page past words) → given (brings page) past ≡ Some words
 brought_is page past words arrival =
     ap (given (brings page)) arrival.parts ∙ given_at (brings page) arrival.newer arrival.event arrival.older words
-        (given_none (brings page) arrival.newer arrival.last) arrival.brought
+    (given_none (brings page) arrival.newer arrival.last) arrival.brought
 
 -- Cached read: the last Write of the word since the arrival.
 pub cached_written : (node : Node) (word : ℕ) (value : ℤ) (past : Past) (words : List ℤ) (arrival : Arrival (page_of node word) past words)

@@ -107,9 +107,9 @@ module _ (cluster : Cluster) (course : Course) (node : ℕ) (here : Option PostA
     adds_asker other acts =
         let change = adds_served cluster course node here less asker other acts serves.add serves.later frame index word old addend serves.oldest in
         let amount : add_from asker other acts serves.add ≡ one (same_frame frame other && eqb index acts) =
-            add_is asker other acts ∙ rw (own_number asker) refl in
+        add_is asker other acts ∙ rw (own_number asker) refl in
         let before : under_way cluster course asker other acts ≡ one (same_frame frame other && eqb index acts) =
-            phased.adds asker other acts ∙ ap (λ it. one (is_asked other acts it)) was_asked in
+        phased.adds asker other acts ∙ ap (λ it. one (is_asked other acts it)) was_asked in
         let after : one (is_asked other acts (phase_of asker (more served))) ≡ 0 = ap (λ it. one (is_asked other acts it)) phase_asker in
         omega (arith, change, amount, before, after)
 
@@ -150,7 +150,7 @@ module _ (cluster : Cluster) (course : Course) (node : ℕ) (here : Option PostA
       waiting = by_number (λ number. awaits ForAdded (own number (more served)) ≡ waits_in (phase_of number (more served)))
           (awaits_more cluster course node here less phased served refl asker ∙ phased.waiting asker ∙ ap waits_in was_asked ∙ ap waits_in (sym phase_asker))
           (λ number apart. awaits_more cluster course node here less phased served refl number ∙ phased.waiting number
-              ∙ ap waits_in (sym (phase_others number apart)));
+          ∙ ap waits_in (sym (phase_others number apart)));
       first = by_number (λ number. IsFirst (phase_of number (more served)) (stack_of (node_at cluster number) (own number (more served))))
           (subst (IsFirst (phase_of asker (more served))) (sym (stack_more cluster course node here less phased served stack_stays asker))
           (subst (λ it. IsFirst it (stack_of (node_at cluster asker) (own asker course))) (sym phase_asker)
@@ -159,7 +159,7 @@ module _ (cluster : Cluster) (course : Course) (node : ℕ) (here : Option PostA
           (subst (λ it. IsFirst it (stack_of (node_at cluster number) (own number course))) (sym (phase_others number apart)) (phased.first number)));
       adds =
           λ number other acts.
-              by_number (λ number. under_way cluster (more served) number other acts ≡ one (is_asked other acts (phase_of number (more served))))
+          by_number (λ number. under_way cluster (more served) number other acts ≡ one (is_asked other acts (phase_of number (more served))))
           (adds_asker other acts) (λ number apart. adds_others other acts number apart) number;
       olds = λ such. by_number (λ number. to_tell cluster (more served) such number ≡ one (is_told such (phase_of number (more served))))
           (olds_asker such) (olds_others such);
@@ -211,10 +211,10 @@ module _ (cluster : Cluster) (course : Course) (node : ℕ) (here : Option PostA
     other_post said is same adds olds waits first =
         kept cluster course node here less phased post
         (λ number. phase_posted number said is ∙ cond_same (eqb node number) (after_post said (phase_of number course)) (phase_of number course)
-            (same (phase_of number course)))
+        (same (phase_of number course)))
         (λ number frame index. let sent = adds_sent cluster course node here less number frame index message posts in
         let none : add_from number frame index message ≡ 0 =
-            ap (λ it. one (adds_body number frame index message.sender it)) is ∙ ap one (adds number frame index message.sender) in
+        ap (λ it. one (adds_body number frame index message.sender it)) is ∙ ap one (adds number frame index message.sender) in
         omega (arith, sent, none))
         olds (ap (λ it. adds_in it || awaits ForAdded past) is ∙ ap (λ b. b || awaits ForAdded past) waits)
         (subst (λ it. IsFirst (phase_of node course) (stack_sent it (stack_of (node_at cluster node) past))) (sym is) first)
@@ -241,7 +241,7 @@ module _ (cluster : Cluster) (course : Course) (node : ℕ) (here : Option PostA
           → add_from number other acts message ≡ one (eqb node number && (same_frame frame other && eqb index acts))
       add_amount number other acts =
           ap (λ it. one (adds_body number other acts message.sender it)) is
-              ∙ ap (λ it. one (eqb it number && (same_frame frame other && eqb index acts))) posts.sender
+          ∙ ap (λ it. one (eqb it number && (same_frame frame other && eqb index acts))) posts.sender
 
       first_asks : IsFirst (Asked frame index) (live (stack_of (node_at cluster node) past))
       first_asks =
@@ -265,10 +265,10 @@ module _ (cluster : Cluster) (course : Course) (node : ℕ) (here : Option PostA
       adds_node other acts =
           let sent = adds_sent cluster course node here less node other acts message posts in
           let amount : add_from node other acts message ≡ one (same_frame frame other && eqb index acts) =
-              add_amount node other acts ∙ rw (own_number node) refl in
+          add_amount node other acts ∙ rw (own_number node) refl in
           let before : under_way cluster course node other acts ≡ 0 = phased.adds node other acts ∙ ap (λ it. one (is_asked other acts it)) was_idle in
           let after : one (is_asked other acts (phase_of node (more post))) ≡ one (same_frame frame other && eqb index acts) =
-              ap (λ it. one (is_asked other acts it)) phase_node in
+          ap (λ it. one (is_asked other acts it)) phase_node in
           omega (arith, sent, amount, before, after)
 
       adds_apart : (other : FrameId) (acts number : ℕ) → number ≢ node
@@ -291,9 +291,9 @@ module _ (cluster : Cluster) (course : Course) (node : ℕ) (here : Option PostA
             (λ number not waits. phased.within number (ap waits_in (sym (phase_apart number not)) ∙ waits));
         waiting = by_node (λ number. awaits ForAdded (own number (more post)) ≡ waits_in (phase_of number (more post)))
             (ap (awaits ForAdded) (own_first (moved_by node post here) course) ∙ ap (λ it. adds_in it || awaits ForAdded past) is
-                ∙ ap waits_in (sym phase_node))
+            ∙ ap waits_in (sym phase_node))
             (λ number not. ap (awaits ForAdded) (own_other number (moved_by node post here) course not) ∙ phased.waiting number
-                ∙ ap waits_in (sym (phase_apart number not)));
+            ∙ ap waits_in (sym (phase_apart number not)));
         first = first_more cluster course node here less phased post phase_apart first_post;
         adds =
             λ number other acts. by_node (λ number. under_way cluster (more post) number other acts ≡ one (is_asked other acts (phase_of number (more post))))
@@ -365,7 +365,7 @@ module _ (cluster : Cluster) (course : Course) (node : ℕ) (here : Option PostA
     other_taking said is same none other stack =
         kept cluster course node here less phased taking
         (λ number. phase_taken number said is ∙ cond_same (eqb node number) (after_taking said (phase_of number course)) (phase_of number course)
-            (same (phase_of number course)))
+        (same (phase_of number course)))
         (λ number frame index. adds_took cluster course node here less number frame index message stepped takes)
         (λ such number. let took = olds_took cluster course node here less such number message stepped takes in
         let zero : old_to such number message ≡ 0 =
@@ -426,10 +426,10 @@ module _ (cluster : Cluster) (course : Course) (node : ℕ) (here : Option PostA
         waiting = by_place (λ number. awaits ForAdded (own number (more taking)) ≡ waits_in (phase_of number (more taking)))
             (ap (awaits ForAdded) (own_first (moved_by node taking here) course) ∙ awaits_told message past (ap tells_in is) ∙ ap waits_in (sym phase_done))
             (λ number not. ap (awaits ForAdded) (own_other number (moved_by node taking here) course not) ∙ phased.waiting number
-                ∙ ap waits_in (sym (phase_far number not)));
+            ∙ ap waits_in (sym (phase_far number not)));
         first =
             first_more cluster course node here less phased taking phase_far
-                (first_idle (phase_of node (more taking)) (stack_of (node_at cluster node) (taking ∷ past)) phase_done);
+            (first_idle (phase_of node (more taking)) (stack_of (node_at cluster node) (taking ∷ past)) phase_done);
         adds = λ number frame index. adds_took cluster course node here less number frame index message stepped takes
             ∙ by_place (λ number. under_way cluster course number frame index ≡ one (is_asked frame index (phase_of number (more taking))))
             (phased.adds node frame index ∙ ap (λ it. one (is_asked frame index it)) was_told.2 ∙ ap (λ it. one (is_asked frame index it)) (sym phase_done))
@@ -440,7 +440,7 @@ module _ (cluster : Cluster) (course : Course) (node : ℕ) (here : Option PostA
 
     stack_taken : (said : Body) → message.body ≡ said
         → stack_of (node_at cluster node) (taking ∷ past)
-            ≡ (frames_took (node_at cluster node) said (taking ∷ past) (frames_of (node_at cluster node) past)).stack
+        ≡ (frames_took (node_at cluster node) said (taking ∷ past) (frames_of (node_at cluster node) past)).stack
     unfolding frames_of
     stack_taken said is = ap (λ it. (frames_took (node_at cluster node) it (taking ∷ past) (frames_of (node_at cluster node) past)).stack) is
 
@@ -470,7 +470,7 @@ module _ (cluster : Cluster) (course : Course) (node : ℕ) (here : Option PostA
   unfolding frames_of
   ended_phased end =
       kept cluster course node here less phased (Ended end) (λ number. refl)
-          (λ number frame index. adds_ended cluster course node here less number frame index end)
+      (λ number frame index. adds_ended cluster course node here less number frame index end)
       (λ such number. olds_ended cluster course node here less such number end) refl (phased.first node)
 
 -- ---- all events
@@ -483,7 +483,7 @@ event_phased cluster course node here (Did done) stepped step phased =
     did_phased cluster course node here step.within phased done step.allowed.rest step.allowed.posts step.allowed.may
 event_phased cluster course node here (Sent message) stepped step phased =
     sent_phased cluster course node here step.within phased message step.carries message.body refl
-        (may_post (node_at cluster node) (own node course) message step.allowed)
+    (may_post (node_at cluster node) (own node course) message step.allowed)
 event_phased cluster course node here (Took message) stepped step phased =
     took_phased cluster course node here step.within phased message stepped step.carries message.body refl
 event_phased cluster course node here (Ended end) stepped step phased = ended_phased cluster course node here step.within phased end

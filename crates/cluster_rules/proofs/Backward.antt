@@ -14,8 +14,13 @@ pub record Latest {A : Type 0} (is : A → Bool) (events : List A) (event : A) :
 module _ {A : Type 0} (is : A → Bool) where
   later_on : (first event : A) (events : List A) → is first ≡ false → Latest is events event → Latest is (first ∷ events) event
   later_on first event events not latest =
-      record { newer = first ∷ latest.newer; older = latest.older; parts = ap (λ xs. first ∷ xs) latest.parts; such = latest.such;
-          none = rw (not, latest.none) refl }
+      record {
+        newer = first ∷ latest.newer;
+        older = latest.older;
+        parts = ap (λ xs. first ∷ xs) latest.parts;
+        such = latest.such;
+        none = rw (not, latest.none) refl;
+      }
 
   -- neither the first nor one behind it
   neither : (first : A) (events : List A) → list_any is (first ∷ events) ≡ false → (is first ≡ false) × (list_any is events ≡ false)

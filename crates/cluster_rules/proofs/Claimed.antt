@@ -86,7 +86,7 @@ module _ (frame : FrameId) (index : ℕ) where
   acts_later [] first second one_moved other less found found' claims = absurd (cc)
   acts_later (top ∷ course) first second one_moved other less found found' claims =
       on (eqb first (length course)) refl (eqb second (length course)) refl found found' (at_within course second other)
-          (λ older. acts_within course first one_moved older claims)
+      (λ older. acts_within course first one_moved older claims)
       (λ older older'. acts_later course first second one_moved other less older older' claims)
     where
       on : (a : Bool) → eqb first (length course) ≡ a → (b : Bool) → eqb second (length course) ≡ b → cond a (Some top) (at course first) ≡ Some one_moved
@@ -94,7 +94,7 @@ module _ (frame : FrameId) (index : ℕ) where
           → (at course second ≡ Some other → second < length course)
           → (at course first ≡ Some one_moved → suc (acts_before frame (before course first)) ≤ acts_before frame course)
           → (at course first ≡ Some one_moved → at course second ≡ Some other
-              → suc (acts_before frame (before course first)) ≤ acts_before frame (before course second))
+          → suc (acts_before frame (before course first)) ≤ acts_before frame (before course second))
           → suc (acts_before frame (cond a course (before course first))) ≤ acts_before frame (cond b course (before course second))
       on true is true was found found' bound whole rest =
           let one_place : first ≡ length course = grind (arith, nat_tests) in let other_place : second ≡ length course = grind (arith, nat_tests) in

@@ -114,7 +114,7 @@ module _ (cluster : Cluster) (course : Course) (node : ℕ) (here : Option PostA
       → AddsUpFor frame (more (Did (item.Served other index word old addend)))
   own_adds_up frame other index word old addend free =
       let advances : many (named frame) (advanced cluster course (moved_by node (Did (item.Served other index word old addend)) here))
-          ≡ one (same_frame other frame) + 0 =
+      ≡ one (same_frame other frame) + 0 =
       ap (λ adds. many (named frame) (cond (is_empty adds) (record { id = other; acts = index } ∷ []) [])) free.none_owed in
       plain (Did (item.Served other index word old addend)) frame (omega (arith, advances))
       (λ number. ap (λ adds. is_told_of frame (after_adding number other index old adds (phase_of number course))) free.none_owed)
@@ -222,7 +222,7 @@ event_adds_up cluster course node here (Did done) stepped step sums =
     did_adds_up cluster course node here step.within stepped sums done step.allowed.rest step.allowed.posts step.allowed.may
 event_adds_up cluster course node here (Sent message) stepped step sums =
     sent_adds_up cluster course node here step.within stepped sums message message.body refl
-        (may_post (node_at cluster node) (own node course) message step.allowed)
+    (may_post (node_at cluster node) (own node course) message step.allowed)
 event_adds_up cluster course node here (Took message) stepped step sums =
     took_adds_up cluster course node here step.within stepped sums message step.carries message.body refl
 event_adds_up cluster course node here (Ended end) stepped step sums =

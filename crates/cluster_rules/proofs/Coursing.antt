@@ -31,11 +31,11 @@ own_posts other number true is place [] course = refl
 own_posts other number false is place [] course = refl
 own_posts other number true is place (message ∷ messages) course =
     own_posts other number true is (record place { index = place.index + 1 }) messages
-        (record { node = other; event = Sent message; message = Some place } ∷ course)
+    (record { node = other; event = Sent message; message = Some place } ∷ course)
     ∙ ap (λ b. sent messages (cond b (Sent message ∷ own number course) (own number course))) is
 own_posts other number false is place (message ∷ messages) course =
     own_posts other number false is (record place { index = place.index + 1 }) messages
-        (record { node = other; event = Sent message; message = Some place } ∷ course)
+    (record { node = other; event = Sent message; message = Some place } ∷ course)
     ∙ ap (λ b. cond b (Sent message ∷ own number course) (own number course)) is
 
 own_taking : (other number : ℕ) (b : Bool) → eqb other number ≡ b → (place : Option PostAt) (message : Option Msg) (course : Course)
@@ -89,7 +89,7 @@ at_on : (first moved : Moved) (course : Course) (position : ℕ) (b : Bool) → 
     → cond b (Some first) (at course position) ≡ Some moved
     → (at course position ≡ Some moved → Splits course position moved)
     → (later : Course) × (first ∷ course ≡ later ++ moved ∷ cond b course (before course position))
-        × (length (cond b course (before course position)) ≡ position)
+    × (length (cond b course (before course position)) ≡ position)
 at_on first moved course position true is found rest = let same : first ≡ moved = cc in ([], ap (λ it. it ∷ course) same, grind (arith, nat_tests))
 at_on first moved course position false is found rest = let split = rest found in (first ∷ split.later, ap (λ it. first ∷ it) split.parts, split.count)
 
@@ -101,7 +101,7 @@ at_splits (first ∷ course) position moved found =
 
 own_append_on : (number : ℕ) (first : Moved) (front back : Course) (b : Bool) → own number (front ++ back) ≡ own number front ++ own number back
     → cond b (first.event ∷ own number (front ++ back)) (own number (front ++ back))
-        ≡ cond b (first.event ∷ own number front) (own number front) ++ own number back
+    ≡ cond b (first.event ∷ own number front) (own number front) ++ own number back
 own_append_on number first front back true same = ap (λ it. first.event ∷ it) same
 own_append_on number first front back false same = same
 

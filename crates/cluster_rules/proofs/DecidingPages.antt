@@ -397,7 +397,7 @@ abbrev pub why_dropped : (node : Node) (past : Past) (page : ℕ) (rest : List I
 why_dropped node past page rest posts =
     or_try (holds (is_at_take_up past) >>= λ at. Some (inl at))
     (or_try (is_for_room node past page rest posts >>= λ room. Some (inr (inl room)))
-        (holds (stands_before (adds_to node page) (posts_add_to node page) rest posts) >>= λ add. Some (inr (inr add))))
+    (holds (stands_before (adds_to node page) (posts_add_to node page) rest posts) >>= λ add. Some (inr (inr add))))
 
 abbrev pub may_drop : (node : Node) (past : Past) (page : ℕ) (rest : List Item) (posts : List Msg) → Option (MayDrop node past page rest posts)
 may_drop node past page rest posts = do
@@ -447,7 +447,7 @@ pub all_resident : (node : Node) (past : Past) (pages : List ℕ) → all_among 
     → (page : ℕ) → is_among page pages ≡ is_resident page past
 all_resident node past pages forth back page =
     same_truth (is_among page pages) (is_among page (by_use node past)) (among_all page pages (by_use node past) forth)
-        (among_all page (by_use node past) pages back)
+    (among_all page (by_use node past) pages back)
     ∙ used_is_resident node page past
 
 abbrev pub may_take_up : (node : Node) (past : Past) (frame : FrameId) (rest : List Item) → Option (MayTakeUp node past frame rest)

@@ -50,7 +50,7 @@ unfolding owed_home_replies
 owed_fits node [] = All-nil (Fits node.config)
 owed_fits node (Took message ∷ past) =
     All-append (Fits node.config) (owed_home_replies node past) (reply node message.sender message.body past) (owed_fits node past)
-        (reply_fits node message.sender message.body past)
+    (reply_fits node message.sender message.body past)
 owed_fits node (Sent message ∷ past) = after_sent node.config (replies_in message.body) (owed_home_replies node past) (owed_fits node past)
 owed_fits node (Did item ∷ past) = owed_fits node past
 owed_fits node (Ended end ∷ past) = owed_fits node past
@@ -89,7 +89,7 @@ items_fit : (node : Node) (posts : List Msg) (past : Past) (items : List Item) �
 items_fit node posts past [] may = All-nil (ItemFits node.config)
 items_fit node posts past (item ∷ items) may =
     All-cons (ItemFits node.config) item items
-        (elim may.0 [ inl owed ↦ owed_item_fits node past item owed | inr own ↦ own_item_fits node past item items posts own.1 ])
+    (elim may.0 [ inl owed ↦ owed_item_fits node past item owed | inr own ↦ own_item_fits node past item items posts own.1 ])
     (items_fit node posts (Did item ∷ past) items may.1)
 
 -- ---- turns
@@ -111,7 +111,7 @@ turns_fit : (cluster : Cluster) (turns : List WholeTurn) → IsLawful cluster tu
 turns_fit cluster [] lawful = All-nil (TurnFits cluster.config)
 turns_fit cluster (turn ∷ older) lawful =
     All-cons (TurnFits cluster.config) turn older (step_fits (node_at cluster turn.node) (past_of turn.node older) (deeds_of turn) lawful.1.allows.step)
-        (turns_fit cluster older lawful.0)
+    (turns_fit cluster older lawful.0)
 
 -- What a turn of lawful turns holds fits.
 pub turn_fits : (cluster : Cluster) (turns : List WholeTurn) (turn : WholeTurn) → IsLawful cluster turns → Contains turns turn
@@ -129,9 +129,11 @@ abbrev LoggedFits : Config → Turn → Type 0
 LoggedFits config turn = All (ItemFits config) turn.items × All (λ post. NoteFits config post.note) turn.posts
 
 logged_fits : (config : Config) (turn : WholeTurn) → TurnFits config turn → LoggedFits config (logged turn)
-logged_fits config turn fits =
-    (fits.0, All-map (λ post. NoteFits config post.note) post_of turn.posts
-        (All-weaker (Fits config) (λ message. NoteFits config (note_of message.body)) (λ message. note_fits config message.body) turn.posts fits.1))
+logged_fits config turn fits = (
+  fits.0,
+  All-map (λ post. NoteFits config post.note) post_of turn.posts
+      (All-weaker (Fits config) (λ message. NoteFits config (note_of message.body)) (λ message. note_fits config message.body) turn.posts fits.1),
+)
 
 latest_last : {A : Type 0} (first : A) (rest : List A) → reverse (first ∷ rest) ≡ reverse rest ++ first ∷ []
 latest_last first rest = reverse-append (first ∷ []) rest

@@ -73,7 +73,7 @@ module _ (cluster : Cluster) (course : Course) (moved : Moved) (stepped : Steppe
   held_changes such =
       let here = passes (node_at cluster moved.node) (own moved.node course) moved.event step.allowed such in
       let after : at_node cluster (moved ∷ course) such moved.node
-          ≡ many such (marks_of (frames_of (node_at cluster moved.node) (moved.event ∷ own moved.node course))) =
+      ≡ many such (marks_of (frames_of (node_at cluster moved.node) (moved.event ∷ own moved.node course))) =
       ap (λ past. many such (marks_of (frames_of (node_at cluster moved.node) past))) (own_first moved course) in
       let sum = sum_change cluster.config.nodes (at_node cluster course such) (at_node cluster (moved ∷ course) such) moved.node step.within
       (λ number other. ap (λ past. many such (marks_of (frames_of (node_at cluster number) past))) (own_other number moved course other)) in
@@ -150,7 +150,7 @@ module _ (cluster : Cluster) (course : Course) (moved : Moved) where
 
   act_births : (frame parent : FrameId) (index : ℕ) (done : LoggedAct) → moved.event ≡ Did (item.Act parent index done)
       → IsOwed node past (item.Act parent index done)
-          ⊎ (IsFree past × (rest : List Item) × (posts : List Msg) × MayDo node past (item.Act parent index done) rest posts) → Births frame
+      ⊎ (IsFree past × (rest : List Item) × (posts : List Msg) × MayDo node past (item.Act parent index done) rest posts) → Births frame
   act_births frame parent index done is (inl owed) = absurd owed
   act_births frame parent index (act.Read word value) is (inr may) = none_born frame (Did (item.Act parent index (act.Read word value))) is refl
   act_births frame parent index (act.Write word value) is (inr may) = none_born frame (Did (item.Act parent index (act.Write word value))) is refl
@@ -165,7 +165,7 @@ module _ (cluster : Cluster) (course : Course) (moved : Moved) where
       spread : (rest : List Item) (posts : List Msg)
           → IsOwed node past (item.Act parent index done) ⊎ (IsFree past × MayDo node past (item.Act parent index done) rest posts)
           → IsOwed node past (item.Act parent index done)
-              ⊎ (IsFree past × (rest : List Item) × (posts : List Msg) × MayDo node past (item.Act parent index done) rest posts)
+          ⊎ (IsFree past × (rest : List Item) × (posts : List Msg) × MayDo node past (item.Act parent index done) rest posts)
       spread rest posts (inl owed) = inl owed
       spread rest posts (inr both) = inr (both.0, rest, posts, both.1)
   event_births frame (Did (item.Tick other)) is does = none_born frame (Did (item.Tick other)) is refl

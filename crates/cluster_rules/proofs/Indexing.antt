@@ -55,7 +55,7 @@ pub first_stack_mark : (cluster : Cluster) (course : Course) (number : ℕ) (fra
     → HasMark cluster course number (record { id = frame; acts = acts })
 first_stack_mark cluster course number frame acts first =
     stack_mark cluster course number (record { id = frame; acts = acts })
-        (λ such. first_mark such frame acts (stack_of (node_at cluster number) (own number course)) first)
+    (λ such. first_mark such frame acts (stack_of (node_at cluster number) (own number course)) first)
 
 module _ (cluster : Cluster) (course : Course) (stepped : Stepped cluster course) where
   -- a frame that was not told of its add is the first of its stack
@@ -131,13 +131,13 @@ module _ (cluster : Cluster) (course : Course) (stepped : Stepped cluster course
 
     act_on : (frame : FrameId) (index : ℕ) (act : LoggedAct) (rest : List Item) (posts : List Msg)
         → IsOwed (node_at cluster node) past (item.Act frame index act)
-            ⊎ (IsFree past × MayDo (node_at cluster node) past (item.Act frame index act) rest posts) → Made frame index
+        ⊎ (IsFree past × MayDo (node_at cluster node) past (item.Act frame index act) rest posts) → Made frame index
     act_on frame index act rest posts (inl owed) = absurd owed
     act_on frame index act rest posts (inr both) = acting frame both.1.life index both.0 both.1.acts both.1.index_is
 
     served_on : (frame : FrameId) (index word : ℕ) (old addend : ℤ) (rest : List Item) (posts : List Msg)
         → IsOwed (node_at cluster node) past (item.Served frame index word old addend)
-            ⊎ (IsFree past × MayDo (node_at cluster node) past (item.Served frame index word old addend) rest posts)
+        ⊎ (IsFree past × MayDo (node_at cluster node) past (item.Served frame index word old addend) rest posts)
         → Made frame index
     served_on frame index word old addend rest posts (inl serves) = serving frame index word old addend serves
     served_on frame index word old addend rest posts (inr both) = acting frame both.1.add.life index both.0 both.1.add.acts both.1.add.index_is
@@ -163,7 +163,7 @@ claim_on : (cluster : Cluster) (course : Course) (moved : Moved) → (stepped : 
     → IsAllowed (node_at cluster moved.node) (own moved.node course) (Did done) → Claims frame index done → Made cluster course stepped frame index
 claim_on cluster course moved stepped step (item.Act other number act) frame index does claims =
     renamed cluster course stepped other frame number index claims.0 claims.1
-        (act_on cluster course stepped moved step other number act does.rest does.posts does.may)
+    (act_on cluster course stepped moved step other number act does.rest does.posts does.may)
 claim_on cluster course moved stepped step (item.Tick other) frame index does claims = absurd claims
 claim_on cluster course moved stepped step (item.Drop page) frame index does claims = absurd claims
 claim_on cluster course moved stepped step (item.TakeUp other) frame index does claims = absurd claims
@@ -171,7 +171,7 @@ claim_on cluster course moved stepped step (item.OwnFetch page words) frame inde
 claim_on cluster course moved stepped step (item.OwnReconcile part) frame index does claims = absurd claims
 claim_on cluster course moved stepped step (item.Served other number word old addend) frame index does claims =
     renamed cluster course stepped other frame number index claims.0 claims.1
-        (served_on cluster course stepped moved step other number word old addend does.rest does.posts does.may)
+    (served_on cluster course stepped moved step other number word old addend does.rest does.posts does.may)
 
 claim : (cluster : Cluster) (course : Course) (moved : Moved) → (stepped : Stepped cluster (moved ∷ course)) → (done : Item) → moved.event ≡ Did done
     → (frame : FrameId) (index : ℕ)
@@ -179,7 +179,7 @@ claim : (cluster : Cluster) (course : Course) (moved : Moved) → (stepped : Ste
     → Made cluster course stepped.0 frame index
 claim cluster course moved stepped done is frame index claims =
     claim_on cluster course moved stepped.0 stepped.1 done frame index
-        (subst (IsAllowed (node_at cluster moved.node) (own moved.node course)) is stepped.1.allowed) claims
+    (subst (IsAllowed (node_at cluster moved.node) (own moved.node course)) is stepped.1.allowed) claims
 
 -- The index of an act is the number of acts that its frame made before.
 pub index_is_count : (cluster : Cluster) (course : Course) (moved : Moved) → Stepped cluster (moved ∷ course) → (done : Item) → moved.event ≡ Did done

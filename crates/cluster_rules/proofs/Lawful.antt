@@ -163,8 +163,12 @@ parted (first ∷ log) more [] is = absurd (cc)
 parted (first ∷ log) more (turn ∷ turns) is =
     let one = first_is first (logged turn) (log ++ more) (map logged turns) is in
     let rest = parted log more turns (rest_is first (logged turn) (log ++ more) (map logged turns) is) in
-    record { front = turn ∷ rest.front; back =
-        rest.back; parts = ap (λ xs. turn ∷ xs) rest.parts; log_is = ap (λ it. it ∷ log) one ∙ ap (λ xs. logged turn ∷ xs) rest.log_is }
+    record {
+      front = turn ∷ rest.front;
+      back = rest.back;
+      parts = ap (λ xs. turn ∷ xs) rest.parts;
+      log_is = ap (λ it. it ∷ log) one ∙ ap (λ xs. logged turn ∷ xs) rest.log_is;
+    }
 
 -- A run that is cut after a turn is a run.
 pub cut_run : (cluster : Cluster) (log more : List Turn) → IsRun cluster (log ++ more) → IsRun cluster log

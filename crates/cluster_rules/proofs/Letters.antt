@@ -143,7 +143,7 @@ module _ (cluster : Cluster) where
       took : (said : Msg) → first.event ≡ Took said → takes_place place first ≡ false → takes_at place first.message ≡ false
       took said is not =
           subst (λ event. takes_at place first.message ≡ false) is
-              (let taken : takes_place place first ≡ takes_at place first.message = rw is refl in sym taken ∙ not)
+          (let taken : takes_place place first ≡ takes_at place first.message = rw is refl in sym taken ∙ not)
 
   pub letters_hold : (course : Course) → Stepped cluster course → (place : PostAt) (message : Msg) → WasPosted course place message
       → list_any (takes_place place) course ≡ false
@@ -152,7 +152,7 @@ module _ (cluster : Cluster) where
   letters_hold (first ∷ course) stepped place message was none =
       let both = neither (takes_place place first) (list_any (takes_place place) course) none in
       letters_hold_on first course place message first.event refl stepped.1.carries was both.0
-          (λ before. letters_hold course stepped.0 place message before both.1)
+      (λ before. letters_hold course stepped.0 place message before both.1)
 
   -- A posted message is one letter more.
   pub letter_sent : (amount : Msg → ℕ) (course : Course) (node : ℕ) (here : Option PostAt) (message : Msg) → Posts course node here message

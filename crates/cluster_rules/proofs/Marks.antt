@@ -106,7 +106,7 @@ live_on : (deposits : List Deposit) (life : Life) (below : List Life) (value : O
 live_on deposits life below None before = within_same (marks (life ∷ below))
 live_on deposits life below (Some it) before =
     within_both (marks (live_from ((life.spawned.target, it) ∷ []) below)) (marks below) (marks (life ∷ below)) (before ((life.spawned.target, it) ∷ []))
-        (within_skip (mark_of life) (marks below))
+    (within_skip (mark_of life) (marks below))
 
 live_from_within : (deposits : List Deposit) (stack : List Life) → Within (marks (live_from deposits stack)) (marks stack)
 live_from_within deposits [] = within_same []
@@ -122,12 +122,12 @@ joined_on : (node : Node) (past : Past) (first : Parked) (parked : List Parked) 
     → Within (marks (all_joined node past (first ∷ parked)) ++ parked_marks (still_parked past (first ∷ parked))) (parked_marks (first ∷ parked))
 joined_on node past first parked true is before =
     rw is (within_cons (record { id = first.closure.id; acts = first.closure.acts })
-        (marks (all_joined node past parked) ++ parked_marks (still_parked past parked)) (parked_marks parked) before)
+    (marks (all_joined node past parked) ++ parked_marks (still_parked past parked)) (parked_marks parked) before)
 joined_on node past first parked false is before =
     let mark : Mark = record { id = first.closure.id; acts = first.closure.acts } in
     rw is
     (within_both (marks (all_joined node past parked) ++ mark ∷ parked_marks (still_parked past parked))
-        (mark ∷ (marks (all_joined node past parked) ++ parked_marks (still_parked past parked)))
+    (mark ∷ (marks (all_joined node past parked) ++ parked_marks (still_parked past parked)))
     (mark ∷ parked_marks parked) (within_insert mark (marks (all_joined node past parked)) (parked_marks (still_parked past parked)))
     (within_cons mark (marks (all_joined node past parked) ++ parked_marks (still_parked past parked)) (parked_marks parked) before))
 
@@ -146,7 +146,7 @@ with_joined_within node past frames =
     within_append (marks frames.stack) (marks frames.stack) (other_marks (with_joined node past frames)) (other_marks frames) (within_same (marks frames.stack))
     (subst (λ it. Within it (other_marks frames)) (sym regrouped)
     (within_append (marks frames.ready) (marks frames.ready) (joined ++ still) (parked_marks frames.parked) (within_same (marks frames.ready))
-        (joined_within node past frames.parked)))
+    (joined_within node past frames.parked)))
 
 -- ---- Grants
 

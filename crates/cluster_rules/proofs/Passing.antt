@@ -150,7 +150,7 @@ ticked stack = within_changes (marks stack) (marks (with_first (answered DoneAns
 
 acted_marks : (such : Mark → Bool) (node : Node) (done : LoggedAct) (life : Life) (below : List Life)
     → many such (marks (after_act node done (life ∷ below)))
-        ≡ many such (born_act done) + (one (such (record { id = life.id; acts = suc life.acts })) + many such (marks below))
+    ≡ many such (born_act done) + (one (such (record { id = life.id; acts = suc life.acts })) + many such (marks below))
 acted_marks such node (act.Read word value) life below = omega arith
 acted_marks such node (act.Write word value) life below = omega arith
 acted_marks such node (act.Print value) life below = omega arith
@@ -170,7 +170,7 @@ module _ (node : Node) (past : Past) (frame : FrameId) (life : Life) (acts : Act
   is_among such =
       let among = live_within (stack_of node past) such in
       let first : many such (marks (live (stack_of node past))) ≡ one (such (mark_of life)) + many such (marks first_live.0) =
-          ap (λ it. many such (marks it)) first_live.1 in
+      ap (λ it. many such (marks it)) first_live.1 in
       let same : one (such (record { id = frame; acts = index })) ≡ one (such (mark_of life)) = ap (λ it. one (such it)) its_mark in
       omega (arith, among, first, same)
 
@@ -179,7 +179,7 @@ module _ (node : Node) (past : Past) (frame : FrameId) (life : Life) (acts : Act
   act_changes done = λ such.
       let among = live_within (stack_of node past) such in
       let first : many such (marks (live (stack_of node past))) ≡ one (such (mark_of life)) + many such (marks first_live.0) =
-          ap (λ it. many such (marks it)) first_live.1 in
+      ap (λ it. many such (marks it)) first_live.1 in
       let after : many such (marks (after_act node done (live (stack_of node past))))
       ≡ many such (born_act done) + (one (such (record { id = life.id; acts = suc life.acts })) + many such (marks first_live.0)) =
       ap (λ it. many such (marks (after_act node done it))) first_live.1 ∙ acted_marks such node done life first_live.0 in
@@ -193,9 +193,9 @@ module _ (node : Node) (past : Past) (frame : FrameId) (life : Life) (acts : Act
   add_changes old = λ such.
       let among = live_within (stack_of node past) such in
       let first : many such (marks (live (stack_of node past))) ≡ one (such (mark_of life)) + many such (marks first_live.0) =
-          ap (λ it. many such (marks it)) first_live.1 in
+      ap (λ it. many such (marks it)) first_live.1 in
       let after : many such (marks (added old (live (stack_of node past)))) ≡ one (such (record { id = life.id; acts = suc life.acts })) + many such
-          (marks first_live.0) =
+      (marks first_live.0) =
       ap (λ it. many such (marks (added old it))) first_live.1 in
       let same : one (such (record { id = frame; acts = index })) ≡ one (such (mark_of life)) = ap (λ it. one (such it)) its_mark in
       let rises : one (such (record { id = frame; acts = suc index })) ≡ one (such (record { id = life.id; acts = suc life.acts })) =
@@ -222,12 +222,12 @@ grant_changes node past receiver closure may = λ such.
     let left = may.above ++ (record may.child { link = link_to closure.join } ∷ []) in
     let after : many such (marks (without_bottom closure.join (stack_of node past))) ≡ many such (marks left) =
     ap (λ it. many such (marks (without_bottom closure.join it))) may.stack
-        ∙ ap (λ it. many such (marks it)) (bottom_gone closure.join may.above may.child may.parent) in
+    ∙ ap (λ it. many such (marks it)) (bottom_gone closure.join may.above may.child may.parent) in
     let before : many such (marks (stack_of node past)) ≡ many such (marks left ++ mark_of may.parent ∷ []) =
     ap (λ it. many such (marks it)) may.stack ∙ ap (many such) (bottom_marks closure.join may.above may.child may.parent) in
     let parts = many_append such (marks left) (mark_of may.parent ∷ []) in
     let mark : one (such (closure_mark closure)) ≡ one (such (mark_of may.parent)) =
-        ap (λ it. one (such it)) (λ i. record { id = may.state.id i; acts = may.state.acts i }) in
+    ap (λ it. one (such it)) (λ i. record { id = may.state.id i; acts = may.state.acts i }) in
     omega (arith, after, before, parts, mark)
 
 park_changes : (node : Node) (past : Past) (receiver : ℕ) (join : JoinId) (closure : Closure) → MayPark node past receiver join closure
@@ -236,7 +236,7 @@ park_changes node past receiver join closure may = λ such.
     let among = live_within (stack_of node past) such in
     let first : many such (marks (live (stack_of node past))) ≡ one (such (mark_of may.life)) + 0 = ap (λ it. many such (marks it)) may.at_join.alone in
     let mark : one (such (closure_mark closure)) ≡ one (such (mark_of may.life)) =
-        ap (λ it. one (such it)) (λ i. record { id = may.state.id i; acts = may.state.acts i }) in
+    ap (λ it. one (such it)) (λ i. record { id = may.state.id i; acts = may.state.acts i }) in
     omega (arith, among, first, mark)
 
 sent_changes : (node : Node) (past : Past) (receiver : ℕ) (said : Body) → (replies_in said ≡ true) ⊎ MayPost node past receiver said
@@ -275,7 +275,7 @@ granted_changes node closure frames = λ such.
 
 parked_changes : (node : Node) (past : Past) (join : JoinId) (closure : Closure) (frames : Frames)
     → Changes (marks_of frames) (marks_of (with_joined node past (record frames { parked = frames.parked ++ record { join = join; closure = closure } ∷ [] })))
-        [] (closure_mark closure ∷ []) [] []
+    [] (closure_mark closure ∷ []) [] []
 parked_changes node past join closure frames = λ such.
     let one_more : Frames = record frames { parked = frames.parked ++ record { join = join; closure = closure } ∷ [] } in
     let joined = with_joined_within node past one_more such in
@@ -331,17 +331,17 @@ module _ (node : Node) (past : Past) where
       let may = both.1.add in
       rw both.0.none_owed
       (stack_changes frames (added old (live frames.stack)) [] [] (record { id = frame; acts = index } ∷ []) []
-          (add_changes node past frame may.life may.acts index may.index_is old))
+      (add_changes node past frame may.life may.acts index may.index_is old))
 
   -- What an event makes of the marks of its node.
   pub passes : (event : Event) → IsAllowed node past event
       → Changes (marks_of (frames_of node past)) (marks_of (frames_of node (event ∷ past))) (gone_by event) (come_by event) (advanced_by node past event)
-          (born_by event)
+      (born_by event)
   unfolding frames_of
   passes (Did done) does = item_changes done does.rest does.posts does.may
   passes (Sent message) may =
       stack_changes frames (stack_sent message.body frames.stack) (closure_marks message.body) [] [] []
-          (sent_changes node past message.receiver message.body (may_post node past message may))
+      (sent_changes node past message.receiver message.body (may_post node past message may))
   passes (Took message) may = took_changes node message.body (Took message ∷ past) frames
   passes (Ended end) may = λ such. omega arith
 
@@ -363,8 +363,9 @@ module _ (node : Node) (past : Past) where
   advanced_here (item.Served frame index word old addend) rest posts (inl serves) = rw serves.oldest (λ such. omega arith)
   advanced_here (item.Served frame index word old addend) rest posts (inr both) =
       rw both.0.none_owed
-      (λ such. let among =
-          is_among node past frame both.1.add.life both.1.add.acts index both.1.add.index_is such in let whole = in_stack such in omega (arith, among, whole))
+      (λ such.
+      let among = is_among node past frame both.1.add.life both.1.add.acts index both.1.add.index_is such in
+      let whole = in_stack such in omega (arith, among, whole))
 
   first_within : (stack : List Life) → Within (first_marks stack) (marks stack)
   first_within [] = λ such. omega arith

@@ -70,7 +70,7 @@ pub first_granted : (node : Node) (past : Past) (receiver : ℕ) (closure : Clos
     → IsFirst phase (without_bottom closure.join (stack_of node past))
 first_granted node past receiver closure phase may first =
     let is : without_bottom closure.join (stack_of node past) ≡ without_bottom closure.join (may.above ++ (may.child ∷ (may.parent ∷ []))) =
-        ap (without_bottom closure.join) may.stack in
+    ap (without_bottom closure.join) may.stack in
     subst (IsFirst phase) (sym (is ∙ bottom_gone closure.join may.above may.child may.parent)) (on phase (subst (IsFirst phase) may.stack first))
   where
     on : (phase : Phase) → IsFirst phase (may.above ++ (may.child ∷ (may.parent ∷ [])))
@@ -122,7 +122,7 @@ module _ (cluster : Cluster) (course : Course) (node : ℕ) (here : Option PostA
       on : (number ≡ node) ⊎ (number ≢ node) → awaits ForAdded (own number (more event)) ≡ awaits ForAdded (own number course)
       on (inl is) =
           subst (λ it. awaits ForAdded (own it (more event)) ≡ awaits ForAdded (own it course)) (sym is)
-              (ap (awaits ForAdded) (own_first (moved_by node event here) course) ∙ same)
+          (ap (awaits ForAdded) (own_first (moved_by node event here) course) ∙ same)
       on (inr not) = ap (awaits ForAdded) (own_other number (moved_by node event here) course not)
 
   pub stack_more : (event : Event) → stack_of (node_at cluster node) (event ∷ past) ≡ stack_of (node_at cluster node) past → (number : ℕ)
@@ -145,7 +145,7 @@ module _ (cluster : Cluster) (course : Course) (node : ℕ) (here : Option PostA
           (subst (λ it. IsFirst (phase_of node (more event)) (stack_of (node_at cluster node) it)) (sym (own_first (moved_by node event here) course)) first)
       on (inr not) =
           subst (λ it. IsFirst (phase_of number (more event)) (stack_of (node_at cluster number) it))
-              (sym (own_other number (moved_by node event here) course not))
+          (sym (own_other number (moved_by node event here) course not))
           (subst (λ it. IsFirst it (stack_of (node_at cluster number) (own number course))) (sym (others number not)) (phased.first number))
 
   -- no phase changes

@@ -68,7 +68,7 @@ take_up_refused node past frame rest page resident kept = λ may.
     let among : is_among page may.pages ≡ true = may.all page ∙ resident in
     let dropped = drops_among page may.pages may.others among in
     let none : list_any (drops_item page) (map (λ it. Drop it) may.pages ++ may.others) ≡ false =
-        subst (λ it. list_any (drops_item page) it ≡ false) may.drops kept in
+    subst (λ it. list_any (drops_item page) it ≡ false) may.drops kept in
     absurd (cc)
 
 -- ---- sendings and replies

@@ -48,7 +48,7 @@ owed_replies node (Ended end ∷ past) = owed_replies node past
 owed_replies node (Sent message ∷ past) = left_replies node.me (replies_in message.body) (owed_home_replies node past) (owed_replies node past)
 owed_replies node (Took message ∷ past) =
     append_replies node.me (owed_home_replies node past) (reply node message.sender message.body past) (owed_replies node past)
-        (reply_is node message.sender message.body past)
+    (reply_is node message.sender message.body past)
 
 pub sends_from : (node : Node) (past : Past) (message : Msg) → MaySend node past message → message.sender ≡ node.me
 sends_from node past message (inl due) = (subst (AreReplies node.me) due.1 (owed_replies node past)).0

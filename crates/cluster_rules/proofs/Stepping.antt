@@ -143,7 +143,7 @@ posts_other : (place : PostAt) (number : ℕ) (here : PostAt) (messages : List M
 posts_other place number here [] course other = refl
 posts_other place number here (message ∷ messages) course other =
     posts_other place number (record here { index = here.index + 1 }) messages
-        (record { node = number; event = Sent message; message = Some here } ∷ course) other
+    (record { node = number; event = Sent message; message = Some here } ∷ course) other
     ∙ rw (other_turn place here other) refl
 
 taking_posts : (place : PostAt) (number : ℕ) (here : Option PostAt) (message : Option Msg) (course : Course)
@@ -183,7 +183,7 @@ more_posts : (place : PostAt) (message : Msg) (number : ℕ) (here : PostAt) (me
 more_posts place message number here [] course was = was
 more_posts place message number here (first ∷ messages) course was =
     more_posts place message number (record here { index = here.index + 1 }) messages
-        (record { node = number; event = Sent first; message = Some here } ∷ course) (inr was)
+    (record { node = number; event = Sent first; message = Some here } ∷ course) (inr was)
 
 more_taking : (place : PostAt) (message : Msg) (number : ℕ) (here : Option PostAt) (taken : Option Msg) (course : Course) → WasPosted course place message
     → WasPosted (with_taking number here taken course) place message
@@ -208,7 +208,7 @@ posted_in number turn start (suc index) (first ∷ messages) course message foun
     let next : (start + 1) + index ≡ start + suc index = omega (arith) in
     let moved : Moved = record { node = number; event = Sent first; message = Some (record { turn = turn; index = start }) } in
     subst (λ it. WasPosted (with_posts number (record { turn = turn; index = start + 1 }) messages (moved ∷ course))
-        (record { turn = turn; index = it }) message) next
+    (record { turn = turn; index = it }) message) next
     (posted_in number turn (start + 1) index messages (moved ∷ course) message found)
 
 posted_here : (number turn : ℕ) (place : PostAt) (messages : List Msg) (course : Course) (message : Msg) → place.turn ≡ turn
@@ -218,7 +218,7 @@ posted_here number turn place messages course message same found =
     let from_zero : 0 + place.index ≡ place.index = omega (arith) in
     let is : record { turn = turn; index = 0 + place.index } ≡ place = λ i. record { turn = sym same i; index = from_zero i } in
     subst (λ it. WasPosted (with_posts number (record { turn = turn; index = 0 }) messages course) it message) is
-        (posted_in number turn 0 place.index messages course message found)
+    (posted_in number turn 0 place.index messages course message found)
 
 more_turn : (place : PostAt) (message : Msg) (count : ℕ) (turn : WholeTurn) (taken : Option Msg) (course : Course)
     → WasPosted (with_posts turn.node (record { turn = count; index = 0 }) turn.posts (with_items turn.node turn.items course)) place message
@@ -242,11 +242,11 @@ posted_there (turn ∷ older) place message found = on (eqb place.turn (length o
     on true is found rest =
         let same : place.turn ≡ length older = grind (arith, nat_tests) in
         more_turn place message (length older) turn (posted_at older turn.took) (course_of older)
-            (posted_here turn.node (length older) place turn.posts items message same found)
+        (posted_here turn.node (length older) place turn.posts items message same found)
     on false is found rest =
         more_turn place message (length older) turn (posted_at older turn.took) (course_of older)
         (more_posts place message turn.node (record { turn = length older; index = 0 }) turn.posts items
-            (more_items place message turn.node turn.items (course_of older) (rest found)))
+        (more_items place message turn.node turn.items (course_of older) (rest found)))
 
 -- ---- what was not taken
 
@@ -286,8 +286,10 @@ module _ (cluster : Cluster) (number : ℕ) (within : number < cluster.config.no
   items_stepped posts [] course stepped may = stepped
   items_stepped posts (item ∷ items) course stepped may =
       let moved : Moved = record { node = number; event = Did item; message = None } in
-      items_stepped posts items (moved ∷ course) (stepped,
-          record { within = within; allowed = record { rest = items; posts = posts; may = may.0 }; carries = tt })
+      items_stepped posts items (moved ∷ course) (
+        stepped,
+        record { within = within; allowed = record { rest = items; posts = posts; may = may.0 }; carries = tt },
+      )
       (subst (λ past. MayDoAll (node_at cluster number) posts past items) (sym (own_now number (Did item) None course)) may.1)
 
   free_next : (here : PostAt) (message : Msg) (course : Course) → FreeFrom course here
@@ -305,8 +307,12 @@ module _ (cluster : Cluster) (number : ℕ) (within : number < cluster.config.no
         record {
           within = within;
           allowed = may.0;
-          carries = record { place =
-              here; place_is = refl; sender = sends_from (node_at cluster number) (own number course) message may.0; fresh = free here.index (omega (arith)) };
+          carries = record {
+            place = here;
+            place_is = refl;
+            sender = sends_from (node_at cluster number) (own number course) message may.0;
+            fresh = free here.index (omega (arith));
+          };
         },
       ) (free_next here message course free)
       (subst (λ past. MaySendAll (node_at cluster number) past messages) (sym (own_now number (Sent message) (Some here) course)) may.1)
@@ -354,7 +360,7 @@ deeds_stepped cluster number older deeds within stepped (inr moves) =
     let here : PostAt = record { turn = length older; index = 0 } in
     let free : FreeFrom items here = λ index less.
     items_post (record { turn = length older; index = index }) number deeds.items (course_of older)
-        ∙ none_later older (record { turn = length older; index = index }) (omega (arith)) in
+    ∙ none_later older (record { turn = length older; index = index }) (omega (arith)) in
     posts_stepped cluster number within here deeds.posts items
     (items_stepped cluster number within deeds.posts deeds.items (course_of older) stepped moves.items)
     free (subst (λ past. MaySendAll (node_at cluster number) past deeds.posts) (sym (own_did number deeds.items (course_of older))) moves.posts)
@@ -377,7 +383,7 @@ turn_stepped cluster older turn stepped next =
     own_sent turn.node here turn.posts items ∙ ap (sent turn.posts) (own_did turn.node turn.items (course_of older)) in
     let takes : MayTake node (own turn.node course) turn.end (posted_at older turn.took) =
     subst (λ past. MayTake node past turn.end (posted_at older turn.took))
-        (sym (behind_is ∙ ap (λ past. sent turn.posts (did turn.items past)) past_is)) next.allows.takes in
+    (sym (behind_is ∙ ap (λ past. sent turn.posts (did turn.items past)) past_is)) next.allows.takes in
     let ends : MayEndSo node (own turn.node course) turn.end =
     subst (λ past. MayEndSo node past turn.end) (sym behind_is) (step_ends node (own turn.node (course_of older)) deeds step) in
     rest_stepped cluster turn.node next.node turn.end turn.took (posted_at older turn.took) course

@@ -138,7 +138,7 @@ module _ (cluster : Cluster) (course : Course) (node : ℕ) (here : Option PostA
     with_add_amount message adds (body.Add other acts word addend) is =
         let both = amount_append amount adds (message ∷ []) in
         let same : amount message ≡ one (adds_body number frame index message.sender (body.Add other acts word addend)) =
-            ap (λ it. one (adds_body number frame index message.sender it)) is in
+        ap (λ it. one (adds_body number frame index message.sender it)) is in
         omega (arith, both, same)
     with_add_amount message adds (body.Added old) is = omega arith
 
@@ -163,7 +163,7 @@ module _ (cluster : Cluster) (course : Course) (node : ℕ) (here : Option PostA
     -- the oldest that is owed is done
     pub adds_served : (add : Msg) (later : List Msg) (other : FrameId) (acts word : ℕ) (old addend : ℤ) → owed_adds past ≡ add ∷ later
         → under_way cluster (moved_by node (Did (item.Served other acts word old addend)) here ∷ course) number frame index + amount add
-            ≡ under_way cluster course number frame index
+        ≡ under_way cluster course number frame index
     unfolding owed_adds
     adds_served add later other acts word old addend oldest =
         let sum = adds_sum amount (Did (item.Served other acts word old addend)) in
@@ -219,7 +219,7 @@ module _ (cluster : Cluster) (course : Course) (node : ℕ) (here : Option PostA
     olds_told message old posts is tells =
         let sum = olds_sum told (Sent message) in
         let owed : amount_in told (cond (tells_in message.body) (rest_of (owed_olds (node_at cluster node) past)) (owed_olds (node_at cluster node) past))
-            ≡ amount_in told tells.later =
+        ≡ amount_in told tells.later =
         ap (λ b. amount_in told (cond b (rest_of (owed_olds (node_at cluster node) past)) (owed_olds (node_at cluster node) past))) (ap tells_in is)
         ∙ ap (λ it. amount_in told (rest_of it)) tells.oldest in
         let before : amount_in told (owed_olds (node_at cluster node) past) ≡ one (eqb message.receiver number && such old) + amount_in told tells.later =

@@ -49,8 +49,10 @@ small_cache_runs = record { alone = small_cache; two_nodes = small_caches }
 abbrev main_at : ℕ → List ℤ → ℕ → List Child → Closure
 main_at pc locals acts away = record {
   id = main_id;
-  frame = record { frame =
-      record { running = record { pc = pc; locals = locals; operands = []; room = 2 }; callers = []; depth = 0; overflowed = false }; arguments = [] };
+  frame = record {
+    frame = record { running = record { pc = pc; locals = locals; operands = []; room = 2 }; callers = []; depth = 0; overflowed = false };
+    arguments = [];
+  };
   acts = acts;
   link = Root;
   spawned = record { index = 0; target = None };
