@@ -43,9 +43,13 @@ some_on false value other if_so is some = let both : None ≡ Some other = sym i
 pub write_in : (w : ℕ) (v : ℤ) (event : Event) → written w event ≡ Some v
     → (frame : FrameId) × (index : ℕ) × (event ≡ Did (item.Act frame index (act.Write w v)))
 write_in w v (Did (item.Act frame index (act.Read word value))) is = absurd (cc)
-write_in w v (Did (item.Act frame index (act.Write word value))) is = let both = some_on (eqb word w) value v (cond (eqb word w) (Some value) None) refl is in
-    (frame, index, ap (λ it. Did (item.Act frame index (act.Write it value))) (same_number word w both.0)
-        ∙ ap (λ it. Did (item.Act frame index (act.Write w it))) both.1)
+write_in w v (Did (item.Act frame index (act.Write word value))) is =
+    let both = some_on (eqb word w) value v (cond (eqb word w) (Some value) None) refl is in (
+      frame,
+      index,
+      ap (λ it. Did (item.Act frame index (act.Write it value))) (same_number word w both.0)
+          ∙ ap (λ it. Did (item.Act frame index (act.Write w it))) both.1,
+    )
 write_in w v (Did (item.Act frame index (act.Print value))) is = absurd (cc)
 write_in w v (Did (item.Act frame index (act.Spawn child procedure arguments))) is = absurd (cc)
 write_in w v (Did (item.Act frame index act.Sync)) is = absurd (cc)
@@ -128,8 +132,10 @@ module _ (cluster : Cluster) (turns : List WholeTurn) (lawful : IsLawful cluster
   pub wrote_at : (p w i : ℕ) (v : ℤ) (event : Event) → Happens (course_of turns) p i event → written w event ≡ Some v → Wrote ev p w i v
   wrote_at p w i v event happens is =
       let it = write_in w v event is in
-      record { frame =
-          it.0; is = event_there p i (Did (item.Act (it.0) (it.1) (act.Write w v))) (subst (λ it. Happens (course_of turns) p i it) (it.2) happens) }
+      record {
+        frame = it.0;
+        is = event_there p i (Did (item.Act (it.0) (it.1) (act.Write w v))) (subst (λ it. Happens (course_of turns) p i it) (it.2) happens);
+      }
 
   pub write_at : (p w i : ℕ) (event : Event) → Happens (course_of turns) p i event → writes w event ≡ true → IsWrite ev p w i
   write_at p w i event happens is = let some = gives_some (written w event) is in (some.0, wrote_at p w i (some.0) event happens some.1)
@@ -140,9 +146,12 @@ module _ (cluster : Cluster) (turns : List WholeTurn) (lawful : IsLawful cluster
     where
       on : Acted cluster (course_of turns) i p (wrote.frame) (log.Write w v) ⊎ Served cluster (course_of turns) i p (wrote.frame) (log.Write w v)
           → (frame : FrameId) × (index : ℕ) × Happens (course_of turns) p i (Did (item.Act frame index (act.Write w v)))
-      on (inl it) =
-          (wrote.frame, it.index, subst (λ done. Happens (course_of turns) p i (Did (item.Act (wrote.frame) (it.index) done)))
-              (write_is w v (it.act) (it.act_is)) (it.is))
+      on (inl it) = (
+        wrote.frame,
+        it.index,
+        subst (λ done. Happens (course_of turns) p i (Did (item.Act (wrote.frame) (it.index) done)))
+            (write_is w v (it.act) (it.act_is)) (it.is),
+      )
       on (inr it) = let no : log.Add (it.word) (it.old) (it.addend) ≡ log.Write w v = it.act_is in absurd (cc)
 
   pub written_own : (w : ℕ) (v : ℤ) (frame : FrameId) (index : ℕ) → written w (Did (item.Act frame index (act.Write w v))) ≡ Some v
@@ -159,9 +168,12 @@ module _ (cluster : Cluster) (turns : List WholeTurn) (lawful : IsLawful cluster
     where
       on : Acted cluster (course_of turns) i p (read.frame) (log.Read w v) ⊎ Served cluster (course_of turns) i p (read.frame) (log.Read w v)
           → (frame : FrameId) × (index : ℕ) × Happens (course_of turns) p i (Did (item.Act frame index (act.Read w v)))
-      on (inl it) =
-          (read.frame, it.index, subst (λ done. Happens (course_of turns) p i (Did (item.Act (read.frame) (it.index) done)))
-              (read_is w v (it.act) (it.act_is)) (it.is))
+      on (inl it) = (
+        read.frame,
+        it.index,
+        subst (λ done. Happens (course_of turns) p i (Did (item.Act (read.frame) (it.index) done)))
+            (read_is w v (it.act) (it.act_is)) (it.is),
+      )
       on (inr it) = let no : log.Add (it.word) (it.old) (it.addend) ≡ log.Read w v = it.act_is in absurd (cc)
 
   -- arrivals
@@ -176,10 +188,10 @@ module _ (cluster : Cluster) (turns : List WholeTurn) (lawful : IsLawful cluster
           record { moved = happens.moved; is = happens.is; by = happens.by; place_is = refl; event_is = happens.event_is ∙ it.1 } in
           let taking = taking_found cluster turns lawful p i (happens.moved.message) (it.0) found in
           ByPage (taking.sender) (taken_from (before (course_of turns) i) (happens.moved.message))
-              (taken_event cluster turns lawful p i (happens.moved.message) (it.0) found)
+          (taken_event cluster turns lawful p i (happens.moved.message) (it.0) found)
           (posted_event cluster turns lawful p (taken_from (before (course_of turns) i) (happens.moved.message)) i (it.0) taking
           ∙ ap (λ said. log.Post (taking.sender) p
-              (note_of cluster (taking.sender) (before (course_of turns) (taken_from (before (course_of turns) i) (happens.moved.message))) said)) (it.2))
+          (note_of cluster (taking.sender) (before (course_of turns) (taken_from (before (course_of turns) i) (happens.moved.message))) said)) (it.2))
       on (inr same) = ByOwn (event_there p i (Did (item.OwnFetch g list)) (subst (λ one. Happens (course_of turns) p i one) same happens))
 
   pub arrival_at : (p g i : ℕ) (event : Event) → Happens (course_of turns) p i event → arrives g event ≡ true → IsArrival ev p g i
@@ -194,9 +206,13 @@ module _ (cluster : Cluster) (turns : List WholeTurn) (lawful : IsLawful cluster
       let source = posted_is cluster (course_of turns) post home p (log.Page g words) posted in
       let same = same_message cluster turns lawful (it.0) (source.1) (it.1.sender) home post (Some (it.1.place)) (source.0) (it.1.posted) (source.2) in
       let said = page_is cluster home (before (course_of turns) post) g words (source.1.body) (source.4) in
-      let body_is : it.0.body ≡ body.Page g (said.0) = ap (λ message. message.body) (same.0) ∙ said.1 in
-      (said.0, Took (it.0), happens cluster (course_of turns) i p (Some (it.1.place)) (Took (it.0)) (it.1.taken),
-          brought (it.0) (said.0) (it.0.body) refl body_is, said.2)
+      let body_is : it.0.body ≡ body.Page g (said.0) = ap (λ message. message.body) (same.0) ∙ said.1 in (
+        said.0,
+        Took (it.0),
+        happens cluster (course_of turns) i p (Some (it.1.place)) (Took (it.0)) (it.1.taken),
+        brought (it.0) (said.0) (it.0.body) refl body_is,
+        said.2,
+      )
     where
       brought : (message : Msg) (list : List ℤ) (said : Body) → message.body ≡ said → said ≡ body.Page g list → brings g (Took message) ≡ Some list
       brought message list said says is = rw (says ∙ is, own_number g) refl

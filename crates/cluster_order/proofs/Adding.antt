@@ -89,7 +89,7 @@ module _ (cluster : Cluster) (turns : List WholeTurn) (lawful : IsLawful cluster
   add_other add taking it =
       let posted = it.taken.posted in
       let happens : Happens course (it.taken.sender) (it.post) (Sent add) =
-          record { moved = posted.moved; is = posted.is; by = posted.by; event_is = posted.event_is } in
+      record { moved = posted.moved; is = posted.is; by = posted.by; event_is = posted.event_is } in
       let may = add_allowed cluster turns lawful (it.taken.sender) (it.post) add (it.frame) (it.index) (it.word) (it.addend) happens (it.asked) in
       λ same. may.other (it.taken.to ∙ sym same ∙ sent_by cluster turns lawful (it.taken.sender) (it.post) add happens)
 
@@ -113,7 +113,7 @@ module _ (cluster : Cluster) (turns : List WholeTurn) (lawful : IsLawful cluster
       → serves (memory_of cluster) home (events position) ≡ false
   served_elsewhere position moved found other event is =
       ap (serves (memory_of cluster) home) (event_of_moved cluster turns lawful home position moved found
-          ∙ ap (happens_to cluster (before course position) moved.node moved.message) is) ∙ by_event event is
+      ∙ ap (happens_to cluster (before course position) moved.node moved.message) is) ∙ by_event event is
     where
       by_item : (done : Item) → moved.event ≡ Did done
           → ((frame : FrameId) × (index word : ℕ) × (old addend : ℤ) × (done ≡ item.Served frame index word old addend))
@@ -170,7 +170,7 @@ module _ (cluster : Cluster) (turns : List WholeTurn) (lawful : IsLawful cluster
       asked : push_add position ≡ adds_in_body message.body
       asked =
           rw (event_is, posted_event cluster turns lawful home post position message it, same_number home)
-              (add_same cluster (it.sender) home (before course post) message.body)
+          (add_same cluster (it.sender) home (before course post) message.body)
 
       no_pop : pop_add position ≡ false
       no_pop = rw event_is refl
@@ -211,21 +211,21 @@ module _ (cluster : Cluster) (turns : List WholeTurn) (lawful : IsLawful cluster
       no_push : push_add position ≡ false
       no_push =
           subst (λ event. takes_add events home event ≡ false) (sym event_is)
-              ((item_no_message cluster home home events (own home (before course position)) done).no_add)
+          ((item_no_message cluster home home events (own home (before course position)) done).no_add)
 
       by_adds : (frame : FrameId) (index word : ℕ) (old addend : ℤ) → done ≡ item.Served frame index word old addend → (owed : List Msg) → adds position ≡ owed
           → AddStep position
       by_adds frame index word old addend served [] none =
           let popped = served_at_home position frame index word old addend
-              (here cluster turns lawful home position moved (Did (item.Served frame index word old addend)) found by (is ∙ ap Did served)) in
+          (here cluster turns lawful home position moved (Did (item.Served frame index word old addend)) found by (is ∙ ap Did served)) in
           Kept (popped ∙ ap (serves_other home) (sym (ap owed_adds (past_now cluster turns lawful home position moved found)) ∙ none) ∙ own_add) no_push
           (next ∙ ap (λ it. after_served it (adds position)) served ∙ ap walking.rest_of none ∙ sym none)
       by_adds frame index word old addend served (add ∷ later) some =
           let popped = served_at_home position frame index word old addend
-              (here cluster turns lawful home position moved (Did (item.Served frame index word old addend)) found by (is ∙ ap Did served)) in
+          (here cluster turns lawful home position moved (Did (item.Served frame index word old addend)) found by (is ∙ ap Did served)) in
           let taken = head_taken position add later some before_matched in
           Popped (popped ∙ ap (serves_other home) (sym (ap owed_adds (past_now cluster turns lawful home position moved found)) ∙ some)
-              ∙ owed_other add later (add_other add (taken.0) (taken.2)))
+          ∙ owed_other add later (add_other add (taken.0) (taken.2)))
           (next ∙ ap (λ it. after_served it (adds position)) served)
 
       on : ((frame : FrameId) × (index word : ℕ) × (old addend : ℤ) × (done ≡ item.Served frame index word old addend))
@@ -233,7 +233,7 @@ module _ (cluster : Cluster) (turns : List WholeTurn) (lawful : IsLawful cluster
       on (inl served) = by_adds (served.0) (served.1) (served.2) (served.3) (served.4) (served.5) (adds position) refl
       on (inr none) =
           Kept (ap (serves (memory_of cluster) home) event_is ∙ served_here cluster home home (own home (before course position)) done none) no_push
-              (next ∙ adds_left done (adds position) none)
+          (next ∙ adds_left done (adds position) none)
 
   no_add_push : (event : log.Event) (position : ℕ) → events position ≡ event → takes_add events home event ≡ false → push_add position ≡ false
   no_add_push event position is none = ap (takes_add events home) is ∙ none
@@ -262,7 +262,7 @@ module _ (cluster : Cluster) (turns : List WholeTurn) (lawful : IsLawful cluster
       whose moved found false other =
           Kept (served_elsewhere position moved found other moved.event refl)
           (ap (takes_add events home) (event_of_moved cluster turns lawful home position moved found)
-              ∙ (other_no_message cluster home moved.node events (before course position) moved.message moved.event other).no_add)
+          ∙ (other_no_message cluster home moved.node events (before course position) moved.message moved.event other).no_add)
           (ap owed_adds (past_other cluster turns lawful home position moved found other))
 
       on : (option : Option Moved) → at course position ≡ option → AddStep position
@@ -327,12 +327,12 @@ module _ (cluster : Cluster) (turns : List WholeTurn) (lawful : IsLawful cluster
           → OldStep position
       by_adds frame index word old addend served [] none =
           let pushed = served_at_home position frame index word old addend
-              (here cluster turns lawful home position moved (Did (item.Served frame index word old addend)) found by (is ∙ ap Did served)) in
+          (here cluster turns lawful home position moved (Did (item.Served frame index word old addend)) found by (is ∙ ap Did served)) in
           Kept no_pop (pushed ∙ ap (serves_other home) (sym adds_now ∙ none) ∙ own_add)
           (next ∙ ap (λ it. olds position ++ told_by node done it) none ∙ ap (λ it. olds position ++ told_by node it []) served ∙ append-nil (olds position))
       by_adds frame index word old addend served (add ∷ later) some =
           let pushed = served_at_home position frame index word old addend
-              (here cluster turns lawful home position moved (Did (item.Served frame index word old addend)) found by (is ∙ ap Did served)) in
+          (here cluster turns lawful home position moved (Did (item.Served frame index word old addend)) found by (is ∙ ap Did served)) in
           let taken = head_taken position add later some (adds_matched position) in
           Pushed (from_me node (add.sender) (body.Added old)) no_pop
           (pushed ∙ ap (serves_other home) (sym adds_now ∙ some) ∙ owed_other add later (add_other add (taken.0) (taken.2)))
@@ -349,7 +349,7 @@ module _ (cluster : Cluster) (turns : List WholeTurn) (lawful : IsLawful cluster
             oldest = sym adds_now ∙ some;
             served =
                 event_is ∙ ap (item_of cluster home (own home (before course position))) served
-                    ∙ ap (λ it. log.Acts (served_for home it) frame (log.Add word old addend)) (sym adds_now ∙ some);
+                ∙ ap (λ it. log.Acts (served_for home it) frame (log.Add word old addend)) (sym adds_now ∙ some);
             due_is = refl;
           })
 
@@ -377,10 +377,10 @@ module _ (cluster : Cluster) (turns : List WholeTurn) (lawful : IsLawful cluster
       on : (b : Bool) → tells_in message.body ≡ b → OldStep position
       on true tells =
           Popped (popped ∙ ap (λ it. it && eqb home home) tells ∙ same_number home)
-              (next ∙ ap (λ b. cond b (walking.rest_of (olds position)) (olds position)) tells)
+          (next ∙ ap (λ b. cond b (walking.rest_of (olds position)) (olds position)) tells)
       on false none =
           Kept (popped ∙ ap (λ it. it && eqb home home) none) (no_add_pop _ position event_is refl)
-              (next ∙ ap (λ b. cond b (walking.rest_of (olds position)) (olds position)) none)
+          (next ∙ ap (λ b. cond b (walking.rest_of (olds position)) (olds position)) none)
 
   old_step : (position : ℕ) → Matched OldOf (olds position) (queue pop_add pop_old position) → OldStep position
   unfolding owed_olds
@@ -402,7 +402,7 @@ module _ (cluster : Cluster) (turns : List WholeTurn) (lawful : IsLawful cluster
       whose moved found true by = mine moved found (grind (arith, nat_tests)) moved.event refl
       whose moved found false other =
           Kept (ap (gives_added home) (event_of_moved cluster turns lawful home position moved found)
-              ∙ (other_no_message cluster home moved.node events (before course position) moved.message moved.event other).no_added)
+          ∙ (other_no_message cluster home moved.node events (before course position) moved.message moved.event other).no_added)
           (served_elsewhere position moved found other moved.event refl)
           (ap (owed_olds node) (past_other cluster turns lawful home position moved found other))
 
@@ -420,5 +420,5 @@ module _ (cluster : Cluster) (turns : List WholeTurn) (lawful : IsLawful cluster
       let may = added_allowed cluster turns lawful home position message old happens is in
       let all = matched OldOf pop_add pop_old olds (ap (λ course. owed_olds node (own home course)) (first_none course)) old_step position in
       let same : olds position ≡ from_me node message.receiver (body.Added old) ∷ may.later =
-          ap (owed_olds node) (past_now cluster turns lawful home position (happens.moved) (happens.is)) ∙ may.oldest in
+      ap (owed_olds node) (past_now cluster turns lawful home position (happens.moved) (happens.is)) ∙ may.oldest in
       head_of OldOf pop_add pop_old olds position (olds position) (from_me node message.receiver (body.Added old)) (may.later) all same

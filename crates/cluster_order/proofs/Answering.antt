@@ -47,16 +47,29 @@ some_later number such (first ∷ later) rest any = on (eqb first.node number) r
   where
     more : Somewhere (later ++ rest) number such (length rest) → Somewhere (first ∷ (later ++ rest)) number such (length rest)
     more it =
-        record { position = it.position; moved = it.moved; behind = it.behind; is = at_behind (first ∷ []) (later ++ rest) (it.position)
-            (within (later ++ rest) (it.position) (it.moved) (it.is)) ∙ it.is; by = it.by; such_is = it.such_is }
+        record {
+          position = it.position;
+          moved = it.moved;
+          behind = it.behind;
+          is = at_behind (first ∷ []) (later ++ rest) (it.position)
+              (within (later ++ rest) (it.position) (it.moved) (it.is)) ∙ it.is;
+          by = it.by;
+          such_is = it.such_is;
+        }
 
     now : (b : Bool) → such first.event ≡ b → eqb first.node number ≡ true → b || list_any such (own number later) ≡ true
         → (list_any such (own number later) ≡ true → Somewhere (later ++ rest) number such (length rest))
         → Somewhere (first ∷ (later ++ rest)) number such (length rest)
     now true is mine any before =
         let count = length_sum later rest in
-        record { position = length (later ++ rest); moved = first; behind = omega (arith, count); is = at_last first (later ++ rest);
-            by = grind (arith, nat_tests); such_is = is }
+        record {
+          position = length (later ++ rest);
+          moved = first;
+          behind = omega (arith, count);
+          is = at_last first (later ++ rest);
+          by = grind (arith, nat_tests);
+          such_is = is;
+        }
       where
         length_sum : (front back : Course) → length back ≤ length (front ++ back)
         length_sum [] back = omega (arith)
@@ -223,7 +236,7 @@ module _ (cluster : Cluster) (turns : List WholeTurn) (lawful : IsLawful cluster
           let parts = past_parts number front (it.0) (Sent (asked.message)) (own number (before front request)) request (it.1) in
           let waits : awaits wait (own number front) ≡ true =
           ap (awaits wait) parts ∙ any_waits wait (it.0) (Sent (asked.message)) (own number (before front request)) none (no_end wait (asked.message))
-              (asked.asks) in
+          (asked.asks) in
           absurd (cc)
       on true some =
           let rest = it.1.moved ∷ before front request in
@@ -232,12 +245,15 @@ module _ (cluster : Cluster) (turns : List WholeTurn) (lawful : IsLawful cluster
           let somewhere = some_later number (ends wait) (it.1.later) rest any in
           let there : at front (somewhere.position) ≡ Some (somewhere.moved) = ap (λ all. at all (somewhere.position)) (it.1.parts) ∙ somewhere.is in
           let happened = happened_before course position moved found number (somewhere.position) (somewhere.moved.event)
-              (record { moved = somewhere.moved; is = there; by = somewhere.by; event_is = refl }) in
+          (record { moved = somewhere.moved; is = there; by = somewhere.by; event_is = refl }) in
           let inside = within front (somewhere.position) (somewhere.moved) there in
           let all = length_before course position moved found in
-          let start = somewhere.behind in
-          (somewhere.position, omega (arith, start, count), omega (arith, inside, all),
-              ended_by number wait (somewhere.position) (somewhere.moved.event) happened (somewhere.such_is))
+          let start = somewhere.behind in (
+            somewhere.position,
+            omega (arith, start, count),
+            omega (arith, inside, all),
+            ended_by number wait (somewhere.position) (somewhere.moved.event) happened (somewhere.such_is),
+          )
 
   -- a node asks where it does not wait for such an answer
   pub quiet_request : (number : ℕ) (wait : Wait) (position : ℕ) → Request number wait position → awaits wait (own number (before course position)) ≡ false
@@ -316,7 +332,7 @@ module _ (cluster : Cluster) (turns : List WholeTurn) (lawful : IsLawful cluster
       let home = came.it.sender in
       let sender_is : message.sender ≡ number = sym to ∙ came.it.to in
       let asked_by : asked.sender ≡ number =
-          sym (sent_by cluster turns lawful (asked.sender) post message (poster home post taking message asked)) ∙ sender_is in
+      sym (sent_by cluster turns lawful (asked.sender) post message (poster home post taking message asked)) ∙ sender_is in
       let earlier = owed.head-before (λ at. takes_request events home (events at)) (λ at. gives_reply home (events at)) (came.post) taking answering in
       let first = asked.before in
       let second = came.it.before in (
@@ -416,10 +432,10 @@ module _ (cluster : Cluster) (turns : List WholeTurn) (lawful : IsLawful cluster
       let asked = adds.2.taken in
       let sender_is : asked.sender ≡ number =
       sym (sent_by cluster turns lawful (asked.sender) (adds.2.post) (it.add) (poster home (adds.2.post) (adds.0) (it.add) asked)) ∙ sym receiver_is
-          ∙ came.it.to in
+      ∙ came.it.to in
       let earlier = owed.head-before (λ at. serves (memory_of cluster) home (events at)) (λ at. gives_added home (events at)) (came.post) (told.0) (told.1) in
       let before_that =
-          owed.head-before (λ at. takes_add events home (events at)) (λ at. serves (memory_of cluster) home (events at)) (told.0) (adds.0) (adds.1) in
+      owed.head-before (λ at. takes_add events home (events at)) (λ at. serves (memory_of cluster) home (events at)) (told.0) (adds.0) (adds.1) in
       let first = asked.before in
       let second = came.it.before in (
         adds.2.post,
@@ -438,7 +454,7 @@ module _ (cluster : Cluster) (turns : List WholeTurn) (lawful : IsLawful cluster
           takes = came.it.event;
           posted =
               posted_event cluster turns lawful number (came.post) position answer (came.it)
-                  ∙ ap (λ said. log.Post home number (note_of cluster home (before course (came.post)) said)) says;
+              ∙ ap (λ said. log.Post home number (note_of cluster home (before course (came.post)) said)) says;
           tells = told.1;
           serves = adds.1;
           took = asked.event;
@@ -453,7 +469,7 @@ module _ (cluster : Cluster) (turns : List WholeTurn) (lawful : IsLawful cluster
   told_by number (ForAck home) position it =
       let both = both_true (acks_in (it.message.body)) (eqb (it.message.sender) home) (it.tells) in
       told_ack number position home (it.message) (came number position (it.message) (it.is)) (acking (it.message.body) (both.0))
-          (equal (it.message.sender) home (both.1))
+      (equal (it.message.sender) home (both.1))
   told_by number ForAdded position it =
       let said = telling (it.message.body) (it.tells) in told_added number position (said.0) (it.message) (came number position (it.message) (it.is)) (said.1)
 
@@ -476,12 +492,12 @@ module _ (cluster : Cluster) (turns : List WholeTurn) (lawful : IsLawful cluster
       let pop = λ (at : ℕ). gives_reply (first.home) (events at) in
       let answers_second : Answers events (first.home) (second.reply) (first.taking) =
       subst (λ it. Answers events (first.home) (second.reply) it) (sym (same.0))
-          (subst (λ it. Answers events it (second.reply) (second.taking)) (sym (same.1)) (second.answers)) in
+      (subst (λ it. Answers events it (second.reply) (second.taking)) (sym (same.1)) (second.answers)) in
       let popped_second : gives_reply (first.home) (events (second.reply)) ≡ true =
       subst (λ it. gives_reply it (events (second.reply)) ≡ true) (sym (same.1))
-          (gave_reply (second.home) number (second.reply) (second.note) (second.posted) (second.replies)) in
+      (gave_reply (second.home) number (second.reply) (second.note) (second.posted) (second.replies)) in
       let reply_same = owed.once push pop (first.reply) (second.reply) (first.taking)
-          (gave_reply (first.home) number (first.reply) (first.note) (first.posted) (first.replies)) popped_second (first.answers) answers_second in
+      (gave_reply (first.home) number (first.reply) (first.note) (first.posted) (first.replies)) popped_second (first.answers) answers_second in
       (delivery cluster turns lawful).once one other number number (first.reply) (first.takes) (second.takes ∙ ap (log.Took number) (sym reply_same))
 
   pub done_once : (number post one other : ℕ) → DoneAt number post one → DoneAt number post other → one ≡ other
@@ -492,14 +508,14 @@ module _ (cluster : Cluster) (turns : List WholeTurn) (lawful : IsLawful cluster
       let tells = λ (at : ℕ). gives_added (first.home) (events at) in
       let serves_second : Serves events (memory_of cluster) (first.home) (second.served) (first.taking) =
       subst (λ it. Serves events (memory_of cluster) (first.home) (second.served) it) (sym (same.0))
-          (subst (λ it. Serves events (memory_of cluster) it (second.served) (second.taking)) (sym (same.1)) (second.serves)) in
+      (subst (λ it. Serves events (memory_of cluster) it (second.served) (second.taking)) (sym (same.1)) (second.serves)) in
       let tells_second : Tells events (memory_of cluster) (first.home) (second.reply) (second.served) =
-          subst (λ it. Tells events (memory_of cluster) it (second.reply) (second.served)) (sym (same.1)) (second.tells) in
+      subst (λ it. Tells events (memory_of cluster) it (second.reply) (second.served)) (sym (same.1)) (second.tells) in
       let served_first = owed.head-pushed does tells (first.reply) (first.served) (first.tells) in
       let served_second = owed.head-pushed does tells (second.reply) (second.served) tells_second in
       let served_same = owed.once takes does (first.served) (second.served) (first.taking) served_first served_second (first.serves) serves_second in
       let told_second : gives_added (first.home) (events (second.reply)) ≡ true =
-          ap (gives_added (first.home)) (second.posted) ∙ ap (λ it. eqb it (first.home)) (sym (same.1)) ∙ itself (first.home) in
+      ap (gives_added (first.home)) (second.posted) ∙ ap (λ it. eqb it (first.home)) (sym (same.1)) ∙ itself (first.home) in
       let told_first : gives_added (first.home) (events (first.reply)) ≡ true = ap (gives_added (first.home)) (first.posted) ∙ itself (first.home) in
       let reply_same = owed.once does tells (first.reply) (second.reply) (first.served) told_first told_second (first.tells)
       (subst (λ it. Tells events (memory_of cluster) (first.home) (second.reply) it) (sym served_same) tells_second) in
@@ -525,7 +541,7 @@ module _ (cluster : Cluster) (turns : List WholeTurn) (lawful : IsLawful cluster
 
       on : Due number wait answer
           → ((answer request : ℕ) → answer < bound → Request number wait request → request < answer → Answer number wait answer
-              → (told : ℕ) × (told ≤ answer) × Told number wait request told)
+          → (told : ℕ) × (told ≤ answer) × Told number wait request told)
           → (told : ℕ) × (told ≤ answer) × Told number wait request told
       on (post, its, before_that, told) before = by_order (compare post request)
         where

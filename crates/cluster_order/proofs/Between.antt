@@ -11,7 +11,7 @@ use Rattle.cluster_order.proofs.Growing.{within, at_behind, before_behind, at_la
 
 own_more_on : (number : ℕ) (first : Moved) (front back : Course) (b : Bool) → own number (front ++ back) ≡ own number front ++ own number back
     → cond b (first.event ∷ own number (front ++ back)) (own number (front ++ back))
-        ≡ cond b (first.event ∷ own number front) (own number front) ++ own number back
+    ≡ cond b (first.event ∷ own number front) (own number front) ++ own number back
 own_more_on number first front back true same = ap (λ it. first.event ∷ it) same
 own_more_on number first front back false same = same
 
@@ -43,7 +43,7 @@ none_later number such (first ∷ later) course none = λ position moved start f
         let same : first ≡ moved = cc in
         let mine : eqb first.node number ≡ true = let first_by : first.node ≡ number = ap (λ it. it.node) same ∙ by in grind (arith, nat_tests) in
         let any : such first.event || list_any such (own number later) ≡ false =
-            subst (λ it. list_any such (cond it (first.event ∷ own number later) (own number later)) ≡ false) mine none in
+        subst (λ it. list_any such (cond it (first.event ∷ own number later) (own number later)) ≡ false) mine none in
         let not : such first.event ≡ false = grind (rules) in
         subst (λ it. such it.event ≡ false) same not
     on position moved start found by false is here rest = rest (skip (eqb first.node number) none) position moved start here by
@@ -60,14 +60,14 @@ later_none number such (first ∷ later) course none = on (eqb first.node number
     rest_none : NoneFrom (later ++ course) number such (length course)
     rest_none =
         λ position moved start found by. none position moved start
-            (at_behind (first ∷ []) (later ++ course) position (within (later ++ course) position moved found) ∙ found) by
+        (at_behind (first ∷ []) (later ++ course) position (within (later ++ course) position moved found) ∙ found) by
 
     on : (b : Bool) → eqb first.node number ≡ b → (NoneFrom (later ++ course) number such (length course) → list_any such (own number later) ≡ false)
         → list_any such (cond b (first.event ∷ own number later) (own number later)) ≡ false
     on true is rest =
         let count = length-append later course in
         let here : such first.event ≡ false =
-            none (length (later ++ course)) first (omega (arith, count)) (at_last first (later ++ course)) (grind (arith, nat_tests)) in
+        none (length (later ++ course)) first (omega (arith, count)) (at_last first (later ++ course)) (grind (arith, nat_tests)) in
         let others : list_any such (own number later) ≡ false = rest rest_none in
         rw (here, others) refl
     on false is rest = rest rest_none
@@ -95,7 +95,7 @@ stands number (moved ∷ course) newer event older is = on (eqb moved.node numbe
         → (position : ℕ) × Stands number (moved ∷ course) first_newer event older position
     more newer first_newer joined found =
         let less : found.0 < length course = let all = ap length (found.1.parts) in let sum =
-            length-append (found.1.later) (found.1.moved ∷ before course (found.0)) in let count = found.1.count in omega (arith, all, sum, count) in
+        length-append (found.1.later) (found.1.moved ∷ before course (found.0)) in let count = found.1.count in omega (arith, all, sum, count) in
         let same : before (moved ∷ course) (found.0) ≡ before course (found.0) = before_behind (moved ∷ []) course (found.0) less in (
           found.0,
           record {
@@ -112,7 +112,7 @@ stands number (moved ∷ course) newer event older is = on (eqb moved.node numbe
 
     on : (b : Bool) → eqb moved.node number ≡ b → (newer : Past) → cond b (moved.event ∷ own number course) (own number course) ≡ newer ++ event ∷ older
         → ((newer : Past) (event : Event) (older : Past) → own number course ≡ newer ++ event ∷ older
-            → (position : ℕ) × Stands number course newer event older position)
+        → (position : ℕ) × Stands number course newer event older position)
         → (position : ℕ) × Stands number (moved ∷ course) newer event older position
     on true is [] parts rest =
         let event_same : moved.event ≡ event = cc in
@@ -159,7 +159,7 @@ module _ (number : ℕ) (course : Course) (newer : Past) (event : Event) (older 
   pub past_parts : own number course ≡ newer ++ event ∷ older
   past_parts =
       ap (own number) (it.parts) ∙ own_more number (it.later) (it.moved ∷ before course position)
-          ∙ ap (λ back. own number (it.later) ++ back) (own_first number (it.moved) (before course position) (it.by))
+      ∙ ap (λ back. own number (it.later) ++ back) (own_first number (it.moved) (before course position) (it.by))
       ∙ ap (λ front. front ++ it.moved.event ∷ own number (before course position)) (it.newer_is)
       ∙ ap (λ one. newer ++ one ∷ own number (before course position)) (it.event_is)
       ∙ ap (λ back. newer ++ event ∷ back) (it.older_is)
@@ -194,4 +194,4 @@ module _ (number : ℕ) (course : Course) (newer : Past) (event : Event) (older 
       let count : length rest ≡ suc position = ap suc (it.count) in
       subst (λ past. list_any such past ≡ false) (it.newer_is)
       (later_none number such (it.later) rest
-          (subst (NoneFrom (it.later ++ rest) number such) (sym count) (subst (λ whole. NoneFrom whole number such (suc position)) (it.parts) none)))
+      (subst (NoneFrom (it.later ++ rest) number such) (sym count) (subst (λ whole. NoneFrom whole number such (suc position)) (it.parts) none)))

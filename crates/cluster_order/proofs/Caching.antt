@@ -79,35 +79,75 @@ module _ (cluster : Cluster) (turns : List WholeTurn) (lawful : IsLawful cluster
   own_item_of : (number position : ℕ) (moved : Moved) → at course position ≡ Some moved → (event : Event) → moved.event ≡ event
       → IsItem (memory_of cluster) number (happens_to cluster (before course position) moved.node moved.message event) → OwnItem number position
   own_item_of number position moved found (Did (item.Act frame index (act.Read word value))) same mine =
-      record { moved = moved; found = found; free = subst (λ it. IsFree (past it position)) mine ((act_allowed cluster turns lawful moved.node position frame
-          index (act.Read word value) (record { moved = moved; is = found; by = refl; event_is = same })).0) }
+      record {
+        moved = moved;
+        found = found;
+        free = subst (λ it. IsFree (past it position)) mine ((act_allowed cluster turns lawful moved.node position frame
+            index (act.Read word value) (record { moved = moved; is = found; by = refl; event_is = same })).0);
+      }
   own_item_of number position moved found (Did (item.Act frame index (act.Write word value))) same mine =
-      record { moved = moved; found = found; free = subst (λ it. IsFree (past it position)) mine ((act_allowed cluster turns lawful moved.node position frame
-          index (act.Write word value) (record { moved = moved; is = found; by = refl; event_is = same })).0) }
+      record {
+        moved = moved;
+        found = found;
+        free = subst (λ it. IsFree (past it position)) mine ((act_allowed cluster turns lawful moved.node position frame
+            index (act.Write word value) (record { moved = moved; is = found; by = refl; event_is = same })).0);
+      }
   own_item_of number position moved found (Did (item.Act frame index (act.Print value))) same mine =
-      record { moved = moved; found = found; free = subst (λ it. IsFree (past it position)) mine ((act_allowed cluster turns lawful moved.node position frame
-          index (act.Print value) (record { moved = moved; is = found; by = refl; event_is = same })).0) }
+      record {
+        moved = moved;
+        found = found;
+        free = subst (λ it. IsFree (past it position)) mine ((act_allowed cluster turns lawful moved.node position frame
+            index (act.Print value) (record { moved = moved; is = found; by = refl; event_is = same })).0);
+      }
   own_item_of number position moved found (Did (item.Act frame index (act.Spawn child procedure arguments))) same mine =
-      record { moved = moved; found = found; free = subst (λ it. IsFree (past it position)) mine ((act_allowed cluster turns lawful moved.node position frame
-          index (act.Spawn child procedure arguments) (record { moved = moved; is = found; by = refl; event_is = same })).0) }
+      record {
+        moved = moved;
+        found = found;
+        free = subst (λ it. IsFree (past it position)) mine ((act_allowed cluster turns lawful moved.node position frame
+            index (act.Spawn child procedure arguments) (record { moved = moved; is = found; by = refl; event_is = same })).0);
+      }
   own_item_of number position moved found (Did (item.Act frame index act.Sync)) same mine =
-      record { moved = moved; found = found; free = subst (λ it. IsFree (past it position)) mine
-          ((act_allowed cluster turns lawful moved.node position frame index act.Sync (record { moved = moved; is = found; by = refl; event_is = same })).0) }
+      record {
+        moved = moved;
+        found = found;
+        free = subst (λ it. IsFree (past it position)) mine
+            ((act_allowed cluster turns lawful moved.node position frame index act.Sync (record { moved = moved; is = found; by = refl; event_is = same })).0);
+      }
   own_item_of number position moved found (Did (item.Tick frame)) same mine =
-      record { moved = moved; found = found; free = subst (λ it. IsFree (past it position)) mine
-          ((tick_allowed cluster turns lawful moved.node position frame (record { moved = moved; is = found; by = refl; event_is = same })).0) }
+      record {
+        moved = moved;
+        found = found;
+        free = subst (λ it. IsFree (past it position)) mine
+            ((tick_allowed cluster turns lawful moved.node position frame (record { moved = moved; is = found; by = refl; event_is = same })).0);
+      }
   own_item_of number position moved found (Did (item.Drop page)) same mine =
-      record { moved = moved; found = found; free = subst (λ it. IsFree (past it position)) mine
-          ((drop_allowed cluster turns lawful moved.node position page (record { moved = moved; is = found; by = refl; event_is = same })).0) }
+      record {
+        moved = moved;
+        found = found;
+        free = subst (λ it. IsFree (past it position)) mine
+            ((drop_allowed cluster turns lawful moved.node position page (record { moved = moved; is = found; by = refl; event_is = same })).0);
+      }
   own_item_of number position moved found (Did (item.TakeUp frame)) same mine =
-      record { moved = moved; found = found; free = subst (λ it. IsFree (past it position)) mine
-          ((take_up_allowed cluster turns lawful moved.node position frame (record { moved = moved; is = found; by = refl; event_is = same })).0) }
+      record {
+        moved = moved;
+        found = found;
+        free = subst (λ it. IsFree (past it position)) mine
+            ((take_up_allowed cluster turns lawful moved.node position frame (record { moved = moved; is = found; by = refl; event_is = same })).0);
+      }
   own_item_of number position moved found (Did (item.OwnFetch page words)) same mine =
-      record { moved = moved; found = found; free = subst (λ it. IsFree (past it position)) mine
-          ((load_allowed cluster turns lawful moved.node position page words (record { moved = moved; is = found; by = refl; event_is = same })).0) }
+      record {
+        moved = moved;
+        found = found;
+        free = subst (λ it. IsFree (past it position)) mine
+            ((load_allowed cluster turns lawful moved.node position page words (record { moved = moved; is = found; by = refl; event_is = same })).0);
+      }
   own_item_of number position moved found (Did (item.OwnReconcile part)) same mine =
-      record { moved = moved; found = found; free = subst (λ it. IsFree (past it position)) mine
-          ((own_part_allowed cluster turns lawful moved.node position part (record { moved = moved; is = found; by = refl; event_is = same })).0) }
+      record {
+        moved = moved;
+        found = found;
+        free = subst (λ it. IsFree (past it position)) mine
+            ((own_part_allowed cluster turns lawful moved.node position part (record { moved = moved; is = found; by = refl; event_is = same })).0);
+      }
   own_item_of number position moved found (Did (item.Served frame index word old addend)) same (for, at_home) =
       on (served_allowed cluster turns lawful moved.node position frame index word old addend here)
     where
@@ -140,7 +180,7 @@ module _ (cluster : Cluster) (turns : List WholeTurn) (lawful : IsLawful cluster
       on (Some moved) found =
           own_item_of number position moved found moved.event refl
           (subst (IsItem (memory_of cluster) number)
-              (event_there cluster turns lawful moved.node position moved.event (record { moved = moved; is = found; by = refl; event_is = refl })) is)
+          (event_there cluster turns lawful moved.node position moved.event (record { moved = moved; is = found; by = refl; event_is = refl })) is)
 
   -- what was posted is answered where the node waits for nothing
   answered_there : (number position post receiver : ℕ) (note : log.Note) (moved : Moved) → at course position ≡ Some moved → IsQuiet (past number position)
@@ -158,7 +198,7 @@ module _ (cluster : Cluster) (turns : List WholeTurn) (lawful : IsLawful cluster
       let it = posted_is cluster course position number other (log.Fetch page) is in
       let sent = happens cluster course position number (it.0) (Sent (it.1)) (it.2) in
       let may =
-          fetch_allowed cluster turns lawful number position (it.1) page sent (fetch_is cluster number (before course position) page (it.1.body) (it.4)) in
+      fetch_allowed cluster turns lawful number position (it.1) page sent (fetch_is cluster number (before course position) page (it.1.body) (it.4)) in
       answered_there number position post receiver note (sent.moved) (sent.is) (may.quiet) less posted
   alone_there number position post receiver other note (log.AddTo frame word addend) is alone less posted =
       let it = posted_is cluster course position number other (log.AddTo frame word addend) is in
@@ -180,12 +220,12 @@ module _ (cluster : Cluster) (turns : List WholeTurn) (lawful : IsLawful cluster
   pub added_there : (number : ℕ) (frame : FrameId) (word : ℕ) (old addend : ℤ) (position : ℕ)
       → events position ≡ log.Acts number frame (log.Add word old addend)
       → (home index : ℕ) × Happens course home position (Did (item.Served frame index word old addend))
-          × (served_for home (owed_adds (past home position)) ≡ number)
+      × (served_for home (owed_adds (past home position)) ≡ number)
   added_there number frame word old addend position is = on (acted_is cluster course position number frame (log.Add word old addend) is)
     where
       on : Acted cluster course position number frame (log.Add word old addend) ⊎ Served cluster course position number frame (log.Add word old addend)
           → (home index : ℕ) × Happens course home position (Did (item.Served frame index word old addend))
-              × (served_for home (owed_adds (past home position)) ≡ number)
+          × (served_for home (owed_adds (past home position)) ≡ number)
       on (inl it) = absurd (no_add word old addend (it.act) (it.act_is))
       on (inr it) =
           let same = it.act_is in
@@ -203,8 +243,9 @@ module _ (cluster : Cluster) (turns : List WholeTurn) (lawful : IsLawful cluster
   access : Access events (memory_of cluster)
   access = record {
     resident = touched;
-    item = λ number position post receiver note is less posted. let it =
-        own_item number position is in answered_there number position post receiver note (it.moved) (it.found) (it.free.quiet) less posted;
+    item = λ number position post receiver note is less posted.
+        let it = own_item number position is in
+        answered_there number position post receiver note (it.moved) (it.found) (it.free.quiet) less posted;
     alone = alone_there;
     absent = λ number page post home arrival words is resident.
         let it = posted_is cluster course post number home (log.Fetch page) is in
@@ -223,7 +264,7 @@ module _ (cluster : Cluster) (turns : List WholeTurn) (lawful : IsLawful cluster
         not_in_cache number post (page_of (node 0) word) (Sent (it.1)) sent (may.add.absent) arrival words resident;
     own_add_absent =
         λ number frame word old addend position arrival words is at_home resident.
-            own_add_absent number frame word old addend position arrival words is at_home resident;
+        own_add_absent number frame word old addend position arrival words is at_home resident;
   }
     where
       own_add_absent : (number : ℕ) (frame : FrameId) (word : ℕ) (old addend : ℤ) (position arrival : ℕ) (words : ℕ → ℤ)
@@ -283,9 +324,9 @@ module _ (cluster : Cluster) (turns : List WholeTurn) (lawful : IsLawful cluster
         clean = λ word write same wrote after less.
             subst (λ its. Cleaned events number its word write position) same
             (cleaned cluster turns lawful number word write position (happened.moved) (happened.is) (since.there.later)
-                (since.there.moved ∷ before (before course position) (it.1)) (since.there.parts)
+            (since.there.moved ∷ before (before course position) (it.1)) (since.there.parts)
             (subst (AllSettled (node number) word) (staying cluster turns lawful position (happened.moved) (happened.is) number page (it.1) (it.0) since)
-                (drop.clean word same))
+            (drop.clean word same))
             wrote (start (before (before course position) (it.1)) (since.there.moved) (it.1) write (since.there.count) after) less);
       }
     where
@@ -313,7 +354,7 @@ module _ (cluster : Cluster) (turns : List WholeTurn) (lawful : IsLawful cluster
           λ word same.
               let value : words word ≡ stored (node number) word (past number position) =
               ap (λ all. all word) (it.2) ∙ ap (λ list. words_of cluster list word) (may.1.words_are)
-                  ∙ stored_words cluster number page word (past number position) same in
+              ∙ stored_words cluster number page word (past number position) same in
               subst (HomeWord events (memory_of cluster) word position) (sym value)
               (home_word cluster turns lawful position (it.1.moved) (it.1.is) number word (ap (home_of (node 0)) same ∙ sym (may.1.bring.at_home))),
         );
@@ -323,7 +364,7 @@ module _ (cluster : Cluster) (turns : List WholeTurn) (lawful : IsLawful cluster
     where
       page_reply : (home number page reply : ℕ) (words : ℕ → ℤ) → events reply ≡ log.Post home number (log.Page page words)
           → (taking post : ℕ) × Replying events home reply post taking × (events post ≡ log.Post number home (log.Fetch page))
-              × ((word : ℕ) → page_of (node 0) word ≡ page → HomeWord events (memory_of cluster) word taking (words word))
+          × ((word : ℕ) → page_of (node 0) word ≡ page → HomeWord events (memory_of cluster) word taking (words word))
       page_reply home number page reply words is = on (due.2)
         where
           it : (place : Option PostAt) × (message : Msg) × Found cluster course reply home place (Sent message) × (message.receiver ≡ number)
@@ -338,22 +379,22 @@ module _ (cluster : Cluster) (turns : List WholeTurn) (lawful : IsLawful cluster
 
           on : OwesFor cluster turns lawful home (it.1) (due.0)
               → (taking post : ℕ) × Replying events home reply post taking × (events post ≡ log.Post number home (log.Fetch page))
-                  × ((word : ℕ) → page_of (node 0) word ≡ page → HomeWord events (memory_of cluster) word taking (words word))
+              × ((word : ℕ) → page_of (node 0) word ≡ page → HomeWord events (memory_of cluster) word taking (words word))
           on (AckFor post parts message asked reconciles same) =
               let body_is : body.Ack ≡ body.Page page (says.0) = sym (ap (λ one. one.body) same) ∙ says.1 in absurd (cc)
           on (PageFor post its_page message asked fetches same) =
               let body_is : body.Page its_page (stored_page (node home) its_page (past home (due.0))) ≡ body.Page page (says.0) =
-                  sym (ap (λ one. one.body) same) ∙ says.1 in
+              sym (ap (λ one. one.body) same) ∙ says.1 in
               let page_same : its_page ≡ page = cc in
               let list_same : stored_page (node home) its_page (past home (due.0)) ≡ says.0 = cc in
               let sender : asked.sender ≡ number =
               sym (sent_by cluster turns lawful (asked.sender) post message (happens cluster course post (asked.sender) (Some (asked.place)) (Sent message)
-                  (asked.posted))) ∙ sym (ap (λ one. one.receiver) same) ∙ it.3 in
+              (asked.posted))) ∙ sym (ap (λ one. one.receiver) same) ∙ it.3 in
               let posted = posted_event cluster turns lawful home post (due.0) message asked
               ∙ ap (λ said. log.Post (asked.sender) home (note_of cluster (asked.sender) (before course post) said)) fetches
               ∙ ap (λ one. log.Post one home (log.Fetch its_page)) sender ∙ ap (λ one. log.Post number home (log.Fetch one)) page_same in
               let may = fetch_allowed cluster turns lawful (asked.sender) post message its_page
-                  (happens cluster course post (asked.sender) (Some (asked.place)) (Sent message) (asked.posted)) fetches in
+              (happens cluster course post (asked.sender) (Some (asked.place)) (Sent message) (asked.posted)) fetches in
               let home_is : home ≡ home_of (node 0) its_page = sym (asked.to) ∙ may.bring.at_home in (
                 due.0,
                 post,
@@ -362,10 +403,10 @@ module _ (cluster : Cluster) (turns : List WholeTurn) (lawful : IsLawful cluster
                 λ word same_page.
                     let value : words word ≡ stored (node home) word (past home (due.0)) =
                     ap (λ all. all word) (says.2) ∙ ap (λ list. words_of cluster list word) (sym list_same)
-                        ∙ stored_words cluster home its_page word (past home (due.0)) (same_page ∙ sym page_same) in
+                    ∙ stored_words cluster home its_page word (past home (due.0)) (same_page ∙ sym page_same) in
                     subst (HomeWord events (memory_of cluster) word (due.0)) (sym value)
                     (home_word cluster turns lawful (due.0) (asked.taken.moved) (asked.taken.is) home word
-                        (ap (home_of (node 0)) (same_page ∙ sym page_same) ∙ sym home_is)),
+                    (ap (home_of (node 0)) (same_page ∙ sym page_same) ∙ sym home_is)),
               )
 
       ack_reply : (home number reply : ℕ) → events reply ≡ log.Post home number log.Ack
@@ -386,11 +427,11 @@ module _ (cluster : Cluster) (turns : List WholeTurn) (lawful : IsLawful cluster
               × (events post ≡ log.Post number home (log.Reconcile parts))
           on (PageFor post its_page message asked fetches same) =
               let body_is : body.Page its_page (stored_page (node home) its_page (past home (due.0))) ≡ body.Ack =
-                  sym (ap (λ one. one.body) same) ∙ says in absurd (cc)
+              sym (ap (λ one. one.body) same) ∙ says in absurd (cc)
           on (AckFor post parts message asked reconciles same) =
               let sender : asked.sender ≡ number =
               sym (sent_by cluster turns lawful (asked.sender) post message (happens cluster course post (asked.sender) (Some (asked.place)) (Sent message)
-                  (asked.posted))) ∙ sym (ap (λ one. one.receiver) same) ∙ it.3 in
+              (asked.posted))) ∙ sym (ap (λ one. one.receiver) same) ∙ it.3 in
               let posted = posted_event cluster turns lawful home post (due.0) message asked
               ∙ ap (λ said. log.Post (asked.sender) home (note_of cluster (asked.sender) (before course post) said)) reconciles
               ∙ ap (λ one. log.Post one home (log.Reconcile (parts_of cluster parts))) sender in
@@ -448,7 +489,7 @@ module _ (cluster : Cluster) (turns : List WholeTurn) (lawful : IsLawful cluster
               let sender_add : served_for (it.0) (owed_adds (past (it.0) position)) ≡ serves.add.sender = ap (served_for (it.0)) (serves.oldest) in
               let sender : asked.sender ≡ number =
               sym (sent_by cluster turns lawful (asked.sender) (taken.2.post) (serves.add)
-                  (happens cluster course (taken.2.post) (asked.sender) (Some (asked.place)) (Sent (serves.add)) (asked.posted))) ∙ sym sender_add ∙ it.3 in
+              (happens cluster course (taken.2.post) (asked.sender) (Some (asked.place)) (Sent (serves.add)) (asked.posted))) ∙ sym sender_add ∙ it.3 in
               let posted = posted_event cluster turns lawful (it.0) (taken.2.post) (taken.0) (serves.add) asked
               ∙ ap (λ said. log.Post (asked.sender) (it.0) (note_of cluster (asked.sender) (before course (taken.2.post)) said)) (serves.asked)
               ∙ ap (λ one. log.Post one (it.0) (log.AddTo frame word addend)) sender in
@@ -459,9 +500,9 @@ module _ (cluster : Cluster) (turns : List WholeTurn) (lawful : IsLawful cluster
           → HomeWord events (memory_of cluster) word position old
       add_old number frame word old addend position is =
           subst (HomeWord events (memory_of cluster) word position)
-              (sym (on (served_allowed cluster turns lawful (it.0) position frame (it.1) word old addend (it.2))))
+          (sym (on (served_allowed cluster turns lawful (it.0) position frame (it.1) word old addend (it.2))))
           (home_word cluster turns lawful position (it.2.moved) (it.2.is) (it.0) word
-              (home_served cluster turns lawful (it.0) position frame (it.1) word old addend (it.2)))
+          (home_served cluster turns lawful (it.0) position frame (it.1) word old addend (it.2)))
         where
           it : (home index : ℕ) × Happens course home position (Did (item.Served frame index word old addend))
               × (served_for home (owed_adds (past home position)) ≡ number)

@@ -112,7 +112,7 @@ sending_body such (body.Added old) any = absurd (cc)
 -- a sending of such a part: in a message, or of the node's own
 sending_event : (such : page.Part → Bool) (event : Event) → list_any such (sendings event) ≡ true
     → ((message : Msg) × (parts : List page.Part) × (event ≡ Sent message) × (message.body ≡ body.Reconcile parts) × OneOf such parts)
-        ⊎ ((part : page.Part) × (event ≡ Did (item.OwnReconcile part)) × (such part ≡ true))
+    ⊎ ((part : page.Part) × (event ≡ Did (item.OwnReconcile part)) × (such part ≡ true))
 sending_event such (Did (item.Act frame index act)) any = absurd (cc)
 sending_event such (Did (item.Tick frame)) any = absurd (cc)
 sending_event such (Did (item.Drop page)) any = absurd (cc)
@@ -146,13 +146,13 @@ module _ (cluster : Cluster) (turns : List WholeTurn) (lawful : IsLawful cluster
       on (inl it) =
           let happened = subst (λ one. Happens course number position one) (it.2) happens in
           let posted = event_there cluster turns lawful number position (Sent (it.0)) happened
-              ∙ ap (λ said. log.Post number (it.0.receiver) (note_of cluster number (before course position) said)) (it.3) in
+          ∙ ap (λ said. log.Post number (it.0.receiver) (note_of cluster number (before course position) said)) (it.3) in
           let one = it.4 in (
             one.one,
             one.such_is,
             ByPart (it.0.receiver) (parts_of cluster (it.1)) posted
                 (subst (λ list. HasPart (part_of cluster (one.one)) (parts_of cluster list)) (sym (one.split))
-                    (has_part cluster (one.newer) (one.one) (one.older))),
+                (has_part cluster (one.newer) (one.one) (one.older))),
           )
       on (inr it) =
           let happened = subst (λ one. Happens course number position one) (it.1) happens in
@@ -243,7 +243,7 @@ module _ (cluster : Cluster) (turns : List WholeTurn) (lawful : IsLawful cluster
   dirty_write : (number word position : ℕ) (moved : Moved) → at course position ≡ Some moved
       → is_dirty (node_at cluster number) word (own number (before course position)) ≡ true
       → (write : ℕ) × IsWrite events number word write × (write < position) × NoneBetween (IsWrite events number word) write position
-          × NoneBetween (Fresh number (page_of (node_at cluster number) word)) write position
+      × NoneBetween (Fresh number (page_of (node_at cluster number) word)) write position
   dirty_write number word position moved found dirty =
       let page = page_of (node_at cluster number) word in
       let front = before course position in
@@ -253,7 +253,7 @@ module _ (cluster : Cluster) (turns : List WholeTurn) (lawful : IsLawful cluster
       let parts : own number front ≡ it.newer ++ latest.0 ∷ (it.older ++ cut.0) =
       cut.1 ∙ ap (λ list. list ++ cut.0) (it.parts) ∙ append_assoc (it.newer) (latest.0 ∷ it.older) (cut.0) in
       let none_fresh = none_front (fresh page) (it.newer) (latest.0 ∷ it.older)
-          (subst (λ list. list_any (fresh page) list ≡ false) (it.parts) (since_none (fresh page) (own number front))) in
+      (subst (λ list. list_any (fresh page) list ≡ false) (it.parts) (since_none (fresh page) (own number front))) in
       let there = stands number front (it.newer) (latest.0) (it.older ++ cut.0) parts in
       let here = happens_there number front (it.newer) (latest.0) (it.older ++ cut.0) (there.0) (there.1) in
       let happened = happened_before course position moved found number (there.0) (latest.0) here in
@@ -283,7 +283,7 @@ module _ (cluster : Cluster) (turns : List WholeTurn) (lawful : IsLawful cluster
       let parts = past_parts number front (there.0) (it.0) (own number (before front write)) write (there.1) in
       let no_newer = none_newer number front (there.0) (it.0) (own number (before front write)) write (there.1) (fresh page)
       (none_from course position moved found number (fresh page) (Fresh number page) write
-          (λ i other happened is. fresh_at number page i other happened is) none) in
+      (λ i other happened is. fresh_at number page i other happened is) none) in
       ap (λ past. list_any (writes word) (since (fresh page) past)) parts
       ∙ any_since (writes word) (fresh page) (there.0) (it.0) (own number (before front write)) no_newer (write_is_old word page (it.0) (it.2)) (it.2)
 
@@ -342,7 +342,7 @@ module _ (cluster : Cluster) (turns : List WholeTurn) (lawful : IsLawful cluster
           by_order (Same3 equal) =
               let one = write_there cluster turns lawful number word write wrote in
               let two = arrival_there cluster turns lawful number (sent.page) write
-                  (subst (λ it. IsArrival events number (sent.page) it) equal (words_of cluster list, resident.arrives)) in
+              (subst (λ it. IsArrival events number (sent.page) it) equal (words_of cluster list, resident.arrives)) in
               let both : Some (one.1.moved) ≡ Some (two.1.moved) = sym (one.1.is) ∙ two.1.is in
               let same_moved : one.1.moved ≡ two.1.moved = cc in
               let same_event : one.0 ≡ two.0 = sym (one.1.event_is) ∙ ap (λ it. it.event) same_moved ∙ two.1.event_is in
@@ -358,12 +358,12 @@ module _ (cluster : Cluster) (turns : List WholeTurn) (lawful : IsLawful cluster
           → (write : ℕ) × LastWrite events number word arrival position write (sent.words word) × NoneBetween (Sends events number (sent.page)) write position
       marked word same mask =
           let dirty : is_dirty (node_at cluster number) word (own number (before course position)) ≡ true =
-              sym (sent_dirty number position sent it word same) ∙ mask in
+          sym (sent_dirty number position sent it word same) ∙ mask in
           let write = dirty_write number word position moved found dirty in
           let none_fresh = subst (λ page. NoneBetween (Fresh number page) (write.0) position) same (write.4) in
           let later = after word (write.0) same (write.1) (write.2) none_fresh in
           let last : LastWrite events number word arrival position (write.0) (write.1.0) =
-              record { after = later; before = write.2; writes = write.1.1; none = write.3 } in
+          record { after = later; before = write.2; writes = write.1.1; none = write.3 } in
           let cached_is = cached_last cluster turns lawful position moved found number word arrival (write.0) (write.1.0) list
           (subst (λ page. Since cluster turns lawful position moved found number page arrival list) (sym same) since_there) last in
           let page_is : page_of (node_at cluster 0) word ≡ it.part.page = same ∙ sym page_same in
@@ -371,16 +371,18 @@ module _ (cluster : Cluster) (turns : List WholeTurn) (lawful : IsLawful cluster
           let value : sent.words word ≡ write.1.0 =
           ap (λ one. one.words word) (sym (it.part_is)) ∙ it.sending.words (place_of (node_at cluster 0) word) (place_within cluster word) marks_is
           ∙ ap (λ one. cached (node_at cluster number) one (own number (before course position))) (word_at_place cluster word (it.part.page) page_is)
-          ∙ cached_is in
-          (write.0, subst (λ it. LastWrite events number word arrival position (write.0) it) (sym value) last,
-              λ i behind ahead sends. none_fresh i behind ahead (inr sends))
+          ∙ cached_is in (
+            write.0,
+            subst (λ it. LastWrite events number word arrival position (write.0) it) (sym value) last,
+            λ i behind ahead sends. none_fresh i behind ahead (inr sends),
+          )
 
       all : (word write : ℕ) → page_of (node_at cluster 0) word ≡ sent.page → IsWrite events number word write → arrival < write → write < position
           → NoneBetween (Sends events number (sent.page)) write position → sent.mask word ≡ true
       all word write same wrote later less none =
           sent_dirty number position sent it word same
           ∙ write_dirty number word position write moved found wrote less
-              (λ i behind ahead fresh_one. by_kind i behind ahead (subst (λ page. Fresh number page i) same fresh_one))
+          (λ i behind ahead fresh_one. by_kind i behind ahead (subst (λ page. Fresh number page i) same fresh_one))
         where
           by_kind : (i : ℕ) → write < i → i < position → Fresh number (sent.page) i → ⊥
           by_kind i behind ahead (inl arrived) = resident.last i (omega (arith, later, behind)) ahead arrived
@@ -420,7 +422,7 @@ module _ (cluster : Cluster) (turns : List WholeTurn) (lawful : IsLawful cluster
       past_is : own number later ≡ own number (cut.0) ++ there.0 ∷ own number (cut.1)
       past_is =
           ap (own number) (cut.2) ∙ own_more number (cut.0) (here.moved ∷ cut.1)
-              ∙ ap (λ it. own number (cut.0) ++ it) (own_first number (here.moved) (cut.1) (here.by))
+          ∙ ap (λ it. own number (cut.0) ++ it) (own_first number (here.moved) (cut.1) (here.by))
           ∙ ap (λ event. own number (cut.0) ++ event ∷ own number (cut.1)) (here.event_is)
 
       is : IsSettled (node_at cluster number) word (own number (cut.0))
@@ -438,7 +440,7 @@ module _ (cluster : Cluster) (turns : List WholeTurn) (lawful : IsLawful cluster
       whole : before course position ≡ sent.1.later ++ sent.1.moved ∷ older
       whole =
           front ∙ ap (λ it. it ++ rest) (cut.2) ∙ append_assoc (cut.0) (here.moved ∷ cut.1) rest
-              ∙ ap (λ it. it ++ (here.moved ∷ (cut.1 ++ rest))) (sent.1.parts)
+          ∙ ap (λ it. it ++ (here.moved ∷ (cut.1 ++ rest))) (sent.1.parts)
           ∙ append_assoc (sent.1.later) (sent.1.moved ∷ before (cut.0) (sent.0)) (here.moved ∷ (cut.1 ++ rest))
 
       behind : write < post
@@ -463,7 +465,7 @@ module _ (cluster : Cluster) (turns : List WholeTurn) (lawful : IsLawful cluster
       marked : (part.0.page ≡ page_of (node_at cluster 0) word) × (marks (part.0.mask) (place_of (node_at cluster 0) word) ≡ true)
       marked =
           let both =
-              both_true (eqb (part.0.page) (page_of (node_at cluster number) word)) (marks (part.0.mask) (place_of (node_at cluster number) word)) (part.1) in
+          both_true (eqb (part.0.page) (page_of (node_at cluster number) word)) (marks (part.0.mask) (place_of (node_at cluster number) word)) (part.1) in
           (equal (part.0.page) (page_of (node_at cluster 0) word) (both.0), both.1)
 
       by : Settled events number post position → Cleaned events number (page_of (node_at cluster 0) word) word write position
@@ -472,7 +474,7 @@ module _ (cluster : Cluster) (turns : List WholeTurn) (lawful : IsLawful cluster
       by_ack : (message : Msg) → is.event ≡ Sent message → Settled events number post position
       by_ack message same =
           let sent_one = sending_event (marks_word (node_at cluster number) word) (Sent message)
-              (ap (λ it. list_any (marks_word (node_at cluster number) word) (sendings it)) (sym same) ∙ is.sends) in
+          (ap (λ it. list_any (marks_word (node_at cluster number) word) (sendings it)) (sym same) ∙ is.sends) in
           let reconciles : reconciles_in message.body ≡ true = is_reconcile sent_one in
           let request : Request cluster turns lawful number (ForAck message.receiver) post =
           record { message = message; is = subst (λ it. Happens course number post it) same posted; asks = rw (reconciles, itself message.receiver) refl } in
@@ -480,39 +482,39 @@ module _ (cluster : Cluster) (turns : List WholeTurn) (lawful : IsLawful cluster
           ap (list_any (ends (ForAck message.receiver))) (sent.1.newer_is) ∙ ap (λ it. settles it (is.newer)) (sym same) ∙ is.settled in
           let somewhere = some_later number (ends (ForAck message.receiver)) (sent.1.later) (sent.1.moved ∷ older) any in
           let there_at : at (before course position) (somewhere.position) ≡ Some (somewhere.moved) =
-              ap (λ all. at all (somewhere.position)) whole ∙ somewhere.is in
+          ap (λ all. at all (somewhere.position)) whole ∙ somewhere.is in
           let happened = happened_before course position moved found number (somewhere.position) (somewhere.moved.event)
           (record { moved = somewhere.moved; is = there_at; by = somewhere.by; event_is = refl }) in
           let start_there = somewhere.behind in
           let inside = within (before course position) (somewhere.position) (somewhere.moved) there_at in
           let count = length_before course position moved found in
           let answer =
-              ended_by cluster turns lawful number (ForAck message.receiver) (somewhere.position) (somewhere.moved.event) happened (somewhere.such_is) in
+          ended_by cluster turns lawful number (ForAck message.receiver) (somewhere.position) (somewhere.moved.event) happened (somewhere.such_is) in
           let told = told_behind_answer cluster turns lawful number (ForAck message.receiver) (somewhere.position) post request
-              (enough (somewhere.position) post start_there) answer in
+          (enough (somewhere.position) post start_there) answer in
           Acked (replied_by cluster turns lawful number post (told.0) position (told.2)
-              (at_last_before (told.0) (somewhere.position) position (before course position) told.1 inside count))
+          (at_last_before (told.0) (somewhere.position) position (before course position) told.1 inside count))
         where
           is_reconcile : ((it : Msg) × (parts : List page.Part) × (Sent message ≡ Sent it) × (it.body ≡ body.Reconcile parts)
               × OneOf (marks_word (node_at cluster number) word) parts)
               ⊎ ((part : page.Part) × (Sent message ≡ Did (item.OwnReconcile part)) × (marks_word (node_at cluster number) word part ≡ true))
-                  → reconciles_in message.body ≡ true
+              → reconciles_in message.body ≡ true
           is_reconcile (inl it) = let same_one : message ≡ it.0 = let both = it.2 in cc in ap (λ one. reconciles_in one.body) same_one ∙ ap reconciles_in (it.3)
           is_reconcile (inr it) = let both = it.1 in absurd (cc)
 
       by_item : (done : Item) → is.event ≡ Did done → Settled events number post position
       by_item done same =
           at_once (sending_event (marks_word (node_at cluster number) word) (Did done)
-              (ap (λ it. list_any (marks_word (node_at cluster number) word) (sendings it)) (sym same) ∙ is.sends))
+          (ap (λ it. list_any (marks_word (node_at cluster number) word) (sendings it)) (sym same) ∙ is.sends))
         where
           at_once : ((it : Msg) × (parts : List page.Part) × (Did done ≡ Sent it) × (it.body ≡ body.Reconcile parts)
               × OneOf (marks_word (node_at cluster number) word) parts)
               ⊎ ((part : page.Part) × (Did done ≡ Did (item.OwnReconcile part)) × (marks_word (node_at cluster number) word part ≡ true))
-                  → Settled events number post position
+              → Settled events number post position
           at_once (inl it) = let both = it.2 in absurd (cc)
           at_once (inr it) =
               AtOnce (part_of cluster (it.0)) (event_there cluster turns lawful number post (Did (item.OwnReconcile (it.0)))
-                  (subst (λ one. Happens course number post one) (same ∙ it.1) posted)) ahead
+              (subst (λ one. Happens course number post one) (same ∙ it.1) posted)) ahead
 
       no_sending : (event : Event) → is.event ≡ event → list_any (marks_word (node_at cluster number) word) (sendings event) ≡ true
       no_sending event same = ap (λ it. list_any (marks_word (node_at cluster number) word) (sendings it)) (sym same) ∙ is.sends

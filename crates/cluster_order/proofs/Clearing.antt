@@ -27,7 +27,7 @@ module _ (cluster : Cluster) (turns : List WholeTurn) (lawful : IsLawful cluster
       → AllClean events (memory_of cluster) number position
   all_clean number position moved found clean word write wrote less =
       cleaned cluster turns lawful number word write position moved found (before course position) [] (sym (append-nil (before course position)))
-          (clean word) wrote (omega (arith)) less
+      (clean word) wrote (omega (arith)) less
 
   pub clean : (position number receiver : ℕ) (note : log.Note) → events position ≡ log.Post number receiver note → IsEdge note
       → AllClean events (memory_of cluster) number position
@@ -41,7 +41,7 @@ module _ (cluster : Cluster) (turns : List WholeTurn) (lawful : IsLawful cluster
       let sent = happens cluster course position number (it.0) (Sent (it.1)) (it.2) in
       let says = done_is cluster number (before course position) parent child (it.1.body) (it.4) in
       all_clean number position (sent.moved) (sent.is)
-          ((done_allowed cluster turns lawful number position (it.1) (says.0) (says.1) (says.2) sent (says.3)).clean)
+      ((done_allowed cluster turns lawful number position (it.1) (says.0) (says.1) (says.2) sent (says.3)).clean)
   clean position number receiver (log.Park parked) is edge =
       let it = posted_is cluster course position number receiver (log.Park parked) is in
       let sent = happens cluster course position number (it.0) (Sent (it.1)) (it.2) in

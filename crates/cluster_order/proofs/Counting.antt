@@ -84,8 +84,10 @@ module _ (push pop : ℕ → Bool) (apart : (at : ℕ) → pop at ≡ true → p
                 (head.1.is) (before.1),
           )
       on false kept true pushed before =
-          rw (kept, pushed) (ranked_push push (count pop now) now (line now) (before.0) (before.1),
-              total_push (count pop now) now (count push now) (line now) (before.1))
+          rw (kept, pushed) (
+            ranked_push push (count pop now) now (line now) (before.0) (before.1),
+            total_push (count pop now) now (count push now) (line now) (before.1),
+          )
       on false kept false none before = rw (kept, none) before
 
   -- as many were popped before it is popped as were pushed before it was pushed

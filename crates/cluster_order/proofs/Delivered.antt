@@ -41,7 +41,7 @@ posts_pass node here [] course place misses = refl
 posts_pass node here (message ∷ messages) course place misses =
     let moved : Moved = record { node = node; event = Sent message; message = Some here } in
     posts_pass node (record here { index = here.index + 1 }) messages (moved ∷ course) place (misses_next place here misses)
-        ∙ rw (missed place here misses) refl
+    ∙ rw (missed place here misses) refl
 
 taking_pass : (node : ℕ) (taken : Option PostAt) (message : Option Msg) (course : Course) (place : PostAt)
     → post_position (with_taking node taken message course) place ≡ post_position course place
@@ -72,7 +72,7 @@ same_here place = grind (arith, nat_tests)
 
 found_in : (node turn start index : ℕ) (messages : List Msg) (course : Course) (message : Msg) → slice_get messages index ≡ Some message
     → Posted (with_posts node (at_place turn start) messages course) (at_place turn (start + index)) message
-        (post_position (with_posts node (at_place turn start) messages course) (at_place turn (start + index)))
+    (post_position (with_posts node (at_place turn start) messages course) (at_place turn (start + index)))
 found_in node turn start index [] course message found = absurd (cc)
 found_in node turn start zero (first ∷ messages) course message found =
     let same : first ≡ message = cc in
@@ -80,17 +80,17 @@ found_in node turn start zero (first ∷ messages) course message found =
     let here : start + 0 ≡ start = omega (arith) in
     let where_is : post_position (with_posts node (at_place turn (start + 1)) messages (moved ∷ course)) (at_place turn start) ≡ length course =
     posts_pass node (at_place turn (start + 1)) messages (moved ∷ course) (at_place turn start) (inr (omega (arith)))
-        ∙ rw (same_here (at_place turn start)) refl in
+    ∙ rw (same_here (at_place turn start)) refl in
     let is : Posted (with_posts node (at_place turn (start + 1)) messages (moved ∷ course)) (at_place turn start) message
     (post_position (with_posts node (at_place turn (start + 1)) messages (moved ∷ course)) (at_place turn start)) =
     subst (Posted (with_posts node (at_place turn (start + 1)) messages (moved ∷ course)) (at_place turn start) message) (sym where_is)
     (posted_more (moved ∷ course) (with_posts node (at_place turn (start + 1)) messages (moved ∷ course))
-        (at_grown (moved ∷ course) _ (grown_posts node (at_place turn (start + 1)) messages (moved ∷ course)))
+    (at_grown (moved ∷ course) _ (grown_posts node (at_place turn (start + 1)) messages (moved ∷ course)))
     (at_place turn start) message (length course) (record { sender = node; is = at_last moved course })) in
     subst (λ it. Posted (with_posts node (at_place turn (start + 1)) messages
-        (record { node = node; event = Sent it; message = Some (at_place turn start) } ∷ course)) (at_place turn (start + 0)) message
+    (record { node = node; event = Sent it; message = Some (at_place turn start) } ∷ course)) (at_place turn (start + 0)) message
     (post_position (with_posts node (at_place turn (start + 1)) messages
-        (record { node = node; event = Sent it; message = Some (at_place turn start) } ∷ course)) (at_place turn (start + 0)))) (sym same)
+    (record { node = node; event = Sent it; message = Some (at_place turn start) } ∷ course)) (at_place turn (start + 0)))) (sym same)
     (subst (λ it. Posted (with_posts node (at_place turn (start + 1)) messages (moved ∷ course)) (at_place turn it) message
     (post_position (with_posts node (at_place turn (start + 1)) messages (moved ∷ course)) (at_place turn it))) (sym here) is)
 found_in node turn start (suc index) (first ∷ messages) course message found =
@@ -151,11 +151,11 @@ posted_stands (turn ∷ older) place message found = on (eqb (place.turn) (lengt
         let place_is : place ≡ at_place (length older) (0 + place.index) = ap (λ it. at_place it (place.index)) same ∙ ap (at_place (length older)) none in
         let found_there = found_in turn.node (length older) 0 (place.index) turn.posts items message found in
         let in_posts : Posted posts place message (post_position posts place) =
-            subst (λ it. Posted posts it message (post_position posts it)) (sym place_is) found_there in
+        subst (λ it. Posted posts it message (post_position posts it)) (sym place_is) found_there in
         let passed : post_position whole place ≡ post_position posts place =
-            end_pass turn.node turn.end taking place ∙ taking_pass turn.node turn.took message_taken posts place in
+        end_pass turn.node turn.end taking place ∙ taking_pass turn.node turn.took message_taken posts place in
         let in_taking = posted_more posts taking (at_grown posts taking (grown_taking turn.node turn.took message_taken posts)) place message
-            (post_position posts place) in_posts in
+        (post_position posts place) in_posts in
         subst (Posted whole place message) (sym passed)
         (posted_more taking whole (at_grown taking whole (grown_end turn.node turn.end taking)) place message (post_position posts place) in_taking)
     on false is found rest =
@@ -163,7 +163,7 @@ posted_stands (turn ∷ older) place message found = on (eqb (place.turn) (lengt
         let before = rest found in
         subst (Posted whole place message) (sym (turn_pass (length older) turn message_taken (course_of older) place other))
         (posted_more (course_of older) whole (at_grown (course_of older) whole (grown_turn (length older) turn message_taken (course_of older))) place message
-            (post_position (course_of older) place) before)
+        (post_position (course_of older) place) before)
 
 -- ---- takings
 
@@ -199,7 +199,7 @@ old_end : (node : ℕ) (end : Option NodeEnd) (course : Course) (position : ℕ)
 old_end node None course position moved message found took = found
 old_end node (Some end) course position moved message found took =
     not_first (record { node = node; event = Ended end; message = None }) moved course position
-        (λ same. let is : Ended end ≡ Took message = ap (λ it. it.event) same ∙ took in absurd (cc)) found
+    (λ same. let is : Ended end ≡ Took message = ap (λ it. it.event) same ∙ took in absurd (cc)) found
 
 -- the taking of this turn stands behind its posts
 record Top (turn : WholeTurn) (taken : Option Msg) (posts whole : Course) (position : ℕ) (moved : Moved) (message : Msg) : Type 0 where
@@ -236,7 +236,7 @@ turn_in : (number : ℕ) (turn : WholeTurn) (taken : Option Msg) (course : Cours
     → moved.event ≡ Took message
     → (at course position ≡ Some moved)
     ⊎ Top turn taken (with_posts turn.node (at_place number 0) turn.posts (with_items turn.node turn.items course))
-        (with_turn number turn taken course) position moved message
+    (with_turn number turn taken course) position moved message
 turn_in number turn taken course position moved message found took =
     on (taking_in turn taken posts position moved message in_taking took)
   where
@@ -259,7 +259,7 @@ turn_in number turn taken course position moved message found took =
         → (at course position ≡ Some moved) ⊎ Top turn taken posts whole position moved message
     on (inl in_posts) =
         inl (old_items turn.node turn.items course position moved message
-            (old_posts turn.node (at_place number 0) turn.posts items position moved message in_posts took) took)
+        (old_posts turn.node (at_place number 0) turn.posts items position moved message in_posts took) took)
     on (inr top) = inr (record {
       taken_is = top.taken_is;
       moved_is = top.moved_is;
@@ -292,11 +292,11 @@ delivered_top cluster turn older position moved message (Some place) is delivere
     let other : place.turn ≢ length older = λ same. omega (arith, less, same) in
     let passed : post_position posts place ≡ post_position (course_of older) place =
     posts_pass turn.node (at_place (length older) 0) turn.posts items place (inl (λ same. other (sym same)))
-        ∙ items_pass turn.node turn.items (course_of older) place in
+    ∙ items_pass turn.node turn.items (course_of older) place in
     let in_items = posted_more (course_of older) items (at_grown (course_of older) items (grown_items turn.node turn.items (course_of older))) place message
-        (post_position (course_of older) place) old in
+    (post_position (course_of older) place) old in
     let in_posts = posted_more items posts (at_grown items posts (grown_posts turn.node (at_place (length older) 0) turn.posts items)) place message
-        (post_position (course_of older) place) in_items in
+    (post_position (course_of older) place) in_items in
     record {
       place = place;
       place_is = ap (λ it. it.message) (top.moved_is) ∙ is;
@@ -307,8 +307,12 @@ delivered_top cluster turn older position moved message (Some place) is delivere
 delivered_more : (course more : Course) (position : ℕ) (moved : Moved) (message : Msg) → before more position ≡ before course position
     → Delivered course position moved message → Delivered more position moved message
 delivered_more course more position moved message same d =
-    record { place =
-        d.place; place_is = d.place_is; posted = subst (λ it. Posted it (d.place) message (post_position it (d.place))) (sym same) (d.posted); to = d.to }
+    record {
+      place = d.place;
+      place_is = d.place_is;
+      posted = subst (λ it. Posted it (d.place) message (post_position it (d.place))) (sym same) (d.posted);
+      to = d.to;
+    }
 
 pub delivered : (cluster : Cluster) (turns : List WholeTurn) (position : ℕ) (moved : Moved) (message : Msg) → IsLawful cluster turns
     → at (course_of turns) position ≡ Some moved → moved.event ≡ Took message
@@ -324,12 +328,12 @@ delivered cluster (turn ∷ older) position moved message lawful found took =
 
     on : (at (course_of older) position ≡ Some moved)
         ⊎ Top turn (posted_at older turn.took) (with_posts turn.node (at_place (length older) 0) turn.posts (with_items turn.node turn.items (course_of older)))
-            whole position moved message
+        whole position moved message
         → (at (course_of older) position ≡ Some moved → Delivered (course_of older) position moved message) → Delivered whole position moved message
     on (inl old) rest =
         delivered_more (course_of older) whole position moved message
         (before_grown (course_of older) whole (grown_turn (length older) turn (posted_at older turn.took) (course_of older)) position
-            (within (course_of older) position moved old))
+        (within (course_of older) position moved old))
         (rest old)
     on (inr top) rest = delivered_top cluster turn older position moved message turn.took refl (lawful.1.delivered) top
 

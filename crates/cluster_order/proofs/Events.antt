@@ -50,7 +50,7 @@ module _ (cluster : Cluster) (course : Course) (position : ℕ) where
   posted_is_on : (p q : ℕ) (note : log.Note) (node : ℕ) (place : Option PostAt) (event : Event) → Found node place event
       → happens_to cluster (before course position) node place event ≡ log.Post p q note
       → (place : Option PostAt) × (message : Msg) × Found p place (Sent message) × (message.receiver ≡ q)
-          × (note_of cluster p (before course position) message.body ≡ note)
+      × (note_of cluster p (before course position) message.body ≡ note)
   posted_is_on p q note node place (Did (item.Act frame index act)) found is = absurd (cc)
   posted_is_on p q note node place (Did (item.Tick frame)) found is = absurd (cc)
   posted_is_on p q note node place (Did (item.Drop page)) found is = absurd (cc)
@@ -59,9 +59,13 @@ module _ (cluster : Cluster) (course : Course) (position : ℕ) where
   posted_is_on p q note node place (Did (item.OwnReconcile part)) found is = absurd (cc)
   posted_is_on p q note node place (Did (item.Served frame index word old addend)) found is = absurd (cc)
   posted_is_on p q note node place (Sent message) found is =
-      let by : node ≡ p = cc in let to : message.receiver ≡ q = cc in let says : note_of cluster node (before course position) message.body ≡ note = cc in
-      (place, message, subst (λ it. Found it place (Sent message)) by found, to,
-          subst (λ it. note_of cluster it (before course position) message.body ≡ note) by says)
+      let by : node ≡ p = cc in let to : message.receiver ≡ q = cc in let says : note_of cluster node (before course position) message.body ≡ note = cc in (
+        place,
+        message,
+        subst (λ it. Found it place (Sent message)) by found,
+        to,
+        subst (λ it. note_of cluster it (before course position) message.body ≡ note) by says,
+      )
   posted_is_on p q note node place (Took message) found is = absurd (cc)
   posted_is_on p q note node place (Ended end) found is = absurd (cc)
 
@@ -100,7 +104,7 @@ module _ (cluster : Cluster) (course : Course) (position : ℕ) where
   dropped_is_on p g node place (Did (item.Tick frame)) found is = absurd (cc)
   dropped_is_on p g node place (Did (item.Drop page)) found is =
       let by : node ≡ p = cc in let same : page ≡ g = cc in subst (λ it. Happens course it position (Did (item.Drop g))) by
-          (subst (λ it. Happens course node position (Did (item.Drop it))) same (happens node place (Did (item.Drop page)) found))
+      (subst (λ it. Happens course node position (Did (item.Drop it))) same (happens node place (Did (item.Drop page)) found))
   dropped_is_on p g node place (Did (item.TakeUp frame)) found is = absurd (cc)
   dropped_is_on p g node place (Did (item.OwnFetch page words)) found is = absurd (cc)
   dropped_is_on p g node place (Did (item.OwnReconcile part)) found is = absurd (cc)
@@ -122,7 +126,7 @@ module _ (cluster : Cluster) (course : Course) (position : ℕ) where
   took_up_is_on p f node place (Did (item.Drop page)) found is = absurd (cc)
   took_up_is_on p f node place (Did (item.TakeUp frame)) found is =
       let by : node ≡ p = cc in let same : frame ≡ f = cc in subst (λ it. Happens course it position (Did (item.TakeUp f))) by
-          (subst (λ it. Happens course node position (Did (item.TakeUp it))) same (happens node place (Did (item.TakeUp frame)) found))
+      (subst (λ it. Happens course node position (Did (item.TakeUp it))) same (happens node place (Did (item.TakeUp frame)) found))
   took_up_is_on p f node place (Did (item.OwnFetch page words)) found is = absurd (cc)
   took_up_is_on p f node place (Did (item.OwnReconcile part)) found is = absurd (cc)
   took_up_is_on p f node place (Did (item.Served frame index word old addend)) found is = absurd (cc)
@@ -141,7 +145,7 @@ module _ (cluster : Cluster) (course : Course) (position : ℕ) where
   ticked_is_on p f node place (Did (item.Act frame index act)) found is = absurd (cc)
   ticked_is_on p f node place (Did (item.Tick frame)) found is =
       let by : node ≡ p = cc in let same : frame ≡ f = cc in subst (λ it. Happens course it position (Did (item.Tick f))) by
-          (subst (λ it. Happens course node position (Did (item.Tick it))) same (happens node place (Did (item.Tick frame)) found))
+      (subst (λ it. Happens course node position (Did (item.Tick it))) same (happens node place (Did (item.Tick frame)) found))
   ticked_is_on p f node place (Did (item.Drop page)) found is = absurd (cc)
   ticked_is_on p f node place (Did (item.TakeUp frame)) found is = absurd (cc)
   ticked_is_on p f node place (Did (item.OwnFetch page words)) found is = absurd (cc)
@@ -164,9 +168,12 @@ module _ (cluster : Cluster) (course : Course) (position : ℕ) where
   loaded_is_on p g bring node place (Did (item.Drop page)) found is = absurd (cc)
   loaded_is_on p g bring node place (Did (item.TakeUp frame)) found is = absurd (cc)
   loaded_is_on p g bring node place (Did (item.OwnFetch page words)) found is =
-      let by : node ≡ p = cc in let same : page ≡ g = cc in let words_are : words_of cluster words ≡ bring = cc in
-      (words, subst (λ it. Happens course it position (Did (item.OwnFetch g words))) by (subst
-          (λ it. Happens course node position (Did (item.OwnFetch it words))) same (happens node place (Did (item.OwnFetch page words)) found)), sym words_are)
+      let by : node ≡ p = cc in let same : page ≡ g = cc in let words_are : words_of cluster words ≡ bring = cc in (
+        words,
+        subst (λ it. Happens course it position (Did (item.OwnFetch g words))) by (subst
+            (λ it. Happens course node position (Did (item.OwnFetch it words))) same (happens node place (Did (item.OwnFetch page words)) found)),
+        sym words_are,
+      )
   loaded_is_on p g bring node place (Did (item.OwnReconcile part)) found is = absurd (cc)
   loaded_is_on p g bring node place (Did (item.Served frame index word old addend)) found is = absurd (cc)
   loaded_is_on p g bring node place (Sent message) found is = absurd (cc)
@@ -223,8 +230,13 @@ module _ (cluster : Cluster) (course : Course) (position : ℕ) where
       → Acted p f a ⊎ Served p f a
   acted_is_on p f a node place (Did (item.Act frame index act)) found is =
       let by : node ≡ p = cc in let same : frame ≡ f = cc in let act_same : act_of act ≡ a = cc in
-      inl (record { index = index; act = act; is = subst (λ it. Happens course it position (Did (item.Act f index act))) by (subst (λ it.
-          Happens course node position (Did (item.Act it index act))) same (happens node place (Did (item.Act frame index act)) found)); act_is = act_same })
+      inl (record {
+        index = index;
+        act = act;
+        is = subst (λ it. Happens course it position (Did (item.Act f index act))) by (subst (λ it.
+            Happens course node position (Did (item.Act it index act))) same (happens node place (Did (item.Act frame index act)) found));
+        act_is = act_same;
+      })
   acted_is_on p f a node place (Did (item.Tick frame)) found is = absurd (cc)
   acted_is_on p f a node place (Did (item.Drop page)) found is = absurd (cc)
   acted_is_on p f a node place (Did (item.TakeUp frame)) found is = absurd (cc)
@@ -233,9 +245,17 @@ module _ (cluster : Cluster) (course : Course) (position : ℕ) where
   acted_is_on p f a node place (Did (item.Served frame index word old addend)) found is =
       let same : frame ≡ f = cc in
       let for_p : served_for node (owed_adds (own node (before course position))) ≡ p = cc in let act_same : log.Add word old addend ≡ a = cc in
-      inr (record { home = node; index =
-          index; word = word; old = old; addend = addend; is = subst (λ it. Happens course node position (Did (item.Served it index word old addend))) same
-          (happens node place (Did (item.Served frame index word old addend)) found); for = for_p; act_is = act_same })
+      inr (record {
+        home = node;
+        index = index;
+        word = word;
+        old = old;
+        addend = addend;
+        is = subst (λ it. Happens course node position (Did (item.Served it index word old addend))) same
+            (happens node place (Did (item.Served frame index word old addend)) found);
+        for = for_p;
+        act_is = act_same;
+      })
   acted_is_on p f a node place (Sent message) found is = absurd (cc)
   acted_is_on p f a node place (Took message) found is = absurd (cc)
   acted_is_on p f a node place (Ended end) found is = absurd (cc)
@@ -357,9 +377,11 @@ add_is cluster number course f w d body.Refuse is = absurd (cc)
 add_is cluster number course f w d (body.Done join index value) is = absurd (cc)
 add_is cluster number course f w d (body.Park join closure) is = absurd (cc)
 add_is cluster number course f w d (body.Add frame index word addend) is =
-    let frame_same : frame ≡ f = cc in let word_same : word ≡ w = cc in let addend_same : addend ≡ d = cc in
-    (index, ap (λ it. body.Add it index word addend) frame_same ∙ ap (λ it. body.Add f index it addend) word_same
-        ∙ ap (λ it. body.Add f index w it) addend_same)
+    let frame_same : frame ≡ f = cc in let word_same : word ≡ w = cc in let addend_same : addend ≡ d = cc in (
+      index,
+      ap (λ it. body.Add it index word addend) frame_same ∙ ap (λ it. body.Add f index it addend) word_same
+          ∙ ap (λ it. body.Add f index w it) addend_same,
+    )
 add_is cluster number course f w d (body.Added old) is = absurd (cc)
 
 pub added_is : (cluster : Cluster) (number : ℕ) (course : Course) (v : ℤ) (said : Body) → note_of cluster number course said ≡ log.Added v → said ≡ body.Added v

@@ -75,7 +75,7 @@ in_items cluster number posts (item ∷ items) course more may grown position mo
           posts = posts;
           may =
               subst (λ past. IsOwed (node_at cluster number) past item ⊎ (IsFree past × MayDo (node_at cluster number) past item items posts))
-                  (sym past_is) (may.0);
+              (sym past_is) (may.0);
           follow = follow_items number items (first ∷ course) more grown;
         } in
         inr (ap (λ it. it.node) (sym same), item, ap (λ it. it.event) (sym same), subst (λ it. Doing cluster number more it item) (sym place) doing)
@@ -163,7 +163,7 @@ followed_in cluster (turn ∷ older) lawful more grown position moved item did f
     items_grown =
         grown_twice items posts more (grown_posts turn.node place turn.posts items)
         (grown_twice posts taking more (grown_taking turn.node turn.took taken posts)
-            (grown_twice taking whole more (grown_end turn.node turn.end taking) grown))
+        (grown_twice taking whole more (grown_end turn.node turn.end taking) grown))
 
     in_course : at items position ≡ Some moved
     in_course =

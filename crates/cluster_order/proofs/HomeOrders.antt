@@ -101,7 +101,7 @@ module _ (cluster : Cluster) (turns : List WholeTurn) (lawful : IsLawful cluster
       → HasNone events (memory_of cluster) now (owner_of one it) word (one.position)
   has_no_moment one it none = λ moment less there.
       let some = (it.moments moment).0 (moment_there cluster turns lawful (owner_of one it) (one.node) word (one.position) (it.event) (it.is)
-          ((access_of one it).is) moment there) in
+      ((access_of one it).is) moment there) in
       let both : None ≡ Some moment = sym none ∙ some in
       absurd (cc)
 
@@ -113,7 +113,7 @@ module _ (cluster : Cluster) (turns : List WholeTurn) (lawful : IsLawful cluster
       on true is any = (access_of one it).of_touch is
       on false is any =
           let add : IsMoment (node_at cluster (one.node)) course word (one.position) (one.position) =
-              inr (inr (record { event = it.event; is = it.is; adds_word = any; at_once = refl })) in
+          inr (inr (record { event = it.event; is = it.is; adds_word = any; at_once = refl })) in
           let both : None ≡ Some (one.position) = sym none ∙ (it.moments (one.position)).0 add in
           absurd (cc)
 
@@ -172,7 +172,7 @@ module _ (cluster : Cluster) (turns : List WholeTurn) (lawful : IsLawful cluster
       → Earlier (first.node) (first.at) (later.node) (later.at)
   before_at first second later same before =
       let node_same =
-          one_owner events (later.at) word (second.node) (later.node) (subst (λ i. IsAccess events (second.node) word i) same (second.is)) (later.is) in
+      one_owner events (later.at) word (second.node) (later.node) (subst (λ i. IsAccess events (second.node) word i) same (second.is)) (later.is) in
       subst (λ it. Earlier (first.node) (first.at) it (later.at)) node_same (subst (λ it. Earlier (first.node) (first.at) (second.node) it) same before)
 
   sorted_of : (list : List (Entry events now word)) → Linked list → Sorted events (memory_of cluster) now word list
@@ -185,7 +185,7 @@ module _ (cluster : Cluster) (turns : List WholeTurn) (lawful : IsLawful cluster
       on later (inl same) sorted = before_at first second later same (linked.0)
       on later (inr has) sorted =
           lists.trans events (memory_of cluster) caching now word (first.node) (first.at) (second.node) (second.at) (later.node) (later.at) (linked.0)
-              (sorted.0 later has)
+          (sorted.0 later has)
 
   -- the positions of entries
   abbrev pub positions_of : List (Entry events now word) → List ℕ
@@ -248,7 +248,7 @@ module _ (cluster : Cluster) (turns : List WholeTurn) (lawful : IsLawful cluster
       of_some moment some =
           let same : first ≡ moment = cc in
           moment_there cluster turns lawful owner (there.node) word at (there.event) (there.is) access moment
-              (subst (λ it. Moment events (memory_of cluster) owner word at it) same is)
+          (subst (λ it. Moment events (memory_of cluster) owner word at it) same is)
   listed_by owner at inside access there (inr none) = (
     record { position = at; node = there.node; moment = None },
     refl,
@@ -258,7 +258,7 @@ module _ (cluster : Cluster) (turns : List WholeTurn) (lawful : IsLawful cluster
       no_moment : (moment : ℕ) → IsMoment (node_at cluster (there.node)) course word at moment → None ≡ Some moment
       no_moment moment it =
           absurd (none moment (moment_within (there.node) at moment it)
-              (moment_at cluster turns lawful owner (there.node) word at (there.event) (there.is) access moment it))
+          (moment_at cluster turns lawful owner (there.node) word at (there.event) (there.is) access moment it))
 
       of_none : (moment : ℕ) → None ≡ Some moment → IsMoment (node_at cluster (there.node)) course word at moment
       of_none moment some = absurd (cc)
@@ -267,7 +267,7 @@ module _ (cluster : Cluster) (turns : List WholeTurn) (lawful : IsLawful cluster
   pub listed_there : (owner at : ℕ) → at < now → IsAccess events owner word at → (one : Listed) × (one.position ≡ at) × IsListed cluster course word one
   listed_there owner at inside access =
       listed_by owner at inside access (access_there cluster turns lawful owner word at access)
-          (last.decide_moment events (memory_of cluster) caching now owner word at inside access)
+      (last.decide_moment events (memory_of cluster) caching now owner word at inside access)
 
   -- ---- the law
 
@@ -284,8 +284,11 @@ module _ (cluster : Cluster) (turns : List WholeTurn) (lawful : IsLawful cluster
       let sorted = sorted_of list (linked_of order (it.listed) (it.in_order)) in
       let same = same_positions order (it.listed) in
       record {
-        home = record { list =
-            list; all = λ owner at inside access. has_position at list (subst (IsAmong at) (sym same) (among owner at inside access)); sorted = sorted };
+        home = record {
+          list = list;
+          all = λ owner at inside access. has_position at list (subst (IsAmong at) (sym same) (among owner at inside access));
+          sorted = sorted;
+        };
         same = same;
         all = among;
         once = subst EachOnce same (once_of list sorted);

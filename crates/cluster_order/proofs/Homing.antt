@@ -51,8 +51,14 @@ module _ {A B : Type 0} (by : A → Option B) where
           → Given by (event ∷ events) value
       on None none rest more =
           let found = more rest in
-          record { newer = event ∷ found.newer; older = found.older; event = found.event; parts = ap (λ it. event ∷ it) (found.parts); gives = found.gives;
-              none = rw (none, found.none) refl }
+          record {
+            newer = event ∷ found.newer;
+            older = found.older;
+            event = found.event;
+            parts = ap (λ it. event ∷ it) (found.parts);
+            gives = found.gives;
+            none = rw (none, found.none) refl;
+          }
       on (Some one) some same more = record { newer = []; older = events; event = event; parts = refl; gives = some ∙ same; none = refl }
 
   pub given_absent : (events : List A) → given by events ≡ None → list_any (λ one. is_some (by one)) events ≡ false
@@ -161,7 +167,7 @@ module _ (cluster : Cluster) (turns : List WholeTurn) (lawful : IsLawful cluster
       let marked = word_marked (node_at cluster home) word part value is in
       let event = event_there cluster turns lawful home position (Did (item.OwnReconcile part)) happens in
       MergedAt home position (part_of cluster part) (ByItem event) (AtItem home (part_of cluster part) event refl) (marked.page_is) (marked.marked)
-          (marked.value_is)
+      (marked.value_is)
   changed_at home word position value (Did (item.Served frame index other old addend)) happens is =
       let both = adds_to (eqb other word) (sum_in old addend) is in
       let same : other ≡ word = equal other word (both.0) in
@@ -177,16 +183,16 @@ module _ (cluster : Cluster) (turns : List WholeTurn) (lawful : IsLawful cluster
   changed_at home word position value (Took message) happens is =
       let said = reconciles message.body (node_at cluster home) word value is in
       let found = given_latest (word_in (node_at cluster home) word) (said.0) value
-          (subst (λ it. given (word_in (node_at cluster home) word) (parts_in it) ≡ Some value) (said.1) is) in
+      (subst (λ it. given (word_in (node_at cluster home) word) (parts_in it) ≡ Some value) (said.1) is) in
       let marked = word_marked (node_at cluster home) word (found.event) value (found.gives) in
       let post = taken_from (before course position) (happens.moved.message) in
       let place_found = found_of cluster turns lawful home position (Took message) happens in
       let taking = taking_found cluster turns lawful home position (happens.moved.message) message place_found in
       let posted = posted_event cluster turns lawful home post position message taking
-          ∙ ap (λ it. log.Post (taking.sender) home (note_of cluster (taking.sender) (before course post) it)) (said.1) in
+      ∙ ap (λ it. log.Post (taking.sender) home (note_of cluster (taking.sender) (before course post) it)) (said.1) in
       let has : HasPart (part_of cluster (found.event)) (parts_of cluster (said.0)) =
       subst (λ it. HasPart (part_of cluster (found.event)) (parts_of cluster it)) (sym (found.parts))
-          (has_part cluster (found.newer) (found.event) (found.older)) in
+      (has_part cluster (found.newer) (found.event) (found.older)) in
       MergedAt (taking.sender) post (part_of cluster (found.event)) (ByPart home (parts_of cluster (said.0)) posted has)
       (ByTaking (record { taker = home; is = taken_event cluster turns lawful home position (happens.moved.message) message place_found })) (marked.page_is)
       (marked.marked) (marked.value_is)
@@ -275,17 +281,17 @@ module _ (cluster : Cluster) (turns : List WholeTurn) (lawful : IsLawful cluster
       let it = taking_at cluster turns lawful (taken.taker) post position (taken.is) in
       let sent_is = reconciled sender receiver post parts sent is has in
       let same = same_message cluster turns lawful (it.0) (sent_is.message) (it.1.sender) sender post (Some (it.1.place)) (sent_is.place) (it.1.posted)
-          (sent_is.found) in
+      (sent_is.found) in
       let body_is : it.0.body ≡ body.Reconcile (sent_is.list) = ap (λ one. one.body) (same.0) ∙ sent_is.says in
       let part = sent_is.among.part in
       let home_is : taken.taker ≡ home =
       sym (it.1.to) ∙ ap (λ one. one.receiver) (same.0) ∙ sent_is.to ∙ sent_is.sending.at_home
-          ∙ ap (home_of (node_at cluster 0)) (ap (λ one. one.page) (sent_is.among.is) ∙ page_is) ∙ at_home in
+      ∙ ap (home_of (node_at cluster 0)) (ap (λ one. one.page) (sent_is.among.is) ∙ page_is) ∙ at_home in
       let marked : marks (part.mask) (place_of (node_at cluster 0) word) ≡ true = ap (λ one. one.mask word) (sent_is.among.is) ∙ mask in
       let there = word_there (node_at cluster home) word part (ap (λ one. one.page) (sent_is.among.is) ∙ page_is) marked in
       let any : is_some (given (word_in (node_at cluster home) word) (sent_is.list)) ≡ true =
       subst (λ list. is_some (given (word_in (node_at cluster home) word) list) ≡ true) (sym (sent_is.among.split))
-          (given_in (word_in (node_at cluster home) word) (sent_is.among.newer) part (sent_is.among.older) there) in (
+      (given_in (word_in (node_at cluster home) word) (sent_is.among.newer) part (sent_is.among.older) there) in (
         Took (it.0),
         subst (λ one. Happens course one position (Took (it.0))) home_is
             (happens cluster course position (taken.taker) (Some (it.1.place)) (Took (it.0)) (it.1.taken)),
@@ -310,7 +316,7 @@ module _ (cluster : Cluster) (turns : List WholeTurn) (lawful : IsLawful cluster
             let nowhere = none_later home (λ one. is_some (changes (node_at cluster home) word one)) (before course position) [] absent in
             let none_here = nowhere earlier (here.moved) (omega (arith)) (ap (λ it. at it earlier) (append-nil (before course position)) ∙ here.is) (here.by) in
             let is : is_some (changes (node_at cluster home) word (here.moved.event)) ≡ true =
-                ap (λ one. is_some (changes (node_at cluster home) word one)) (here.event_is) ∙ there.2 in
+            ap (λ one. is_some (changes (node_at cluster home) word one)) (here.event_is) ∙ there.2 in
             absurd (cc),
         refl,
       )
@@ -329,9 +335,9 @@ module _ (cluster : Cluster) (turns : List WholeTurn) (lawful : IsLawful cluster
               changes = changed_at home word (it.0) value (latest.event) there (latest.gives);
               none =
                   none_between course position moved found home (λ one. is_some (changes (node_at cluster home) word one))
-                      (IsChange events (memory_of cluster) word) (it.0) (λ i change. change_there home word i at_home change)
+                  (IsChange events (memory_of cluster) word) (it.0) (λ i change. change_there home word i at_home change)
                   (none_behind home (before course position) (latest.newer) (latest.event) (latest.older) (it.0) (it.1)
-                      (λ one. is_some (changes (node_at cluster home) word one)) (latest.none));
+                  (λ one. is_some (changes (node_at cluster home) word one)) (latest.none));
             },
           )
 
@@ -361,7 +367,7 @@ pub stored_words : (cluster : Cluster) (home page word : ℕ) (past : Past) → 
     → words_of cluster (stored_page (node_at cluster home) page past) word ≡ stored (node_at cluster home) word past
 stored_words cluster home page word past same =
     let base : (page * cluster.config.page_words + 0) + word % cluster.config.page_words ≡ page * cluster.config.page_words + word % cluster.config.page_words =
-        omega (arith) in
+    omega (arith) in
     from_at (node_at cluster home) (word_of (node_at cluster home) page 0) (cluster.config.page_words) (place_of (node_at cluster 0) word) past
-        (place_within cluster word)
+    (place_within cluster word)
     ∙ ap (λ it. stored (node_at cluster home) it past) (base ∙ word_at_place cluster word page same)

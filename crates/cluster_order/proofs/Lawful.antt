@@ -216,7 +216,7 @@ module _ (cluster : Cluster) (turns : List WholeTurn) (lawful : IsLawful cluster
   pub served_allowed : (number position : ℕ) (frame : FrameId) (index word : ℕ) (old addend : ℤ)
       → Happens (course_of turns) number position (Did (item.Served frame index word old addend))
       → Serves (node number) (past_at number position) frame index word old addend
-          ⊎ (IsFree (past_at number position) × MayAddHere (node number) (past_at number position) frame index word old addend)
+      ⊎ (IsFree (past_at number position) × MayAddHere (node number) (past_at number position) frame index word old addend)
   served_allowed number position frame index word old addend happens =
       (allowed cluster turns lawful number position (Did (item.Served frame index word old addend)) happens).may
 
@@ -238,8 +238,9 @@ module _ (cluster : Cluster) (turns : List WholeTurn) (lawful : IsLawful cluster
   post_allowed number position message happens no_reply = on (sent_allowed number position message happens)
     where
       on : MaySend (node number) (past_at number position) message → MayPost (node number) (past_at number position) message.receiver message.body
-      on (inl due) = let is =
-          (owed_is_reply (node number) (past_at number position) message (subst (λ it. Among message it) (sym (due.1)) (inl refl))).replies in absurd (cc)
+      on (inl due) =
+          let is = (owed_is_reply (node number) (past_at number position) message (subst (λ it. Among message it) (sym (due.1)) (inl refl))).replies in
+          absurd (cc)
       on (inr sends) = sends.may
 
   -- a Page or an Ack is owed
@@ -316,7 +317,7 @@ module _ (cluster : Cluster) (turns : List WholeTurn) (lawful : IsLawful cluster
       let came = owed_add_came (past_at number position) message among in
       let it = stands number (before (course_of turns) position) (came.0) (Took message) (came.1) (came.2) in
       let there = happened_before (course_of turns) position moved found number (it.0) (Took message)
-          (happens_there number (before (course_of turns) position) (came.0) (Took message) (came.1) (it.0) (it.1)) in (
+      (happens_there number (before (course_of turns) position) (came.0) (Took message) (came.1) (it.0) (it.1)) in (
         taken_from (before (course_of turns) (it.0)) (there.moved.message),
         it.0,
         taking_found cluster turns lawful number (it.0) (there.moved.message) message
@@ -335,8 +336,8 @@ module _ (cluster : Cluster) (turns : List WholeTurn) (lawful : IsLawful cluster
       on (inr own_add) = sym (own_add.1.add.at_home)
       on (inl serves) =
           let taken =
-              owed_taken number position (happens.moved) (happens.is) (serves.add) (subst (λ it. Among (serves.add) it) (sym serves.oldest) (inl refl)) in
+          owed_taken number position (happens.moved) (happens.is) (serves.add) (subst (λ it. Among (serves.add) it) (sym serves.oldest) (inl refl)) in
           let posted = taken.2.posted in
           let may = add_allowed (taken.2.sender) (taken.0) (serves.add) frame index word addend
-              (record { moved = posted.moved; is = posted.is; by = posted.by; event_is = posted.event_is }) (serves.asked) in
+          (record { moved = posted.moved; is = posted.is; by = posted.by; event_is = posted.event_is }) (serves.asked) in
           sym (may.add.at_home) ∙ taken.2.to

@@ -210,7 +210,7 @@ module _ (cluster : Cluster) (turns : List WholeTurn) (lawful : IsLawful cluster
       let may = park_allowed cluster turns lawful number position (it.1) (says.0) (says.1) sent (says.2) in
       added_there number position post home frame word addend (sent.moved) (sent.is) posted less
       (no_wait (node number) (past number position)
-          (λ first. not_syncing (stack_of (node number) (past number position)) (may.life) first (may.at_join.alone) (may.at_join.wanted))
+      (λ first. not_syncing (stack_of (node number) (past number position)) (may.life) first (may.at_join.alone) (may.at_join.wanted))
       (all_allowed cluster turns lawful number position (sent.moved) (sent.is)))
   leave number position post home receiver frame word addend (log.Fetch page) posted less is leaves = absurd leaves
   leave number position post home receiver frame word addend (log.Page page words) posted less is leaves = absurd leaves

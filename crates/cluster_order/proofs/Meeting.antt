@@ -111,7 +111,7 @@ module _ (cluster : Cluster) (turns : List WholeTurn) (lawful : IsLawful cluster
         none : NoneBetween (IsArrival events node (its_page word)) arrival (suc access)
         none =
             none_up_to course node (arrives (its_page word)) (IsArrival events node (its_page word)) arrival access
-                (λ i. arrival_there cluster turns lawful node (its_page word) i) (last.none)
+            (λ i. arrival_there cluster turns lawful node (its_page word) i) (last.none)
 
         it : IsArrival events node (its_page word) arrival
         it = arrival_at cluster turns lawful node (its_page word) arrival (last.event) (last.is) (last.such_is)
@@ -123,7 +123,7 @@ module _ (cluster : Cluster) (turns : List WholeTurn) (lawful : IsLawful cluster
           | Same3 same ↦ (let one =
               same_happening course node node access (last.event) (here.0) (subst (λ i. Happens course node i (last.event)) same (last.is)) (here.1) in
               let not : arrives (its_page word) (last.event) ≡ false =
-                  ap (arrives (its_page word)) (one.1) ∙ no_arrival word (its_page word) (here.0) (here.2) in
+              ap (arrives (its_page word)) (one.1) ∙ no_arrival word (its_page word) (here.0) (here.2) in
               let is = last.such_is in
               absurd (cc))
           | More3 more ↦ (let within = last.within in absurd (omega (arith, more, within)))
@@ -191,7 +191,7 @@ module _ (cluster : Cluster) (turns : List WholeTurn) (lawful : IsLawful cluster
           within = omega (arith, before);
           none =
               up_to_none course node (writes word) (IsWrite events node word) write access
-                  (λ i event happens is. write_at cluster turns lawful node word i event happens is) (last.none);
+              (λ i event happens is. write_at cluster turns lawful node word i event happens is) (last.none);
         }
 
     first_sending : (write sending : ℕ) → IsFirst course node (sends (its_page word)) write sending → FirstSending events node (its_page word) write sending
@@ -200,7 +200,7 @@ module _ (cluster : Cluster) (turns : List WholeTurn) (lawful : IsLawful cluster
       sends = sends_at cluster turns lawful node (its_page word) sending (first.event) (first.is) (first.such_is);
       none =
           none_between course node (sends (its_page word)) (Sends events node (its_page word)) write sending
-              (λ i. sends_there cluster turns lawful node (its_page word) i) (first.none);
+          (λ i. sends_there cluster turns lawful node (its_page word) i) (first.none);
     }
 
     sending_first : (write sending : ℕ) → FirstSending events node (its_page word) write sending → IsFirst course node (sends (its_page word)) write sending
@@ -245,7 +245,7 @@ module _ (cluster : Cluster) (turns : List WholeTurn) (lawful : IsLawful cluster
           resident = resident.1;
           none =
               none_up_to course node (writes word) (IsWrite events node word) (it.arrival) access (λ i. write_there cluster turns lawful node word i)
-                  (it.unwritten);
+              (it.unwritten);
           source = source_at cluster turns lawful node (its_page word) (it.arrival) moment (arrived.event) (arrived.is) (arrived.such_is) (it.source);
         })
 
@@ -267,7 +267,7 @@ module _ (cluster : Cluster) (turns : List WholeTurn) (lawful : IsLawful cluster
       touch = its_touch (it.arrival) (it.words) here (it.resident);
       unwritten =
           up_to_none course node (writes word) (IsWrite events node word) (it.arrival) access
-              (λ i event happens is. write_at cluster turns lawful node word i event happens is) (it.none);
+          (λ i event happens is. write_at cluster turns lawful node word i event happens is) (it.none);
       source = source_there cluster turns lawful node (its_page word) (it.arrival) moment (it.source);
     }))
 
@@ -286,7 +286,7 @@ module _ (cluster : Cluster) (turns : List WholeTurn) (lawful : IsLawful cluster
     touched_moment moment other there touched stay =
         let mine = own_access other there touched in
         subst (λ it. Moment events (memory_of cluster) it word access moment) mine
-            (inl (touch_at cluster turns lawful node word access other there touched, stay))
+        (inl (touch_at cluster turns lawful node word access other there touched, stay))
 
     pub moment_at : (moment : ℕ) → IsMoment (node_at cluster node) course word access moment → Moment events (memory_of cluster) owner word access moment
     moment_at moment (inl it) = touched_moment moment (it.touch.event) (it.touch.is) (it.touch.touches_word) (sent_stay node word access moment it)
@@ -301,7 +301,7 @@ module _ (cluster : Cluster) (turns : List WholeTurn) (lawful : IsLawful cluster
         let it = touch_there cluster turns lawful owner word access touch in
         let same = same_happening course owner node access (it.0) event (it.1) happens in
         let here : (other : Event) × Happens course node access other × (touches word other ≡ true) =
-            (it.0, subst (λ one. Happens course one access (it.0)) (same.0) (it.1), it.2) in
+        (it.0, subst (λ one. Happens course one access (it.0)) (same.0) (it.1), it.2) in
         stay_moment node word access moment here (subst (λ one. Stay events (memory_of cluster) one word access moment) (same.0) stay)
     moment_there moment (inr (add, at_once)) =
         let it = add_there cluster turns lawful owner word access add in

@@ -61,7 +61,7 @@ module _ (course : Course) (position : ℕ) (moved : Moved) (found : at course p
       let count = length_before in let inside = within (before course position) i moved here in
       let less : i < position = omega (arith, inside, count) in
       on (such moved.event) refl (λ is. none i (omega (arith, behind)) less
-          (holds i moved.event (record { moved = moved; is = sym (at_before i less) ∙ here; by = by; event_is = refl }) is))
+      (holds i moved.event (record { moved = moved; is = sym (at_before i less) ∙ here; by = by; event_is = refl }) is))
     where
       on : {b : Bool} (c : Bool) → b ≡ c → (b ≡ true → ⊥) → b ≡ false
       on true is no_such = absurd (no_such is)
@@ -151,9 +151,12 @@ module _ (cluster : Cluster) (turns : List WholeTurn) (lawful : IsLawful cluster
   pub delivery : Delivery (events_of cluster (course_of turns))
   delivery = record {
     posted = λ position receiver post is.
-        let it = taking_at receiver post position is in
-        (it.1.sender, note_of cluster (it.1.sender) (before (course_of turns) post) (it.0.body), posted_event receiver post position (it.0) (it.1),
-            it.1.before);
+        let it = taking_at receiver post position is in (
+          it.1.sender,
+          note_of cluster (it.1.sender) (before (course_of turns) post) (it.0.body),
+          posted_event receiver post position (it.0) (it.1),
+          it.1.before,
+        );
     once = λ position other receiver another post is is'.
         let one = taking_at receiver post position is in
         let two = taking_at another post other is' in

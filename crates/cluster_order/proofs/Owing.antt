@@ -135,8 +135,12 @@ pub other_no_message : (cluster : Cluster) (home number : ℕ) (events : ℕ →
     → NoMessage home events (happens_to cluster course number place event)
 other_no_message cluster home number events course place (Did done) other = item_no_message cluster home number events (own number course) done
 other_no_message cluster home number events course place (Sent message) other =
-    record { no_request = refl; no_reply =
-        rw other refl; no_add = refl; no_added = tells_same cluster home number message.receiver course message.body ∙ on (tells_in message.body) }
+    record {
+      no_request = refl;
+      no_reply = rw other refl;
+      no_add = refl;
+      no_added = tells_same cluster home number message.receiver course message.body ∙ on (tells_in message.body);
+    }
   where
     on : (b : Bool) → b && eqb number home ≡ false
     on true = other
@@ -207,7 +211,7 @@ module _ (cluster : Cluster) (turns : List WholeTurn) (lawful : IsLawful cluster
       → own home (first (suc position) course) ≡ moved.event ∷ own home (first position course)
   past_next position moved found by =
       ap (own home) (first_next position course moved found) ∙ own_first home moved (before course position) by
-          ∙ ap (λ it. moved.event ∷ it) (sym (past_now position moved found))
+      ∙ ap (λ it. moved.event ∷ it) (sym (past_now position moved found))
 
   pub taken_message : (position : ℕ) (moved : Moved) (message : Msg) → at course position ≡ Some moved → moved.node ≡ home → moved.event ≡ Took message
       → Taking cluster turns lawful home (taken_from (before course position) moved.message) position message
@@ -257,7 +261,7 @@ module _ (cluster : Cluster) (turns : List WholeTurn) (lawful : IsLawful cluster
       asked : push_reply position ≡ asks_home_in message.body
       asked =
           rw (event_is, posted_event cluster turns lawful home post position message it, same_number home)
-              (request_same cluster (it.sender) home (before course post) message.body)
+          (request_same cluster (it.sender) home (before course post) message.body)
 
       no_reply : pop_reply position ≡ false
       no_reply = rw event_is refl
@@ -269,7 +273,7 @@ module _ (cluster : Cluster) (turns : List WholeTurn) (lawful : IsLawful cluster
           → ReplyStep position
       kept said says not_asked none = Kept no_reply (asked ∙ ap asks_home_in says ∙ not_asked)
           (grown ∙ ap (λ said. owed position ++ reply node message.sender said (own home (first position course))) says ∙ ap (λ it. owed position ++ it) none
-              ∙ append-nil (owed position))
+          ∙ append-nil (owed position))
 
       on : (said : Body) → message.body ≡ said → ReplyStep position
       on (body.Fetch page) says =
@@ -277,7 +281,7 @@ module _ (cluster : Cluster) (turns : List WholeTurn) (lawful : IsLawful cluster
           Pushed due no_reply (asked ∙ ap asks_home_in says)
           (grown ∙ ap (λ said. owed position ++ reply node message.sender said (own home (first position course))) says)
           (PageFor post page message it says (ap (λ past. from_me node message.sender (body.Page page (stored_page node page past)))
-              (past_now position moved found)))
+          (past_now position moved found)))
       on (body.Page page words) says = kept (body.Page page words) says refl refl
       on (body.Reconcile parts) says =
           Pushed (from_me node message.sender body.Ack) no_reply (asked ∙ ap asks_home_in says)
@@ -321,20 +325,20 @@ module _ (cluster : Cluster) (turns : List WholeTurn) (lawful : IsLawful cluster
       mine : (moved : Moved) → at course position ≡ Some moved → moved.node ≡ home → (event : Event) → moved.event ≡ event → ReplyStep position
       mine moved found by (Did done) is =
           reply_kept position (subst (NoMessage home events) (sym (event_here position moved (Did done) found by is))
-              (item_no_message cluster home home events (own home (before course position)) done))
+          (item_no_message cluster home home events (own home (before course position)) done))
           (ap (owed_home_replies node) (past_next position moved found by ∙ ap (λ event. event ∷ own home (first position course)) is))
       mine moved found by (Sent message) is = reply_sent position moved message found by is
       mine moved found by (Took message) is = reply_took position moved message found by is
       mine moved found by (Ended end) is =
           reply_kept position (subst (NoMessage home events) (sym (event_here position moved (Ended end) found by is))
-              (record { no_request = refl; no_reply = refl; no_add = refl; no_added = refl }))
+          (record { no_request = refl; no_reply = refl; no_add = refl; no_added = refl }))
           (ap (owed_home_replies node) (past_next position moved found by ∙ ap (λ event. event ∷ own home (first position course)) is))
 
       whose : (moved : Moved) → at course position ≡ Some moved → (b : Bool) → eqb moved.node home ≡ b → ReplyStep position
       whose moved found true by = mine moved found (grind (arith, nat_tests)) moved.event refl
       whose moved found false other =
           reply_kept position (subst (NoMessage home events) (sym (event_of_moved position moved found))
-              (other_no_message cluster home moved.node events (before course position) moved.message moved.event other))
+          (other_no_message cluster home moved.node events (before course position) moved.message moved.event other))
           (ap (owed_home_replies node) (past_other position moved found other))
 
       on : (option : Option Moved) → at course position ≡ option → ReplyStep position

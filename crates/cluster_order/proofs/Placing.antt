@@ -141,11 +141,11 @@ module _ (cluster : Cluster) (turns : List WholeTurn) (lawful : IsLawful cluster
       (record { moved = it.receiver; is = it.taken; by = refl; place_is = it.took_place; event_is = it.took }) in
       let from = taken_from (before (course_of turns) taking) (Some (it.place)) in
       let some : Some (found.place) ≡ Some (it.place) =
-          sym (found.taken.place_is) ∙ ap (λ one. one.message) (same_moved (found.taken.moved) (it.receiver) (sym (found.taken.is) ∙ it.taken))
+      sym (found.taken.place_is) ∙ ap (λ one. one.message) (same_moved (found.taken.moved) (it.receiver) (sym (found.taken.is) ∙ it.taken))
       ∙ it.took_place in
       let place_is : found.place ≡ it.place = cc in
       let first : PostedAt (course_of turns) (it.place) from =
-          (found.posted.moved, it.message, found.posted.is, found.posted.event_is, found.posted.place_is ∙ ap Some place_is) in
+      (found.posted.moved, it.message, found.posted.is, found.posted.event_is, found.posted.place_is ∙ ap Some place_is) in
       let second : PostedAt (course_of turns) (it.place) post = (it.sender, it.message, it.posted, it.sent, it.sent_place) in
       subst (λ one. Taking cluster turns lawful (it.receiver.node) one taking (it.message)) (posted_once turns (it.place) from post first second) found
     where

@@ -119,7 +119,7 @@ module _ (cluster : Cluster) (turns : List WholeTurn) (lawful : IsLawful cluster
       let post = taken_from (before course position) moved.message in
       let it = taken_message cluster turns lawful home position moved message found (equal moved.node home mine) is in
       rw (mine, posted_event cluster turns lawful home post position message it)
-          (request_same cluster (it.sender) home (before course post) message.body ∙ sym (asks_same message.body))
+      (request_same cluster (it.sender) home (before course post) message.body ∙ sym (asks_same message.body))
 
   request_event : (position : ℕ) (moved : Moved) → at course position ≡ Some moved → (event : Event) → moved.event ≡ event
       → takes_request events home (happens_to cluster (before course position) moved.node moved.message event) ≡ eqb moved.node home && asks_home event
@@ -192,13 +192,13 @@ module _ (cluster : Cluster) (turns : List WholeTurn) (lawful : IsLawful cluster
       → count replied position ≡ count_by answers_home (own home (before course position))
   replies_before position event happens =
       counted replied answers_home reply_test no_reply_there position
-          ∙ ap (λ it. count_by answers_home (own home it)) (first_at position course (happens.moved) (happens.is))
+      ∙ ap (λ it. count_by answers_home (own home it)) (first_at position course (happens.moved) (happens.is))
 
   requests_before : (position : ℕ) (event : Event) → Happens course home position event
       → count requested position ≡ count_by asks_home (own home (before course position))
   requests_before position event happens =
       counted requested asks_home request_test no_request_there position
-          ∙ ap (λ it. count_by asks_home (own home it)) (first_at position course (happens.moved) (happens.is))
+      ∙ ap (λ it. count_by asks_home (own home it)) (first_at position course (happens.moved) (happens.is))
 
   -- ---- answers
 
@@ -234,7 +234,7 @@ module _ (cluster : Cluster) (turns : List WholeTurn) (lawful : IsLawful cluster
       let asked : requested taking ≡ true = holds_there requested asks_home request_test taking (it.taken) (it.taking_is) (it.asked) in
       let same : count requested (due.0) ≡ count requested taking =
       sym (same_counts reply (due.0) (due.1)) ∙ replies_before reply (it.replied) (it.reply_is) ∙ it.same_place
-          ∙ sym (requests_before taking (it.taken) (it.taking_is)) in
+      ∙ sym (requests_before taking (it.taken) (it.taking_is)) in
       subst (λ one. Answers events home reply one) (same_count requested (due.0) taking pushed asked same) (due.1)
 
   -- and the other way round.

@@ -98,7 +98,7 @@ pub arrival_resident : (g : ℕ) (past : Past) (words : List ℤ) → Arrival g 
 arrival_resident g past words arrival =
     let split : since (drops g) past ≡ arrival.newer ++ arrival.event ∷ since (drops g) (arrival.older) =
     ap (since (drops g)) (arrival.parts) ∙ since_front_none (drops g) (arrival.newer) (arrival.event) (arrival.older) (arrival.kept)
-        (arrival_is_no_drop g words (arrival.event) (arrival.brought)) in
+    (arrival_is_no_drop g words (arrival.event) (arrival.brought)) in
     ap (list_any (arrives g)) split ∙ any_in (arrives g) (arrival.newer) (arrival.event) (since (drops g) (arrival.older)) (ap is_some (arrival.brought))
 
 module _ (cluster : Cluster) (turns : List WholeTurn) (lawful : IsLawful cluster turns) (position : ℕ) (moved : Moved)
@@ -121,11 +121,11 @@ module _ (cluster : Cluster) (turns : List WholeTurn) (lawful : IsLawful cluster
         arrives = arrived_at cluster turns lawful p g arrival list (it.past.event) there (it.past.brought);
         kept =
             none_between (course_of turns) position moved found p (drops g) (λ j. ev cluster turns lawful j ≡ log.Drop p g) arrival
-                (λ i. drop_there cluster turns lawful p g i)
+            (λ i. drop_there cluster turns lawful p g i)
             (none_behind p front (it.past.newer) (it.past.event) (it.past.older) arrival (it.there) (drops g) (it.past.kept));
         last =
             none_between (course_of turns) position moved found p (arrives g) (IsArrival (ev cluster turns lawful) p g) arrival
-                (λ i. arrival_there cluster turns lawful p g i)
+            (λ i. arrival_there cluster turns lawful p g i)
             (none_behind p front (it.past.newer) (it.past.event) (it.past.older) arrival (it.there) (arrives g) (it.past.last));
       }
 
@@ -157,10 +157,10 @@ module _ (cluster : Cluster) (turns : List WholeTurn) (lawful : IsLawful cluster
             brought = came.3;
             kept = none_newer p front (there.0) event (own p (before front arrival)) arrival (there.1) (drops g)
                 (none_from (course_of turns) position moved found p (drops g) (λ j. ev cluster turns lawful j ≡ log.Drop p g) arrival
-                    (λ i other happens is. drop_at cluster turns lawful p g i other happens is) (resident.kept));
+                (λ i other happens is. drop_at cluster turns lawful p g i other happens is) (resident.kept));
             last = none_newer p front (there.0) event (own p (before front arrival)) arrival (there.1) (arrives g)
                 (none_from (course_of turns) position moved found p (arrives g) (IsArrival (ev cluster turns lawful) p g) arrival
-                    (λ i other happens is. arrival_at cluster turns lawful p g i other happens is) (resident.last));
+                (λ i other happens is. arrival_at cluster turns lawful p g i other happens is) (resident.last));
           };
           there = there.1;
           less = resident.before;
@@ -182,7 +182,7 @@ module _ (cluster : Cluster) (turns : List WholeTurn) (lawful : IsLawful cluster
       let rest = it.there.moved ∷ before front arrival in
       let count : length rest ≡ suc arrival = ap suc (it.there.count) in
       let none = none_from (course_of turns) position moved found p (writes w) (IsWrite (ev cluster turns lawful) p w) write
-          (λ i other happens is. write_at cluster turns lawful p w i other happens is) (last.none) in
+      (λ i other happens is. write_at cluster turns lawful p w i other happens is) (last.none) in
       let is : given (written w) (own p (it.there.later)) ≡ Some value =
       given_from p (written w) (it.there.later) rest write (here.moved) value
       (subst (λ whole. at whole write ≡ Some (here.moved)) (it.there.parts) (here.is))
@@ -199,7 +199,7 @@ module _ (cluster : Cluster) (turns : List WholeTurn) (lawful : IsLawful cluster
       let rest = it.there.moved ∷ before front arrival in
       let count : length rest ≡ suc arrival = ap suc (it.there.count) in
       let none = none_from (course_of turns) position moved found p (writes w) (IsWrite (ev cluster turns lawful) p w) arrival
-          (λ i other happens is. write_at cluster turns lawful p w i other happens is) none_written in
+      (λ i other happens is. write_at cluster turns lawful p w i other happens is) none_written in
       let is : given (written w) (own p (it.there.later)) ≡ None =
       given_nowhere p (written w) (it.there.later) rest
       (subst (NoneFrom (it.there.later ++ rest) p (writes w)) (sym count) (subst (λ whole. NoneFrom whole p (writes w) (suc arrival)) (it.there.parts) none)) in

@@ -33,7 +33,7 @@ below_posts : (bound number : ℕ) → number < bound → (place : PostAt) (mess
 below_posts bound number less place [] course all = all
 below_posts bound number less place (message ∷ messages) course all =
     below_posts bound number less (record place { index = place.index + 1 }) messages
-        (record { node = number; event = Sent message; message = Some place } ∷ course) (less, all)
+    (record { node = number; event = Sent message; message = Some place } ∷ course) (less, all)
 
 below_taking : (bound number : ℕ) → number < bound → (place : Option PostAt) (message : Option Msg) (course : Course) → AllBelow bound course
     → AllBelow bound (with_taking number place message course)
@@ -100,7 +100,7 @@ pub stands_so : (cluster : Cluster) (number : ℕ) (course : Course) (front back
 stands_so cluster number course front back life less parts is =
     let here : is_returned life.id life ≡ true = rw (same_self life.id, is) refl in
     any_number (λ number. list_any (is_returned life.id) (stack_of (node_at cluster number) (own number course))) 0 cluster.config.nodes number (omega (arith))
-        (omega (arith, less))
+    (omega (arith, less))
     (ap (list_any (is_returned life.id)) parts ∙ any_at (is_returned life.id) front back life here)
 
 pub returned_so : (cluster : Cluster) (frame : FrameId) (course : Course) → stands_returned cluster frame course ≡ true

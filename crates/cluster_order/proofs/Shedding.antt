@@ -40,8 +40,13 @@ shed_on : (deposits : List Deposit) (life : Life) (below : List Life) (value : O
 shed_on deposits life below None is before = record { above = []; below = life ∷ below; parts = refl; returned = tt; same = refl }
 shed_on deposits life below (Some it) is before =
     let shed = before ((life.spawned.target, it) ∷ []) in
-    record { above = life ∷ shed.above; below = shed.below; parts = ap (λ it. life ∷ it) shed.parts; returned = (ap is_some is, shed.returned);
-        same = shed.same }
+    record {
+      above = life ∷ shed.above;
+      below = shed.below;
+      parts = ap (λ it. life ∷ it) shed.parts;
+      returned = (ap is_some is, shed.returned);
+      same = shed.same;
+    }
 
 shed_from : (deposits : List Deposit) (stack : List Life) → Shed stack (live_from deposits stack)
 shed_from deposits [] = record { above = []; below = []; parts = refl; returned = tt; same = refl }

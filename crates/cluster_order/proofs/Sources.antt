@@ -47,7 +47,7 @@ module _ (cluster : Cluster) (turns : List WholeTurn) (lawful : IsLawful cluster
       → IsAnswerTo course home reply moment → Source events node its_page arrival moment
   page_source node its_page arrival moment home reply list message says taking answer =
       let sent : Happens course (taking.sender) reply (Sent message) =
-          happens cluster course reply (taking.sender) (Some (taking.place)) (Sent message) (taking.posted) in
+      happens cluster course reply (taking.sender) (Some (taking.place)) (Sent message) (taking.posted) in
       let same = same_happening course home (taking.sender) reply (answer.replied) (Sent message) (answer.reply_is) sent in
       let posted = posted_event cluster turns lawful node reply arrival message taking
       ∙ ap (λ said. log.Post (taking.sender) node (note_of cluster (taking.sender) (before course reply) said)) says
@@ -92,7 +92,7 @@ module _ (cluster : Cluster) (turns : List WholeTurn) (lawful : IsLawful cluster
       on (inl taken) = let both : Took (taken.0) ≡ Did (item.OwnFetch page words) = sym (taken.1) ∙ same.1 in absurd (cc)
       on (inr own) =
           FromOwn (words_of cluster list) (event_there cluster turns lawful node arrival (Did (item.OwnFetch its_page list))
-              (subst (λ one. Happens course node arrival one) own happened)) refl
+          (subst (λ one. Happens course node arrival one) own happened)) refl
 
   pub source_at : (node its_page arrival moment : ℕ) (event : Event) → Happens course node arrival event → arrives its_page event ≡ true
       → IsSource course arrival moment
@@ -111,7 +111,7 @@ module _ (cluster : Cluster) (turns : List WholeTurn) (lawful : IsLawful cluster
       let said = page_is cluster home (before course post) its_page words (sent.1.body) (sent.4) in
       Answered home post moment (taken_of cluster turns lawful node post arrival (it.0) (it.1))
       (answer_counted cluster turns lawful home post moment (Sent (sent.1)) (happens cluster course post home (sent.0) (Sent (sent.1)) (sent.2))
-          (ap replies_in (said.1)) answers)
+      (ap replies_in (said.1)) answers)
   source_there node its_page arrival moment (FromOwn words is same) =
       let it = loaded_is cluster course arrival node its_page words is in
       subst (λ one. IsSource course arrival one) (sym same) (Loaded node its_page (it.0) (it.1))
@@ -128,7 +128,7 @@ module _ (cluster : Cluster) (turns : List WholeTurn) (lawful : IsLawful cluster
       let own = own_sending its_page done (ap (sends its_page) (sym (same.1)) ∙ sent) in
       AtItem other (part_of cluster (own.0))
       (event_there cluster turns lawful other sending (Did (item.OwnReconcile (own.0)))
-          (subst (λ one. Happens course other sending (Did one)) (own.1) there)) refl
+      (subst (λ one. Happens course other sending (Did one)) (own.1) there)) refl
 
   pub receipt_there : (sending moment : ℕ) → Received events sending moment → IsReceipt course sending moment
   receipt_there sending moment (ByTaking it) =

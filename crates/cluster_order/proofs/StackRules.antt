@@ -96,7 +96,7 @@ module _ (cluster : Cluster) (turns : List WholeTurn) (lawful : IsLawful cluster
       let life = may.1.life in
       subst (λ it. Moves returns stacks position number it []) (sym (may.1.acts.named))
       (moves cluster turns lawful number position (Did (item.Tick frame)) happens life [] (may.1.acts.is)
-          (λ below is. ap (λ all. names (with_first (answered DoneAnswer) all)) is))
+      (λ below is. ap (λ all. names (with_first (answered DoneAnswer) all)) is))
 
   -- a TakeUp
   pub take_up_rule : (number position : ℕ) (frame : FrameId) → Happens course number position (Did (item.TakeUp frame))
@@ -141,7 +141,7 @@ module _ (cluster : Cluster) (turns : List WholeTurn) (lawful : IsLawful cluster
                 (subst (λ it. Moves returns stacks position number it []) (sym (own_add.1.add.acts.named))
                 (moves cluster turns lawful number position done happens life [] (own_add.1.add.acts.is)
                 (λ below is. ap (λ owed. names (cond (is_empty owed) (added old (live stack)) stack)) (own_add.0.none_owed)
-                    ∙ ap (λ all. names (added old all)) is)));
+                ∙ ap (λ all. names (added old all)) is)));
             other = λ not. absurd (not (at_home ∙ sym mine));
           }
       on (inl serves) =
@@ -152,7 +152,7 @@ module _ (cluster : Cluster) (turns : List WholeTurn) (lawful : IsLawful cluster
             own = λ home_is. absurd (other (sym sender ∙ sym home_is ∙ at_home));
             other =
                 λ not. unchanged cluster turns lawful number position done happens
-                    (ap (λ owed. names (cond (is_empty owed) (added old (live stack)) stack)) (serves.oldest));
+                (ap (λ owed. names (cond (is_empty owed) (added old (live stack)) stack)) (serves.oldest));
           }
 
   -- ---- posts
@@ -168,7 +168,7 @@ module _ (cluster : Cluster) (turns : List WholeTurn) (lawful : IsLawful cluster
         child = may.child.id;
         old =
             stack_before cluster turns lawful number position (happens.moved) (happens.is) ∙ ap names (may.stack)
-                ∙ names_append (may.above) (may.child ∷ (may.parent ∷ []));
+            ∙ names_append (may.above) (may.child ∷ (may.parent ∷ []));
         new = stack_after cluster turns lawful number position (Sent message) happens
             ∙ ap (λ said. names (stack_sent said stack)) says ∙ ap (λ all. names (without_bottom closure.join all)) (may.stack)
             ∙ granted_names closure.join (may.above) (may.child) (may.parent);
@@ -179,13 +179,13 @@ module _ (cluster : Cluster) (turns : List WholeTurn) (lawful : IsLawful cluster
   pub done_rule : (number position : ℕ) (message : Msg) (join : JoinId) (index : ℕ) (value : ℤ) → Happens course number position (Sent message)
       → message.body ≡ body.Done join index value
       → Empties returns stacks position number (bottom_of cluster number (before course position))
-          × (returns position (bottom_of cluster number (before course position)) ≡ true)
+      × (returns position (bottom_of cluster number (before course position)) ≡ true)
   done_rule number position message join index value happens says =
       let may = done_allowed cluster turns lawful number position message join index value happens says in
       let bottom : bottom_of cluster number (before course position) ≡ may.life.id = ap id_of (may.returned.at_bottom) in
       subst (λ it. Empties returns stacks position number it × (returns position it ≡ true)) (sym bottom)
       (empties_returned cluster turns lawful number position (Sent message) happens (may.life)
-          (ap (λ said. stack_sent said (stack_of (node number) (past number position))) says) (may.returned))
+      (ap (λ said. stack_sent said (stack_of (node number) (past number position))) says) (may.returned))
 
   -- a Park
   pub park_rule : (number position : ℕ) (message : Msg) (join : JoinId) (closure : Closure) → Happens course number position (Sent message)
@@ -195,7 +195,7 @@ module _ (cluster : Cluster) (turns : List WholeTurn) (lawful : IsLawful cluster
       let may = park_allowed cluster turns lawful number position message join closure happens says in
       subst (λ it. Empties returns stacks position number it) (sym (may.state.id))
       (empties cluster turns lawful number position (Sent message) happens (may.life)
-          (ap (λ said. stack_sent said (stack_of (node number) (past number position))) says) (may.at_join.alone))
+      (ap (λ said. stack_sent said (stack_of (node number) (past number position))) says) (may.at_join.alone))
 
   -- a Fetch
   pub fetch_rule : (number position : ℕ) (message : Msg) (page : ℕ) → Happens course number position (Sent message) → message.body ≡ body.Fetch page
@@ -212,7 +212,7 @@ module _ (cluster : Cluster) (turns : List WholeTurn) (lawful : IsLawful cluster
       let stack = stack_of (node number) (past number position) in
       subst (λ it. Moves returns stacks position number it []) (sym (may.add.acts.named))
       (moves cluster turns lawful number position (Sent message) happens (may.add.life) [] (may.add.acts.is)
-          (λ below is. ap (λ said. names (stack_sent said stack)) says ∙ ap names is))
+      (λ below is. ap (λ said. names (stack_sent said stack)) says ∙ ap names is))
 
   -- what is posted of other kinds
   sent_still : (number position : ℕ) (message : Msg) → Happens course number position (Sent message)
@@ -270,4 +270,4 @@ module _ (cluster : Cluster) (turns : List WholeTurn) (lawful : IsLawful cluster
       on (Some moved) found =
           let happens : Happens course moved.node position moved.event = record { moved = moved; is = found; by = refl; event_is = refl } in
           subst (λ it. Rule position it) (sym (event_there cluster turns lawful moved.node position moved.event happens))
-              (event_rule moved.node position moved.message moved.event happens)
+          (event_rule moved.node position moved.message moved.event happens)

@@ -50,8 +50,12 @@ dropped_in course number position page (first ∷ pages) others follow among =
     on false is any rest = later (rest any)
       where
         later : DroppedIn course number (suc position) page → DroppedIn course number position page
-        later it = record { at =
-            it.at; behind = let less = it.behind in omega (arith, less); is = it.is; between = λ i above below. by_place i above below (eqb i position) refl }
+        later it = record {
+          at = it.at;
+          behind = let less = it.behind in omega (arith, less);
+          is = it.is;
+          between = λ i above below. by_place i above below (eqb i position) refl;
+        }
           where
             by_place : (i : ℕ) → position ≤ i → i < it.at → (b : Bool) → eqb i position ≡ b → (other : ℕ) × Happens course number i (Did (item.Drop other))
             by_place i above below true same =
@@ -86,9 +90,9 @@ module _ (cluster : Cluster) (turns : List WholeTurn) (lawful : IsLawful cluster
 
       on : (rest : List Item) (posts : List Msg)
           → IsOwed (node number) (past number position) (item.TakeUp frame)
-              ⊎ (IsFree (past number position) × MayDo (node number) (past number position) (item.TakeUp frame) rest posts)
+          ⊎ (IsFree (past number position) × MayDo (node number) (past number position) (item.TakeUp frame) rest posts)
           → Follow course number (suc position) rest → (rest : List Item) × MayTakeUp (node number) (past number position) frame rest
-              × Follow course number (suc position) rest
+          × Follow course number (suc position) rest
       on rest posts (inl owed) follow = absurd owed
       on rest posts (inr both) follow = (rest, both.1, follow)
 
@@ -117,4 +121,4 @@ module _ (cluster : Cluster) (turns : List WholeTurn) (lawful : IsLawful cluster
       it : DroppedIn course number (suc now) page
       it =
           dropped_in course number (suc now) page (taken.1.pages) (taken.1.others) (subst (λ all. Follow course number (suc now) all) (taken.1.drops) (taken.2))
-              (taken.1.all page ∙ in_cache)
+          (taken.1.all page ∙ in_cache)

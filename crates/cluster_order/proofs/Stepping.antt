@@ -63,7 +63,7 @@ module _ (cluster : Cluster) (turns : List WholeTurn) (lawful : IsLawful cluster
   stack_other number position event happens other not =
       ap (stack_in cluster other) (first_next position course (happens.moved) (happens.is))
       ∙ ap (λ it. names (stack_of (node other) it))
-          (own_other other (happens.moved) (before course position) (differs (happens.moved.node) number other (happens.by) not))
+      (own_other other (happens.moved) (before course position) (differs (happens.moved.node) number other (happens.by) not))
       ∙ sym (stack_before other position (happens.moved) (happens.is))
     where
       differs : (by number other : ℕ) → by ≡ number → (other ≡ number → ⊥) → eqb by other ≡ false
@@ -112,7 +112,7 @@ module _ (cluster : Cluster) (turns : List WholeTurn) (lawful : IsLawful cluster
   pub moves : (number position : ℕ) (event : Event) → Happens course number position event → (life : Life) (top : List FrameId)
       → highest (node number) (past number position) ≡ Some life
       → ((below : List Life) → live (stack_of (node number) (past number position)) ≡ life ∷ below
-          → names (stack_behind (node number) event (past number position)) ≡ top ++ life.id ∷ names below)
+      → names (stack_behind (node number) event (past number position)) ≡ top ++ life.id ∷ names below)
       → Moves returns stacks position number life.id top
   moves number position event happens life top is goes = record {
     above = names (it.above);
@@ -153,7 +153,7 @@ module _ (cluster : Cluster) (turns : List WholeTurn) (lawful : IsLawful cluster
     front = names (it.above);
     old =
         stack_before number position (happens.moved) (happens.is) ∙ ap names (it.parts) ∙ names_append (it.above) (it.below)
-            ∙ ap (λ all. names (it.above) ++ all) (sym (it.same) ∙ ap names alone);
+        ∙ ap (λ all. names (it.above) ++ all) (sym (it.same) ∙ ap names alone);
     returned = above_returned number position event happens (it.above) (it.below) (it.parts) (it.returned);
     new = stack_after number position event happens ∙ ap names goes;
     others = stack_other number position event happens;

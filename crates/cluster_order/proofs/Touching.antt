@@ -145,7 +145,7 @@ module _ (cluster : Cluster) (turns : List WholeTurn) (lawful : IsLawful cluster
           addend = it.addend;
           is =
               event_there cluster turns lawful home position (Did (item.Served (it.frame) (it.index) word (it.old) (it.addend)))
-                  (subst (λ one. Happens course home position one) (it.is) happens);
+              (subst (λ one. Happens course home position one) (it.is) happens);
         },
       )
 
