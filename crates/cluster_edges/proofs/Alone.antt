@@ -89,7 +89,7 @@ module _ (cluster : Cluster) (moved : Moved) (course : Course) (stepped : Steppe
       let all = held_once cluster (moved ∷ course) stepped frame in
       let letter = left_letter frame left in
       let takes : Takes course message.receiver (Some place) message =
-          record { place = place; place_is = refl; receiver = refl; was_posted = was; not_taken = none } in
+      record { place = place; place_is = refl; receiver = refl; was_posted = was; not_taken = none } in
       let other = letter_taken cluster (in_message (named frame)) course message.receiver (Some place) message stepped.0 takes in
       let here = brings_one frame message.body is in
       omega (arith, all, letter, other, here)

@@ -50,7 +50,7 @@ module _ (cluster : Cluster) (turns : List WholeTurn) (lawful : IsLawful cluster
       subst (λ it. AsksFirst frame word addend (stack_of (node_at cluster number) it)) (sym parts)
       (asks_since (node_at cluster number) newer.0 (own number (before front post)) message frame index word addend
       (subst (AllAllowed (node_at cluster number)) parts
-          (stepped_allowed cluster front (stepped_before cluster course (lawful_stepped cluster turns lawful) position) number))
+      (stepped_allowed cluster front (stepped_before cluster course (lawful_stepped cluster turns lawful) position) number))
       is none)
     where
       front : Course
@@ -70,11 +70,11 @@ module _ (cluster : Cluster) (turns : List WholeTurn) (lawful : IsLawful cluster
       not_such false between other behind there by such = refl
       not_such true between other behind there by such =
           let happened =
-              happened_before course position moved found number between other.event (record { moved = other; is = there; by = by; event_is = refl }) in
+          happened_before course position moved found number between other.event (record { moved = other; is = there; by = by; event_is = refl }) in
           let inside = within front between other there in
           let count = length_before course position moved found in
           absurd (no_answer between (omega (arith, behind)) (omega (arith, inside, count))
-              (ended_by cluster turns lawful number ForAdded between other.event happened such))
+          (ended_by cluster turns lawful number ForAdded between other.event happened such))
 
       none : list_any (ends ForAdded) newer.0 ≡ false
       none = none_newer number front newer.0 (Sent message) (own number (before front post)) post newer.1 (ends ForAdded)
@@ -140,7 +140,7 @@ module _ (cluster : Cluster) (turns : List WholeTurn) (lawful : IsLawful cluster
         its_serves : Serves events (memory_of cluster) home it.served taken.0
         its_serves =
             subst (λ number. Serves events (memory_of cluster) number it.served taken.0) home_same
-                (subst (Serves events (memory_of cluster) it.home it.served) taking_same it.serves)
+            (subst (Serves events (memory_of cluster) it.home it.served) taking_same it.serves)
 
         same : it.served ≡ position
         same = owed.once (λ (at : ℕ). takes_add events home (events at)) (does home) it.served position taken.0
@@ -160,11 +160,11 @@ module _ (cluster : Cluster) (turns : List WholeTurn) (lawful : IsLawful cluster
     asks_then =
         let earlier = asked.before in
         let served_later = owed.head-before (λ (at : ℕ). takes_add events home (events at))
-            (λ (at : ℕ). serves (memory_of cluster) home (events at)) position taken.0 taken.1 in
+        (λ (at : ℕ). serves (memory_of cluster) home (events at)) position taken.0 taken.1 in
         asks_there asked.sender taken.2.post position owes.add frame index word addend here.moved here.is sent owes.asked (omega (arith, earlier, served_later))
         (λ between after before_it other.
         let request : Request cluster turns lawful asked.sender ForAdded taken.2.post =
-            record { message = owes.add; is = sent; asks = ap adds_in owes.asked } in
+        record { message = owes.add; is = sent; asks = ap adds_in owes.asked } in
         let found = told_behind_answer cluster turns lawful asked.sender ForAdded between taken.2.post request after other in
         let more = told_later found.0 found.2 in
         absurd (omega (arith, more, found.1, before_it)))

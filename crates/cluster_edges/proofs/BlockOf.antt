@@ -95,7 +95,7 @@ pub record IsSpawn (event : Event) : Type 0 where
 abbrev pub AddsNone : Cluster → Course → ℕ → Option PostAt → Event → Type 0
 AddsNone cluster course number here event =
     (frame child : FrameId) → block_after (happens_to cluster course number here event) (BlockOf cluster course) frame child
-        → BlockOf cluster course frame child
+    → BlockOf cluster course frame child
 
 pub spawn_or_none : (cluster : Cluster) (course : Course) (number : ℕ) (here : Option PostAt) (event : Event)
     → IsSpawn event ⊎ AddsNone cluster course number here event
@@ -158,7 +158,7 @@ pub spawn_may : (cluster : Cluster) (course : Course) (moved : Moved) → Step c
     → MayAct (node_at cluster moved.node) (own moved.node course) it.parent it.index (act.Spawn it.child it.procedure it.arguments)
 spawn_may cluster course moved step it =
     act_may (node_at cluster moved.node) (own moved.node course) it.parent it.index (act.Spawn it.child it.procedure it.arguments)
-        (allowed moved.event it.is step.allowed)
+    (allowed moved.event it.is step.allowed)
   where
     allowed : (event : Event) → event ≡ Did (item.Act it.parent it.index (act.Spawn it.child it.procedure it.arguments))
         → IsAllowed (node_at cluster moved.node) (own moved.node course) event

@@ -93,7 +93,7 @@ module _ (cluster : Cluster) (course : Course) (brought : Brought cluster course
   other_frames number other =
       subst (λ past. Placed cluster number grown (frames_of (node_at cluster number) past)) (sym (own_other number moved course (λ same. other (sym same))))
       (placed_kept cluster number moved course (frames_of (node_at cluster number) (own number course)) (brought.frames number)
-          (other_untold number other (told moved) refl))
+      (other_untold number other (told moved) refl))
 
   all_frames : (number : ℕ) → (moved.node ≡ number) ⊎ (moved.node ≢ number)
       → Placed cluster number grown (frames_of (node_at cluster number) (own number grown))
@@ -108,7 +108,7 @@ module _ (cluster : Cluster) (course : Course) (brought : Brought cluster course
       coming_kept cluster moved course message.receiver message.body
       (λ id is. none_elsewhere id (told moved) refl
       (λ said tells same. once.flying moved.node step.within said.frame (one_of_node said tells) place message was not
-          (is ∙ ap Some (same_name id said.frame same))))
+      (is ∙ ap Some (same_name id said.frame same))))
       (brought.coming place message was not)
 
   new_coming : (place : PostAt) (message : Msg) → IsPost place message moved → Coming cluster grown message.receiver message.body
@@ -137,7 +137,7 @@ module _ (cluster : Cluster) (course : Course) (brought : Brought cluster course
       on true same =
           inr (named_more cluster moved course frame (subst (λ it. Named cluster course it) (sym (same_name frame it.frame same))
           (counted_named cluster moved.node course (frames_of (node_at cluster moved.node) (own moved.node course)) (brought.frames moved.node) it.frame
-              (one_of_node it is))))
+          (one_of_node it is))))
       on false other = old_told frame (no_news it moved frame is other) (brought.told frame)
 
   pub brought_next : Brought cluster grown

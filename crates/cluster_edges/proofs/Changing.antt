@@ -59,7 +59,7 @@ module _ (cluster : Cluster) (number : ℕ) (course : Course) where
       → Placed cluster number course (with_stack (cond b (added old (live frames.stack)) frames.stack) frames)
   placed_served old true frames placed =
       placed_stack (added old (live frames.stack)) frames placed
-          (each_added (OnStack cluster number course) old (live frames.stack) (placed_live frames placed))
+      (each_added (OnStack cluster number course) old (live frames.stack) (placed_live frames placed))
   placed_served old false frames placed = placed
 
   pub placed_joined : (node : Node) (past : Past) (frames : Frames) → Placed cluster number course frames

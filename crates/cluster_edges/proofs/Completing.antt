@@ -113,7 +113,7 @@ module _ (cluster : Cluster) (course : Course) (stepped : Stepped cluster course
       let some : Some it.parent ≡ Some one.closure.id = sym it.named ∙ waiting.fits.joined one.join waiting.at_join in
       let parent : it.parent ≡ one.closure.id = cc in
       let same =
-          once one.closure.id noted.entry.index child it.child noted.born (subst (λ frame. Born frame noted.entry.index it.child course) parent it.born) in
+      once one.closure.id noted.entry.index child it.child noted.born (subst (λ frame. Born frame noted.entry.index it.child course) parent it.born) in
       subst (λ other. Told cluster course one.closure.id other) (sym same) (subst (λ frame. Told cluster course frame it.child) parent it.told)
 
   joined_lies : (one : Parked) → Waiting cluster course one.join one.closure → is_complete (own number course) one ≡ true
@@ -141,7 +141,7 @@ module _ (cluster : Cluster) (course : Course) (stepped : Stepped cluster course
     where
       on : (b : Bool) → is_complete (own number course) one ≡ b → AllLying cluster course (all_joined (node_at cluster number) (own number course) parked)
           → AllLying cluster course
-              (cond b (joined (node_at cluster number) (own number course) one ∷ all_joined (node_at cluster number) (own number course) parked)
+          (cond b (joined (node_at cluster number) (own number course) one ∷ all_joined (node_at cluster number) (own number course) parked)
           (all_joined (node_at cluster number) (own number course) parked))
       on true is rest = (joined_lies one all.0 is, rest)
       on false is rest = rest
@@ -161,6 +161,6 @@ module _ (cluster : Cluster) (course : Course) (stepped : Stepped cluster course
     stack = keeps.stack;
     ready =
         lying_append cluster course frames.ready (all_joined (node_at cluster number) (own number course) frames.parked) keeps.ready
-            (all_joined_lie frames.parked keeps.parked);
+        (all_joined_lie frames.parked keeps.parked);
     parked = still_wait frames.parked keeps.parked;
   }

@@ -59,7 +59,7 @@ module _ (cluster : Cluster) (program : Program) (stands : StandsFor cluster.cod
       → take (suc (length answers)) (begins depth procedure arguments (answers ++ more)) ≡ begins depth procedure arguments answers
   steady depth procedure arguments answers more =
       subst (λ (it : ℕ → ℕ → List ℤ → Meaning). take (suc (length answers)) (it depth procedure arguments (answers ++ more))
-          ≡ it depth procedure arguments answers)
+      ≡ it depth procedure arguments answers)
       (sym stands.wants) (steady_wants program depth procedure arguments answers more)
 
   pub returned_none : IsParted program → (goes : Meaning) (meant : Meant begins goes) → is_some (value_in (now goes)) ≡ true → block_so begins goes meant ≡ []
@@ -93,7 +93,7 @@ module _ (cluster : Cluster) (program : Program) (stands : StandsFor cluster.cod
         plain (Did (item.Act frame index (act.Read word value))) life (want.Read word) answer by.1.wanted (λ block. refl) (λ frame child block. block) counts
     answers_count (Did (item.Act frame index (act.Write word value))) told life answer by counts =
         plain (Did (item.Act frame index (act.Write word value))) life (want.Write word value) answer by.1.wanted (λ block. refl)
-            (λ frame child block. block) counts
+        (λ frame child block. block) counts
     answers_count (Did (item.Act frame index (act.Print value))) told life answer by counts =
         plain (Did (item.Act frame index (act.Print value))) life (want.Print value) answer by.1 (λ block. refl) (λ frame child block. block) counts
     answers_count (Did (item.Act frame index (act.Spawn child procedure arguments))) told life answer by counts =
@@ -194,7 +194,7 @@ module _ (cluster : Cluster) (program : Program) (stands : StandsFor cluster.cod
         → Everywhere cluster (moved ∷ course) New
     spawned_new it older all =
         everywhere_both OldOrNew (λ id goes. id ≡ it.parent → New it.parent goes) New
-            (λ id goes first second. on id goes first second (same_frame id it.parent) refl)
+        (λ id goes first second. on id goes first second (same_frame id it.parent) refl)
         cluster (moved ∷ course) all parent_alone
       where
         node : Node
@@ -224,7 +224,7 @@ module _ (cluster : Cluster) (program : Program) (stands : StandsFor cluster.cod
         parent_alone : Everywhere cluster (moved ∷ course) (λ id goes. id ≡ it.parent → New it.parent goes)
         parent_alone =
             lone it.parent (New it.parent) (newborn node it.child it.procedure it.arguments may.life ∷ []) top.0
-                (acted (act.Spawn it.child it.procedure it.arguments) may.life)
+            (acted (act.Spawn it.child it.procedure it.arguments) may.life)
             (sym may.acts.named) (subst (λ id. New id (after may.life.goes Done)) (sym may.acts.named) parent_new) cluster (moved ∷ course)
             (stepped, step) moved.node step.within stack_is
 

@@ -58,7 +58,7 @@ module _ (cluster : Cluster) (moved : Moved) (course : Course) (tied : Tied clus
       let born : moved.event ≡ Did (item.Act life.id life.acts (act.Spawn child procedure arguments)) =
       is ∙ (λ i. Did (item.Act (named i) (counted i) (act.Spawn child procedure arguments))) in
       let apart : Apart cluster moved course child =
-          stays_here cluster moved course tied (item.Act frame index (act.Spawn child procedure arguments)) is child in (
+      stays_here cluster moved course tied (item.Act frame index (act.Spawn child procedure arguments)) is child in (
         inl (procedure, arguments, born),
         child_known child procedure arguments is makes.name,
         λ other gone. new_child child makes.name (tied.gone child other (apart.gone other gone)),
@@ -66,7 +66,7 @@ module _ (cluster : Cluster) (moved : Moved) (course : Course) (tied : Tied clus
       )
   acting act.Sync life is named counted makes =
       λ child gone.
-          (subst (λ event. gone_on event (stack_of (node_at cluster moved.node) (own moved.node course)) (Gone cluster course) life.id child) is gone).1 named
+      (subst (λ event. gone_on event (stack_of (node_at cluster moved.node) (own moved.node course)) (Gone cluster course) life.id child) is gone).1 named
 
 -- ---- each item
 
@@ -113,10 +113,10 @@ module _ (cluster : Cluster) (moved : Moved) (course : Course) (tied : Tied clus
   act_keeps frame index done is may keeps =
       let first = first_is (live frames.stack) may.life may.acts.is in
       let alive : Stacked cluster (moved ∷ course) (may.life ∷ first.0) =
-          subst (Stacked cluster (moved ∷ course)) first.1 (live_stacked cluster (moved ∷ course) frames.stack keeps.stack) in
+      subst (Stacked cluster (moved ∷ course)) first.1 (live_stacked cluster (moved ∷ course) frames.stack keeps.stack) in
       let its = acting cluster moved course tied frame index done may.life is may.acts.named may.index_is may.makes in
       subst (λ it. Stacked cluster (moved ∷ course) (after_act node done it)) (sym first.1)
-          (acted_stacked cluster (moved ∷ course) node done may.life first.0 its alive)
+      (acted_stacked cluster (moved ∷ course) node done may.life first.0 its alive)
 
   served_stacked : (old : ℤ) (b : Bool) → Stacked cluster (moved ∷ course) frames.stack
       → Stacked cluster (moved ∷ course) (cond b (added old (live frames.stack)) frames.stack)
@@ -131,7 +131,7 @@ module _ (cluster : Cluster) (moved : Moved) (course : Course) (tied : Tied clus
       restacked (after_act node act (live frames.stack)) keeps (act_keeps frame index act is both.1 keeps)
   item_keeps (item.Tick frame) is rest posts may keeps =
       restacked _ keeps
-          (answered_stacked cluster (moved ∷ course) DoneAnswer (live frames.stack) (live_stacked cluster (moved ∷ course) frames.stack keeps.stack))
+      (answered_stacked cluster (moved ∷ course) DoneAnswer (live frames.stack) (live_stacked cluster (moved ∷ course) frames.stack keeps.stack))
   item_keeps (item.Drop page) is rest posts may keeps = keeps
   item_keeps (item.TakeUp frame) is rest posts (inl owed) keeps = absurd owed
   item_keeps (item.TakeUp frame) is rest posts (inr both) keeps =

@@ -126,7 +126,7 @@ module _ (cluster : Cluster) (moved : Moved) (course : Course) (step : Step clus
       let node = node_at cluster moved.node in
       let past = own moved.node course in
       let may : MayGrant node past message.receiver closure =
-          grant_on node past message.receiver closure (sent_may cluster moved course step message (body.Grant closure) is says) in
+      grant_on node past message.receiver closure (sent_may cluster moved course step message (body.Grant closure) is says) in
       let keeps : Keeps cluster course (frames_of node past) = tied.nodes moved.node step.within in
       let both = bottom_two cluster course may.above may.child may.parent (subst (Stacked cluster course) may.stack keeps.stack) in
       record { may = may; child = both.0; born = both.1; parent = both.2 }
@@ -176,7 +176,7 @@ module _ (cluster : Cluster) (moved : Moved) (course : Course) (step : Step clus
       on join frame named None is = ap (λ it. or_else it (given (λ (moved : Moved). grants_by join moved.event) course)) is ∙ named
       on join frame named (Some other) is =
           ap (λ it. or_else it (given (λ (moved : Moved). grants_by join moved.event) course)) is
-              ∙ ap Some (same_frame_named join frame other named (grants_is join moved.event other is))
+          ∙ ap Some (same_frame_named join frame other named (grants_is join moved.event other is))
 
   joins_grow : (message : Msg) (closure : Closure) (it : Granted cluster moved course message closure) → moved.event ≡ Sent message
       → message.body ≡ body.Grant closure → it.may.parent.join ≡ None

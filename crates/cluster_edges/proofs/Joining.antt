@@ -98,13 +98,13 @@ away_gone cluster course (suc now) frame child away = on (at course now) refl (a
     on None none so =
         let nothing : events_of cluster course now ≡ log.Nothing = ap (event_of cluster (before course now)) none in
         let older =
-            subst (λ event. away_after (stacks_of cluster course) now event (edge.Away (events_of cluster course) (stacks_of cluster course) now) frame child)
-            nothing away in
+        subst (λ event. away_after (stacks_of cluster course) now event (edge.Away (events_of cluster course) (stacks_of cluster course) now) frame child)
+        nothing away in
         subst (λ it. Gone cluster it frame child) (sym (first_stays course now none)) (so older)
     on (Some moved) found so =
         let is = event_at cluster course now moved found in
         let after = subst (λ event. away_after (stacks_of cluster course) now event
-            (edge.Away (events_of cluster course) (stacks_of cluster course) now) frame child) is away in
+        (edge.Away (events_of cluster course) (stacks_of cluster course) now) frame child) is away in
         subst (λ it. Gone cluster it frame child) (sym (first_next course now moved found))
         (gone_event cluster (stacks_of cluster course) now course (before course now) moved.node
         (edge.Away (events_of cluster course) (stacks_of cluster course) now) (Gone cluster (first now course))
@@ -143,9 +143,9 @@ told_done cluster course now frame child told =
     let found = at_whole course now it.position it.moved it.found in
     let less = within (first now course) it.position it.moved it.found in
     let earlier : before course it.position ≡ before (first now course) it.position =
-        before_grown (first now course) course (first_grown now course) it.position less in
+    before_grown (first now course) course (first_grown now course) it.position less in
     let tells : Tells cluster (before course it.position) it.moved frame child =
-        subst (λ past. Tells cluster past it.moved frame child) (sym earlier) it.tells in
+    subst (λ past. Tells cluster past it.moved frame child) (sym earlier) it.tells in
     record {
       post = it.position;
       sender = it.moved.node;
@@ -182,7 +182,7 @@ parking_since : (frame : FrameId) (post : ℕ) (moved : Moved) (course : Course)
 parking_since frame post moved [] found parks none = absurd (cc)
 parking_since frame post moved (top ∷ course) found parks none =
     parking_on frame post moved top course (eqb post (length course)) refl found parks none
-        (λ older since. parking_since frame post moved course older parks since)
+    (λ older since. parking_since frame post moved course older parks since)
 
 any_lies : (cluster : Cluster) (course : Course) (frame : FrameId) (lives : List Life) → AllLying cluster course lives
     → list_any (λ life. same_frame life.id frame) lives ≡ true
@@ -237,9 +237,9 @@ module _ (cluster : Cluster) (course : Course) (stepped : Stepped cluster course
       on (inr more) =
           let none : (frames_of (node_at cluster node) (own node (first now course))).ready ≡ [] =
           ap (λ past. (frames_of (node_at cluster node) past).ready) (no_past cluster (first now course) (stepped_now now) node more)
-              ∙ idle_ready cluster node in
+          ∙ idle_ready cluster node in
           let never : list_any (λ (life : Life). same_frame life.id frame) [] ≡ true =
-              subst (λ lives. list_any (λ (life : Life). same_frame life.id frame) lives ≡ true) none any in
+          subst (λ lives. list_any (λ (life : Life). same_frame life.id frame) lives ≡ true) none any in
           absurd (cc)
 
   ready_told : (now node : ℕ) (frame child : FrameId) → Parking frame (first now course)
@@ -269,7 +269,7 @@ module _ (cluster : Cluster) (course : Course) (stepped : Stepped cluster course
       let both = ready_on _ _ (sym staged ∙ later) in
       let parks : Parks frame found.moved.event = (message, park.0, park.1, found.event_is, park.2, park.3) in
       let parking = parking_since frame post found.moved (first now course)
-          (at_first course now post found.moved (before_now now post (leb now post) refl ready) found.is) parks both.0 in
+      (at_first course now post found.moved (before_now now post (leb now post) refl ready) found.is) parks both.0 in
       told_done cluster course now frame child
       (ready_told now node frame child parking (ready_lies now node frame both.1) (away_gone cluster course now frame child away))
     where

@@ -35,14 +35,14 @@ module _ (cluster : Cluster) (course : Course) (node : Node) (life : Life) (clos
       let away : life.link ≡ Away join = sym state.link ∙ is in
       let spawned : closure.spawned ≡ life.spawned = state.spawned (λ root. let none = sym root ∙ away in absurd (cc)) in
       subst (λ id. HasParent course id closure.spawned.index join) (sym state.id)
-          (subst (λ (it : Child). HasParent course life.id it.index join) (sym spawned) (fits.linked join away))
+      (subst (λ (it : Child). HasParent course life.id it.index join) (sym spawned) (fits.linked join away))
 
   carried_waits : Fits cluster course (tie_of life) → (child : FrameId) → Gone cluster course closure.id child
       → Told cluster course closure.id child ⊎ IsNoted course closure.id closure.away child
   carried_waits fits child gone =
       subst (λ id. Told cluster course id child ⊎ IsNoted course id closure.away child) (sym state.id)
       (subst (λ away. Told cluster course life.id child ⊎ IsNoted course life.id away child) (sym state.away)
-          (fits.waits child (subst (λ id. Gone cluster course id child) state.id gone)))
+      (fits.waits child (subst (λ id. Gone cluster course id child) state.id gone)))
 
   pub carried_fits : Fits cluster course (tie_of life) → Fits cluster course (tie_in closure)
   carried_fits fits = record {
@@ -158,7 +158,7 @@ module _ (cluster : Cluster) (moved : Moved) (course : Course) (step : Step clus
     rooted = it.parent.fits.rooted;
     linked =
         λ join away. parent_more cluster moved course (named_stays cluster moved course step tied) parent.id parent.spawned.index join
-            (it.parent.fits.linked join away);
+        (it.parent.fits.linked join away);
     joined = λ join joins. parent_named join (it.may.state.join ∙ joins);
     waits = λ other gone. parted_waits other (parted_gone other gone);
   }
@@ -173,8 +173,10 @@ module _ (cluster : Cluster) (moved : Moved) (course : Course) (step : Step clus
 
   -- The frame in the Grant.
   pub grant_stands : Standing cluster (moved ∷ course) (tie_in closure)
-  grant_stands = record { fits =
-      carried_fits cluster (moved ∷ course) node (parted node past child parent) closure it.may.state parted_fits; not_parked = granted_not_parked }
+  grant_stands = record {
+    fits = carried_fits cluster (moved ∷ course) node (parted node past child parent) closure it.may.state parted_fits;
+    not_parked = granted_not_parked;
+  }
 
   -- the child tells its return to that join
   linked_join : (join : Option JoinId) (other : JoinId) → link_to join ≡ Away other → join ≡ Some other
@@ -222,7 +224,7 @@ module _ (cluster : Cluster) (moved : Moved) (course : Course) (step : Step clus
       ap (without_bottom closure.join) it.may.stack ∙ bottom_gone closure.join it.may.above child parent in
       let keeps : Keeps cluster course (frames_of node past) = tied.nodes moved.node step.within in
       subst (Stacked cluster (moved ∷ course)) (sym gone)
-          (left_stacked it.may.above (subst (Stacked cluster course) it.may.stack keeps.stack) (subst (NoneLeaves moved) gone none))
+      (left_stacked it.may.above (subst (Stacked cluster course) it.may.stack keeps.stack) (subst (NoneLeaves moved) gone none))
 
 -- the frame that waits at a join is the one that it was named for
 pub frame_named : (join : JoinId) (frame : FrameId) (course : Course) → Named join frame course → frame_of join course ≡ frame
@@ -251,7 +253,7 @@ module _ (cluster : Cluster) (moved : Moved) (course : Course) (step : Step clus
       → MayPark (node_at cluster moved.node) (own moved.node course) message.receiver join closure
   park_now join closure says =
       park_on (node_at cluster moved.node) (own moved.node course) message.receiver join closure
-          (sent_may cluster moved course step message (body.Park join closure) is says)
+      (sent_may cluster moved course step message (body.Park join closure) is says)
 
   parked_fits : (join : JoinId) (closure : Closure) → message.body ≡ body.Park join closure → Fits cluster course (tie_in closure)
   parked_fits join closure says =
@@ -268,7 +270,7 @@ module _ (cluster : Cluster) (moved : Moved) (course : Course) (step : Step clus
         fits =
             fits_more cluster moved course (named_stays cluster moved course step tied) (tie_in closure)
             (λ child gone. subst (λ said. gone_body said stack (Gone cluster course) closure.id child) says
-                (subst (λ event. gone_on event stack (Gone cluster course) closure.id child) is gone))
+            (subst (λ event. gone_on event stack (Gone cluster course) closure.id child) is gone))
             (parked_fits join closure says);
         at_join = may.state.join ∙ may.at_join.granted;
       }
@@ -286,7 +288,7 @@ module _ (cluster : Cluster) (moved : Moved) (course : Course) (step : Step clus
       let stands = last_stacked cluster course (stack_of node past) may.life stacked_now may.returned.at_bottom in
       let bottom : bottom_of cluster moved.node course ≡ may.life.id = ap id_of may.returned.at_bottom in
       subst (λ id. HasParent course id index join) (sym bottom)
-          (subst (λ at. HasParent course may.life.id at join) (sym may.index_is) (stands.fits.linked join may.link))
+      (subst (λ at. HasParent course may.life.id at join) (sym may.index_is) (stands.fits.linked join may.link))
 
   pub done_returns : (join : JoinId) (index : ℕ) (value : ℤ) → message.body ≡ body.Done join index value → Returned cluster (moved ∷ course) join index
   done_returns join index value says =

@@ -92,7 +92,7 @@ module _ (frame : FrameId) (Q : Meaning → Type 0) where
         let a = many_append (named frame) (marks frames.stack) (other_marks frames) in
         let b = many_append (named frame) (marks frames.ready) (parked_marks frames.parked) in
         let count : many (named frame) (marks frames.stack) ≡ many (named frame) (marks front) + (1 + many (named frame) (marks back)) =
-            ap (λ it. many (named frame) (marks it)) parts ∙ in_stack in
+        ap (λ it. many (named frame) (marks it)) parts ∙ in_stack in
         record {
           stack = subst (Each Only) (sym parts) (stack_only (subst (λ it. many (named frame) (marks it) ≤ 1) parts (omega (arith, a, once))));
           ready = none_each frames.ready (omega (arith, a, b, once, count));
@@ -103,7 +103,7 @@ module _ (frame : FrameId) (Q : Meaning → Type 0) where
     at_least frames parts =
         let a = many_append (named frame) (marks frames.stack) (other_marks frames) in
         let count : many (named frame) (marks frames.stack) ≡ many (named frame) (marks front) + (1 + many (named frame) (marks back)) =
-            ap (λ it. many (named frame) (marks it)) parts ∙ in_stack in
+        ap (λ it. many (named frame) (marks it)) parts ∙ in_stack in
         omega (arith, a, count)
 
     -- What holds of the frame there holds of it anywhere.

@@ -117,7 +117,7 @@ module _ (begins : ℕ → ℕ → List ℤ → Meaning) where
       deposits = meant.deposits ++ kept;
       is = λ rest. equal rest ∙ meant.is (at_sync kept rest)
           ∙ ap (λ it. drop (length meant.answers) (begins meant.depth meant.procedure meant.arguments (meant.answers ++ it)))
-              (more_at_sync meant.deposits kept rest);
+          (more_at_sync meant.deposits kept rest);
     },
     refl,
   )
@@ -147,7 +147,7 @@ module _ (begins : ℕ → ℕ → List ℤ → Meaning) where
     bounded : (depth procedure : ℕ) (arguments : List ℤ) (answers : List Answer) → length (begins depth procedure arguments answers) ≤ suc (length answers)
     bounded depth procedure arguments answers =
         subst (λ it. length it ≤ suc (length answers)) (steady depth procedure arguments answers [])
-            (take_bound (suc (length answers)) (begins depth procedure arguments (answers ++ [])))
+        (take_bound (suc (length answers)) (begins depth procedure arguments (answers ++ [])))
 
     -- the want that is not answered stands behind those that were
     wants_so : (goes : Meaning) (meant : Meant begins goes) (want : Want) → now goes ≡ Some want
@@ -155,9 +155,9 @@ module _ (begins : ℕ → ℕ → List ℤ → Meaning) where
     wants_so goes meant want wants =
         let all = begins meant.depth meant.procedure meant.arguments in
         let here : goes [] ≡ drop (length meant.answers) (all meant.answers) =
-            meant.is [] ∙ ap (λ it. drop (length meant.answers) (all it)) (append-nil meant.answers) in
+        meant.is [] ∙ ap (λ it. drop (length meant.answers) (all it)) (append-nil meant.answers) in
         last_split (length meant.answers) (all meant.answers) want (bounded meant.depth meant.procedure meant.arguments meant.answers)
-            (ap first_of (sym here) ∙ wants)
+        (ap first_of (sym here) ∙ wants)
 
     pub meant_answered : (goes : Meaning) (meant : Meant begins goes) (request : Request) (answer : Answer) → now goes ≡ Some (Asks request)
         → (behind : Meant begins (after goes answer)) × (block_so (after goes answer) behind ≡ block_after request (block_so goes meant))
@@ -172,7 +172,7 @@ module _ (begins : ℕ → ℕ → List ℤ → Meaning) where
             ap rest_of (meant.is (answer ∷ rest)) ∙ rest_drop (length meant.answers) (all (meant.answers ++ at_sync meant.deposits (answer ∷ rest)))
             ∙ ap (λ it. drop (suc (length meant.answers)) (all (meant.answers ++ it))) (given_first meant.deposits answer rest)
             ∙ ap (λ it. drop (suc (length meant.answers)) (all it))
-                (sym (append_assoc meant.answers (given meant.deposits answer ∷ []) (at_sync (left meant.deposits answer) rest)))
+            (sym (append_assoc meant.answers (given meant.deposits answer ∷ []) (at_sync (left meant.deposits answer) rest)))
             ∙ ap (λ it. drop it (all (more ++ at_sync (left meant.deposits answer) rest))) (sym (one_more meant.answers (given meant.deposits answer)));
       },
       ap (λ it. block_of [] (take it (all more))) (one_more meant.answers (given meant.deposits answer))

@@ -71,7 +71,7 @@ module _ (cluster : Cluster) (course : Course) (number : ℕ) (here : Option Pos
   unfolding next_frame
   next_named event spawns =
       let next : next_frame node (own number (moving event ∷ course)) ≡ next_frame node past + spawns_on event =
-          ap (next_frame node) (own_first (moving event) course) in
+      ap (next_frame node) (own_first (moving event) course) in
       omega (arith, next, spawns)
 
   -- the next name was told of nobody
@@ -98,7 +98,7 @@ module _ (cluster : Cluster) (course : Course) (number : ℕ) (here : Option Pos
   synced frame index life is join before =
       let event : Event = Did (item.Act frame index act.Sync) in
       let syncing : syncs life.id (moving event) ≡ true =
-          ap (λ b. cond b true false) (subst (λ it. same_frame it life.id ≡ true) (sym is) (same_self life.id)) in
+      ap (λ b. cond b true false) (subst (λ it. same_frame it life.id ≡ true) (sym is) (same_self life.id)) in
       record { news = before.news; joined = λ any. inl (granted_synced life.id (moving event) course syncing); named = before.named }
 
   act_placed : (frame : FrameId) (index : ℕ) (done : LoggedAct) → MayAct node past frame index done
@@ -117,7 +117,7 @@ module _ (cluster : Cluster) (course : Course) (number : ℕ) (here : Option Pos
       (λ is.
       subst (λ it. OnStack cluster number (moving (Did (item.Act frame index it)) ∷ course) may.life.id None) (sym is)
       (synced frame index may.life may.acts.named may.life.join
-          (subst (λ it. OnStack cluster number (moving (Did (item.Act frame index it)) ∷ course) may.life.id may.life.join) is top))))
+      (subst (λ it. OnStack cluster number (moving (Did (item.Act frame index it)) ∷ course) may.life.id may.life.join) is top))))
 
   -- ---- items
 
@@ -141,7 +141,7 @@ module _ (cluster : Cluster) (course : Course) (number : ℕ) (here : Option Pos
   item_placed (item.OwnFetch page words) does =
       let event : Event = Did (item.OwnFetch page words) in
       placed_stack cluster number (moving event ∷ course) (live frames.stack) frames (still event refl)
-          (placed_live cluster number (moving event ∷ course) frames (still event refl))
+      (placed_live cluster number (moving event ∷ course) frames (still event refl))
   item_placed (item.OwnReconcile part) does = still (Did (item.OwnReconcile part)) refl
   item_placed (item.Served frame index word old addend) does =
       let event : Event = Did (item.Served frame index word old addend) in
@@ -154,24 +154,24 @@ module _ (cluster : Cluster) (course : Course) (number : ℕ) (here : Option Pos
   sent_placed message (body.Fetch page) is may =
       let kept = still (Sent message) (ap (told_sent message.receiver) is) in
       placed_stack cluster number (moving (Sent message) ∷ course) (live frames.stack) frames kept
-          (placed_live cluster number (moving (Sent message) ∷ course) frames kept)
+      (placed_live cluster number (moving (Sent message) ∷ course) frames kept)
   sent_placed message (body.Page page words) is may = still (Sent message) (ap (told_sent message.receiver) is)
   sent_placed message (body.Reconcile parts) is may = still (Sent message) (ap (told_sent message.receiver) is)
   sent_placed message body.Ack is may = still (Sent message) (ap (told_sent message.receiver) is)
   sent_placed message body.Ask is may = still (Sent message) (ap (told_sent message.receiver) is)
   sent_placed message (body.Grant closure) is may =
       grant_placed cluster course number here placed once message message.receiver closure (ap (told_sent message.receiver) is)
-          (may_post node past message (body.Grant closure) is refl may)
+      (may_post node past message (body.Grant closure) is refl may)
   sent_placed message body.Refuse is may = still (Sent message) (ap (told_sent message.receiver) is)
   sent_placed message (body.Done join index value) is may =
       placed_stack cluster number (moving (Sent message) ∷ course) [] frames (still (Sent message) (ap (told_sent message.receiver) is)) tt
   sent_placed message (body.Park join closure) is may =
       park_placed cluster course number here placed once message message.receiver join closure (ap (told_sent message.receiver) is)
-          (may_post node past message (body.Park join closure) is refl may)
+      (may_post node past message (body.Park join closure) is refl may)
   sent_placed message (body.Add other index word addend) is may =
       let kept = still (Sent message) (ap (told_sent message.receiver) is) in
       placed_stack cluster number (moving (Sent message) ∷ course) (live frames.stack) frames kept
-          (placed_live cluster number (moving (Sent message) ∷ course) frames kept)
+      (placed_live cluster number (moving (Sent message) ∷ course) frames kept)
   sent_placed message (body.Added old) is may = still (Sent message) (ap (told_sent message.receiver) is)
 
   -- ---- all events
@@ -184,7 +184,7 @@ module _ (cluster : Cluster) (course : Course) (number : ℕ) (here : Option Pos
   own_placed (Sent message) may coming = sent_placed message message.body refl may
   own_placed (Took message) may coming =
       placed_taking cluster number (moving (Took message) ∷ course) node message.body (Took message ∷ past) frames (still (Took message) refl)
-          (coming message refl)
+      (coming message refl)
   own_placed (Ended end) may coming = still (Ended end) refl
 
   -- ---- the frame of which the event speaks
@@ -197,7 +197,7 @@ module _ (cluster : Cluster) (course : Course) (number : ℕ) (here : Option Pos
       let said : Told = record { frame = frame; news = IsUp number } in
       let same : said ≡ it = cc in
       subst (λ (it : Told). 1 ≤ count it.frame (marks_of frames)) same
-          (up_counted cluster course number here placed once frame does.rest (taking_up frame does.rest does.posts does.may))
+      (up_counted cluster course number here placed once frame does.rest (taking_up frame does.rest does.posts does.may))
   tells_item it (item.OwnFetch page words) does is = absurd (cc)
   tells_item it (item.OwnReconcile part) does is = absurd (cc)
   tells_item it (item.Served frame index word old addend) does is = absurd (cc)

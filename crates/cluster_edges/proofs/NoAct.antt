@@ -82,7 +82,7 @@ module _ (cluster : Cluster) (turns : List WholeTurn) (lawful : IsLawful cluster
 
   keeps_returned : (position : ℕ) (moved : Moved) → at course position ≡ Some moved
       → Keeps (node_at cluster moved.node) (past moved.node position) moved.event (StaysReturned cluster (before course position))
-          (StaysReturned cluster (before course position))
+      (StaysReturned cluster (before course position))
   keeps_returned position moved found = record {
     same = λ id goes stays. stays;
     closes = λ id goes other kept equal stays has. ap (λ wants. is_some (value_in (serving.first_of wants))) (equal []) ∙ stays has;
@@ -108,7 +108,7 @@ module _ (cluster : Cluster) (turns : List WholeTurn) (lawful : IsLawful cluster
           subst (λ it. Everywhere cluster it (StaysReturned cluster it)) (sym (first_next position course moved found))
           (grown cluster (before course position) moved (stepped_next position moved found)
           (everywhere_next cluster (before course position) moved (stepped_then position) (step_then position moved found)
-              (StaysReturned cluster (before course position))
+          (StaysReturned cluster (before course position))
           (StaysReturned cluster (before course position)) (keeps_returned position moved found) before_it))
 
   -- ---- acts
@@ -125,7 +125,7 @@ module _ (cluster : Cluster) (turns : List WholeTurn) (lawful : IsLawful cluster
         let stack = stack_of (node_at cluster number) (past number position) in
         let top = first_is (live stack) life acts.is in
         let all = subst (Each (StaysReturned cluster (before course position))) top.1
-            (live_each (StaysReturned cluster (before course position)) stack (everywhere_there.at number less).stack) in
+        (live_each (StaysReturned cluster (before course position)) stack (everywhere_there.at number less).stack) in
         all.0 (subst (λ it. has_returned cluster it (before course position) ≡ true) acts.named has)
 
     -- nor has the one that waits for an add
@@ -157,7 +157,7 @@ module _ (cluster : Cluster) (turns : List WholeTurn) (lawful : IsLawful cluster
         own_or_owed home index word old addend happens (inr may) =
             let add = may.1.add in
             wants_none add.life (want.Add word addend) add.wanted
-                (acts_returned home (number_within home (Did (item.Served frame index word old addend)) happens) add.life add.acts)
+            (acts_returned home (number_within home (Did (item.Served frame index word old addend)) happens) add.life add.acts)
 
         on : Acted cluster course position number frame done ⊎ Served cluster course position number frame done → ⊥
         on (inl it) =
@@ -166,7 +166,7 @@ module _ (cluster : Cluster) (turns : List WholeTurn) (lawful : IsLawful cluster
             (acts_returned number (number_within number (Did (item.Act frame it.index it.act)) it.is) may.life may.acts)
         on (inr it) =
             own_or_owed it.home it.index it.word it.old it.addend it.is
-                (served_allowed cluster turns lawful it.home position frame it.index it.word it.old it.addend it.is)
+            (served_allowed cluster turns lawful it.home position frame it.index it.word it.old it.addend it.is)
 
   -- A frame that has returned makes no act.
   pub no_act : (position : ℕ) (frame : FrameId) → returns_of cluster course position frame ≡ true → ActOf (ev cluster turns lawful) frame position → ⊥

@@ -43,9 +43,9 @@ module _ (cluster : Cluster) (turns : List WholeTurn) (lawful : IsLawful cluster
       on (Some moved) found rest =
           subst Counted (sym (first_next position course moved found))
           (counts_next cluster program stands (before course position) moved (stepped_then cluster turns lawful position)
-              (step_then cluster turns lawful position moved found)
+          (step_then cluster turns lawful position moved found)
           (λ message old is says. asks_told cluster turns lawful moved.node position message old
-              (record { moved = moved; is = found; by = refl; event_is = is }) says)
+          (record { moved = moved; is = found; by = refl; event_is = is }) says)
           (subst Counted (first_at position course moved found) rest))
 
   module _ (parted : IsParted program) where
@@ -105,7 +105,7 @@ module _ (cluster : Cluster) (turns : List WholeTurn) (lawful : IsLawful cluster
                 (subst (λ it. BlockOf cluster it frame other) (sym (first_at position course moved found)) older)) here
             by (inr now) =
                 standing_none (moved ∷ before course position)
-                    (subst Counted (first_next position course moved found) (counted (suc position))) frame child now here
+                (subst Counted (first_next position course moved found) (counted (suc position))) frame child now here
 
     -- A frame that has returned has no child of its block left.
     pub no_children : (now : ℕ) (frame child : FrameId) → returns_of cluster course now frame ≡ true → BlockChild (ev cluster turns lawful) now frame child → ⊥

@@ -75,7 +75,7 @@ module _ (cluster : Cluster) (course : Course) (stepped : Stepped cluster course
       let all = least frame in
       let part = sum_one cluster.config.nodes (at_node cluster course (named frame)) number less in
       let takes : Takes course message.receiver (Some place) message =
-          record { place = place; place_is = refl; receiver = refl; was_posted = was; not_taken = not } in
+      record { place = place; place_is = refl; receiver = refl; was_posted = was; not_taken = not } in
       let letters = letter_taken cluster (in_message (named frame)) course message.receiver (Some place) message stepped takes in
       let self = brings_one frame message.body is in
       omega (arith, all, part, letters, self, some)

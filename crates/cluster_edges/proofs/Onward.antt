@@ -161,7 +161,7 @@ module _ (node : Node) (past : Past) (P Q : Saying) where
   item_each (item.TakeUp frame) keeps rest posts may all = taken_up_each (Did (item.TakeUp frame)) keeps frames.stack frames.ready frames.parked all
   item_each (item.OwnFetch page words) keeps rest posts may all =
       with_stack_each (Did (item.OwnFetch page words)) keeps (live frames.stack)
-          (each_same (Did (item.OwnFetch page words)) keeps (live frames.stack) (live_each P frames.stack all.stack)) all
+      (each_same (Did (item.OwnFetch page words)) keeps (live frames.stack) (live_each P frames.stack all.stack)) all
   item_each (item.OwnReconcile part) keeps rest posts may all = all_same (Did (item.OwnReconcile part)) keeps frames all
   item_each (item.Served frame index word old addend) keeps rest posts (inl serves) all =
       rw serves.oldest (all_same (Did (item.Served frame index word old addend)) keeps frames all)
@@ -170,9 +170,10 @@ module _ (node : Node) (past : Past) (P Q : Saying) where
       let first = first_live frame may.life may.acts all.stack in
       rw both.0.none_owed
       (with_stack_each (Did (item.Served frame index word old addend)) keeps (added old (live frames.stack))
-      (subst (λ stack. Each Q (added old stack)) (sym first.1)
-      (keeps.acts may.life (Value old) (may.acts, may.wanted, refl) first.2.0,
-          each_same (Did (item.Served frame index word old addend)) keeps first.0 first.2.1)) all)
+      (subst (λ stack. Each Q (added old stack)) (sym first.1) (
+        keeps.acts may.life (Value old) (may.acts, may.wanted, refl) first.2.0,
+        each_same (Did (item.Served frame index word old addend)) keeps first.0 first.2.1,
+      )) all)
 
   -- ---- posts
 
@@ -244,7 +245,7 @@ module _ (node : Node) (past : Past) (P Q : Saying) where
   took_each message keeps (body.Grant closure) says now brought all =
       let more : Frames = record frames { ready = frames.ready ++ carried node closure ∷ [] } in
       all_same (Took message) keeps more
-          (record { stack = all.stack; ready = each_append P frames.ready (carried node closure ∷ []) all.ready (brought, tt); parked = all.parked })
+      (record { stack = all.stack; ready = each_append P frames.ready (carried node closure ∷ []) all.ready (brought, tt); parked = all.parked })
   took_each message keeps body.Refuse says now brought all = all_same (Took message) keeps frames all
   took_each message keeps (body.Done join index value) says now brought all =
       all_same (Took message) keeps (with_joined node now frames) (with_joined_each P node now frames all)
@@ -252,8 +253,11 @@ module _ (node : Node) (past : Past) (P Q : Saying) where
       let more : Frames = record frames { parked = frames.parked ++ record { join = join; closure = closure } ∷ [] } in
       all_same (Took message) keeps (with_joined node now more)
       (with_joined_each P node now more
-      (record { stack = all.stack; ready =
-          all.ready; parked = parked_append P node.code frames.parked (record { join = join; closure = closure } ∷ []) all.parked (brought, tt) }))
+      (record {
+        stack = all.stack;
+        ready = all.ready;
+        parked = parked_append P node.code frames.parked (record { join = join; closure = closure } ∷ []) all.parked (brought, tt);
+      }))
   took_each message keeps (body.Add frame index word addend) says now brought all = all_same (Took message) keeps frames all
   took_each message keeps (body.Added old) says now brought all =
       with_stack_each (Took message) keeps (added old frames.stack) (added_each message keeps old says frames.stack refl all.stack) all
@@ -274,7 +278,7 @@ module _ (node : Node) (past : Past) (P Q : Saying) where
   event_each (Sent message) may keeps brings all =
       with_stack_each (Sent message) keeps (stack_sent message.body frames.stack)
       (each_same (Sent message) keeps (stack_sent message.body frames.stack)
-          (sent_each message.body message.receiver (may_post node past message may) all.stack)) all
+      (sent_each message.body message.receiver (may_post node past message may) all.stack)) all
   event_each (Took message) may keeps brings all = took_each message keeps message.body refl (Took message ∷ past) brings all
   event_each (Ended end) may keeps brings all = all_same (Ended end) keeps frames all
 
@@ -324,7 +328,7 @@ module _ (cluster : Cluster) (course : Course) (moved : Moved) (stepped : Steppe
       here : InFrames cluster.code Q (frames_of mover (own moved.node (moved ∷ course)))
       here = subst (λ past. InFrames cluster.code Q (frames_of mover past)) (sym (own_first moved course))
           (event_each mover before_it P Q moved.event step.allowed keeps (brought moved.message moved.event step.carries all.letters)
-              (all.at moved.node step.within))
+          (all.at moved.node step.within))
 
       on : (number : ℕ) → number < cluster.config.nodes → (number ≡ moved.node) ⊎ (number ≢ moved.node)
           → InFrames cluster.code Q (frames_of (node_at cluster number) (own number (moved ∷ course)))
@@ -332,4 +336,4 @@ module _ (cluster : Cluster) (course : Course) (moved : Moved) (stepped : Steppe
       on number less (inr other) =
           subst (λ past. InFrames cluster.code Q (frames_of (node_at cluster number) past)) (sym (own_other number moved course other))
           (frames_both P P Q (λ id goes first second. keeps.same id goes first) cluster.code (frames_of (node_at cluster number) (own number course))
-              (all.at number less) (all.at number less))
+          (all.at number less) (all.at number less))

@@ -93,8 +93,11 @@ module _ (cluster : Cluster) (node : ℕ) (moved : Moved) (course : Course) wher
       → OnReady cluster node (moved ∷ course) id join
   ready_kept id join before none = record {
     news =
-        elim before.news [ inl both ↦ inl (both.0, last_kept id moved course none ∙ both.1) | inr both ↦
-            inr (both.0, last_kept id moved course none ∙ both.1) ];
+        elim before.news [
+          | inl both ↦ inl (both.0, last_kept id moved course none ∙ both.1)
+          | inr both ↦
+              inr (both.0, last_kept id moved course none ∙ both.1)
+        ];
     named = named_more cluster moved course id before.named;
   }
 
@@ -111,11 +114,11 @@ module _ (cluster : Cluster) (node : ℕ) (moved : Moved) (course : Course) wher
   placed_kept frames placed none = record {
     stack =
         each_change (OnStack cluster node course) (λ id join. news_on id moved ≡ None)
-            (OnStack cluster node (moved ∷ course)) stack_kept frames.stack placed.stack none.stack;
+        (OnStack cluster node (moved ∷ course)) stack_kept frames.stack placed.stack none.stack;
     ready =
         each_change (OnReady cluster node course) (λ id join. news_on id moved ≡ None)
-            (OnReady cluster node (moved ∷ course)) ready_kept frames.ready placed.ready none.ready;
+        (OnReady cluster node (moved ∷ course)) ready_kept frames.ready placed.ready none.ready;
     parked =
         parked_change (AtJoin cluster node course) (λ id. news_on id moved ≡ None)
-            (AtJoin cluster node (moved ∷ course)) join_kept frames.parked placed.parked none.parked;
+        (AtJoin cluster node (moved ∷ course)) join_kept frames.parked placed.parked none.parked;
   }

@@ -122,7 +122,7 @@ pub standing_everywhere : (cluster : Cluster) (course : Course) → Stepped clus
     → Everywhere cluster course (λ id goes. stands_returned cluster id course ≡ true → IsReturned goes)
 standing_everywhere cluster course stepped =
     everywhere_for (λ id goes. stands_returned cluster id course ≡ true → IsReturned goes) cluster course
-        (λ frame. on frame (stands_returned cluster frame course) refl)
+    (λ frame. on frame (stands_returned cluster frame course) refl)
   where
     on : (frame : FrameId) (b : Bool) → stands_returned cluster frame course ≡ b
         → Everywhere cluster course (If frame (λ id goes. stands_returned cluster id course ≡ true → IsReturned goes))
@@ -130,12 +130,12 @@ standing_everywhere cluster course stepped =
         let it = stands_so cluster frame course stands in
         let alone = lone frame IsReturned it.front it.back it.life it.name it.is cluster course stepped it.number it.within it.parts in
         everywhere_both (λ id goes. id ≡ frame → IsReturned goes) (λ id goes. Unit {0})
-            (If frame (λ id goes. stands_returned cluster id course ≡ true → IsReturned goes))
+        (If frame (λ id goes. stands_returned cluster id course ≡ true → IsReturned goes))
         (λ id goes first second same here. first same) cluster course alone (everywhere_always (λ id goes. Unit {0}) (λ id goes. tt) cluster course)
     on frame false other =
         everywhere_always (If frame (λ id goes. stands_returned cluster id course ≡ true → IsReturned goes))
         (λ id goes same stands. (let not : stands_returned cluster id course ≡ false =
-            ap (λ it. stands_returned cluster it course) same ∙ other in absurd (cc))) cluster course
+        ap (λ it. stands_returned cluster it course) same ∙ other in absurd (cc))) cluster course
 
 -- one event more
 pub grown : (cluster : Cluster) (course : Course) (moved : Moved) → Stepped cluster (moved ∷ course)
@@ -143,7 +143,7 @@ pub grown : (cluster : Cluster) (course : Course) (moved : Moved) → Stepped cl
     → Everywhere cluster (moved ∷ course) (StaysReturned cluster (moved ∷ course))
 grown cluster course moved stepped before =
     everywhere_both (StaysReturned cluster course) (λ id goes. stands_returned cluster id (moved ∷ course) ≡ true → IsReturned goes)
-        (StaysReturned cluster (moved ∷ course))
+    (StaysReturned cluster (moved ∷ course))
     (λ id goes first second has. by first second (either (has_returned cluster id course) (stands_returned cluster id (moved ∷ course)) has))
     cluster (moved ∷ course) before (standing_everywhere cluster (moved ∷ course) stepped)
   where

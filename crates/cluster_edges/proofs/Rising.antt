@@ -64,7 +64,7 @@ module _ (cluster : Cluster) (course : Course) (post : ℕ) (less : post < lengt
       (list_any (λ life. same_frame life.id frame) ((frames_of (node_at cluster receiver) (own receiver course)).ready)) is in
       let still : list_any (takes_up frame) (since_position post (moved ∷ course)) ≡ true =
       ap (list_any (takes_up frame)) (since_next post moved course less)
-          ∙ any_rest_on (takes_up frame moved) (list_any (takes_up frame) (since_position post course)) taken in
+      ∙ any_rest_on (takes_up frame moved) (list_any (takes_up frame) (since_position post course)) taken in
       ap (λ b. stage_on b (list_any (λ life. same_frame life.id frame) ((frames_of (node_at cluster receiver) (own receiver (moved ∷ course))).ready))) still
 
   -- it is up where it is taken up
@@ -72,7 +72,7 @@ module _ (cluster : Cluster) (course : Course) (post : ℕ) (less : post < lengt
   of_up receiver frame is =
       let still : list_any (takes_up frame) (since_position post (moved ∷ course)) ≡ true =
       ap (list_any (takes_up frame)) (since_next post moved course less)
-          ∙ any_first (takes_up frame) moved (since_position post course) (takes_itself frame moved is) in
+      ∙ any_first (takes_up frame) moved (since_position post course) (takes_itself frame moved is) in
       ap (λ b. stage_on b (list_any (λ life. same_frame life.id frame) ((frames_of (node_at cluster receiver) (own receiver (moved ∷ course))).ready))) still
 
   sent_stays : (receiver : ℕ) (frame : Option FrameId) → stage_sent cluster course post receiver frame ≡ Up
@@ -112,7 +112,7 @@ module _ (cluster : Cluster) (course : Course) (stepped : Stepped cluster course
       let count = first_count course now moved found in
       let less : post < length (first now course) = grind (arith, nat_tests) in
       rw not (ap (λ it. stage_by cluster it post (at course post)) (first_next course now moved found)
-          ∙ by_stays cluster (first now course) post less moved (at course post) up)
+      ∙ by_stays cluster (first now course) post less moved (at course post) up)
 
   -- what is up stays so
   pub stays_up : (now post : ℕ) → stage now post ≡ Up → stage (suc now) post ≡ Up
@@ -163,7 +163,7 @@ module _ (cluster : Cluster) (course : Course) (stepped : Stepped cluster course
       let here : list_any (λ life. same_frame life.id frame) ((frames_of (node_at cluster node) (own node (first now course))).ready) ≡ true =
       ap (list_any (λ life. same_frame life.id frame)) takes.oldest
       ∙ any_first (λ life. same_frame life.id frame) takes.life takes.younger
-          (subst (λ it. same_frame takes.life.id it ≡ true) (sym takes.named) (same_self takes.life.id)) in
+      (subst (λ it. same_frame takes.life.id it ≡ true) (sym takes.named) (same_self takes.life.id)) in
       rw (untaken_since, here) refl
 
   rises_by : (now node : ℕ) (frame : FrameId) (news : News) (takes : Takes now node frame) (it : Said frame news (first now course))
@@ -192,13 +192,13 @@ module _ (cluster : Cluster) (course : Course) (stepped : Stepped cluster course
       let it = said frame (ByGrant node) (first now course) is in
       let sent = says frame it.moved (ByGrant node) it.says in
       rises_by now node frame (ByGrant node) takes it
-          (inl (grant_event cluster course it.post it.moved frame node (at_whole course now it.post it.moved it.is) sent))
+      (inl (grant_event cluster course it.post it.moved frame node (at_whole course now it.post it.moved it.is) sent))
       (λ later. grant_stage cluster later it.post it.moved frame node sent)
   rises_on now node frame takes (inr is) =
       let it = said frame (ByPark node) (first now course) is in
       let sent = says frame it.moved (ByPark node) it.says in
       rises_by now node frame (ByPark node) takes it
-          (inr (park_event cluster course it.post it.moved frame node (at_whole course now it.post it.moved it.is) sent))
+      (inr (park_event cluster course it.post it.moved frame node (at_whole course now it.post it.moved it.is) sent))
       (λ later. park_stage cluster later it.post it.moved frame node sent)
 
   -- what is taken up was sent to the node, and was ready
@@ -207,7 +207,7 @@ module _ (cluster : Cluster) (course : Course) (stepped : Stepped cluster course
       let takes = takes_at now node frame is in
       let before = (brought cluster (first now course) (stepped_first cluster course now stepped)).frames node in
       let all : EachLife (OnReady cluster node (first now course)) (takes.life ∷ takes.younger) =
-          subst (EachLife (OnReady cluster node (first now course))) takes.oldest before.ready in
+      subst (EachLife (OnReady cluster node (first now course))) takes.oldest before.ready in
       rises_on now node frame takes (sent_news node frame takes.life.join (first now course)
       (subst (λ it. OnReady cluster node (first now course) it takes.life.join) (sym takes.named) all.0))
 
@@ -247,9 +247,9 @@ module _ (cluster : Cluster) (course : Course) (stepped : Stepped cluster course
       (subst (λ event. IsAllowed (node_at cluster moved.node) (own moved.node earlier) event) is step.allowed) in
       let once = one_place cluster earlier whole in
       let some = park_count cluster earlier moved.node moved.message (before.frames moved.node)
-          (once.within moved.node step.within) message.receiver join closure may in
+      (once.within moved.node step.within) message.receiver join closure may in
       let up = (counted_some (OnStack cluster moved.node earlier) closure.id ((frames_of (node_at cluster moved.node) (own moved.node earlier)).stack)
-          (before.frames moved.node).stack some).1.news in
+      (before.frames moved.node).stack some).1.news in
       let still = ready_kept earlier moved message is node (one_or_two moved.node node) in
       let listed = any_life (OnReady cluster node earlier) closure.id ((frames_of (node_at cluster node) (own node earlier)).ready) (before.frames node).ready
       (sym (ap (list_any (λ life. same_frame life.id closure.id)) still) ∙ any) in
@@ -269,9 +269,9 @@ module _ (cluster : Cluster) (course : Course) (stepped : Stepped cluster course
       let sent : Says frame found.moved (ByPark node) = SaysPark it.1 park.0 park.1 found.event_is park.2 park.3 (ap ByPark (sym it.3)) in
       let stage_is : stage_of cluster (found.moved ∷ first post course) post node frame ≡ Ready =
       sym (stage_later cluster course (suc post) post found.moved (omega arith) found.is
-          ∙ park_stage cluster (first (suc post) course) post found.moved frame node sent
+      ∙ park_stage cluster (first (suc post) course) post found.moved frame node sent
       ∙ ap (λ later. stage_of cluster later post node frame) (first_next course post found.moved found.is)) ∙ ready in
       let listed = stage_ready _ _ stage_is in
       not_listed post node sender park.1 park.0 found.moved it.1 found.is found.by found.event_is park.2
       (subst (λ it. list_any (λ life. same_frame life.id it) ((frames_of (node_at cluster node) (own node (found.moved ∷ first post course))).ready) ≡ true)
-          (sym park.3) listed)
+      (sym park.3) listed)

@@ -198,7 +198,7 @@ module _ (cluster : Cluster) (course : Course) where
   grant_event post moved frame node found (SaysGrant message closure is body_is id news) =
       let to : message.receiver ≡ node = cc in
       sent_event post moved message (body.Grant closure) found is body_is ∙ ap (λ it. Post moved.node it (Grant closure.id)) to
-          ∙ ap (λ it. Post moved.node node (Grant it)) id
+      ∙ ap (λ it. Post moved.node node (Grant it)) id
   grant_event post moved frame node found (SaysPark message join closure is body_is id news) = absurd (cc)
   grant_event post moved frame node found (SaysUp is news) = absurd (cc)
 
@@ -208,7 +208,7 @@ module _ (cluster : Cluster) (course : Course) where
   park_event post moved frame node found (SaysPark message join closure is body_is id news) =
       let to : message.receiver ≡ node = cc in
       sent_event post moved message (body.Park join closure) found is body_is ∙ ap (λ it. Post moved.node it (Park closure.id)) to
-          ∙ ap (λ it. Post moved.node node (Park it)) id
+      ∙ ap (λ it. Post moved.node node (Park it)) id
   park_event post moved frame node found (SaysUp is news) = absurd (cc)
 
   up_at : (post : ℕ) (moved : Moved) (frame : FrameId) → at course post ≡ Some moved → moved.event ≡ Did (item.TakeUp frame)

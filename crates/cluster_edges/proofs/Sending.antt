@@ -72,7 +72,7 @@ module _ (cluster : Cluster) (course : Course) (number : ℕ) (here : Option Pos
       let least = once life.id in
       let total = counts life.id frames in
       let here_count : count life.id (marks frames.ready) ≡ one (same_frame life.id life.id) + count life.id (marks younger) =
-          ap (λ it. count life.id (marks it)) is in
+      ap (λ it. count life.id (marks it)) is in
       let self = one_same life.id life.id refl in
       let no_more : count life.id (marks younger) ≡ 0 = omega (arith, least, total, here_count, self) in
       let none_parked : count life.id (parked_marks frames.parked) ≡ 0 = omega (arith, least, total, here_count, self) in
@@ -89,13 +89,13 @@ module _ (cluster : Cluster) (course : Course) (number : ℕ) (here : Option Pos
   up_placed frame rest may =
       subst (λ it. Placed cluster number (rising it ∷ course) (taken_up frames.stack frames.ready frames.parked)) (sym may.named)
       (subst (λ it. Placed cluster number (rising may.life.id ∷ course) (taken_up frames.stack it frames.parked)) (sym may.oldest)
-          (up_first may.life may.younger may.oldest))
+      (up_first may.life may.younger may.oldest))
 
   pub up_counted : (frame : FrameId) (rest : List Item) → MayTakeUp node past frame rest → 1 ≤ count frame (marks_of frames)
   up_counted frame rest may =
       let total = counts frame frames in
       let here_count : count frame (marks frames.ready) ≡ one (same_frame may.life.id frame) + count frame (marks may.younger) =
-          ap (λ it. count frame (marks it)) may.oldest in
+      ap (λ it. count frame (marks it)) may.oldest in
       let self = one_same may.life.id frame (sym may.named) in omega (arith, total, here_count, self)
 
   -- ---- Grants
@@ -108,7 +108,7 @@ module _ (cluster : Cluster) (course : Course) (number : ℕ) (here : Option Pos
       let total = counts closure.id frames in
       let bottom = count_bottom closure.id may.above may.child may.parent in
       let here_count : count closure.id (marks frames.stack) ≡ count closure.id (marks (may.above ++ (may.child ∷ (may.parent ∷ [])))) =
-          ap (λ it. count closure.id (marks it)) may.stack in
+      ap (λ it. count closure.id (marks it)) may.stack in
       let self = one_same may.parent.id closure.id (sym may.state.id) in omega (arith, total, bottom, here_count, self)
 
   pub grant_placed : (message : Msg) (receiver : ℕ) (closure : Closure) → told (sending message) ≡ Some (record { frame = closure.id; news = ByGrant receiver })
@@ -119,18 +119,18 @@ module _ (cluster : Cluster) (course : Course) (number : ℕ) (here : Option Pos
       let child : Life = record may.child { link = link_to closure.join } in
       let left = may.above ++ (child ∷ []) in
       let left_is : without_bottom closure.join frames.stack ≡ left =
-          ap (without_bottom closure.join) may.stack ∙ bottom_gone closure.join may.above may.child may.parent in
+      ap (without_bottom closure.join) may.stack ∙ bottom_gone closure.join may.above may.child may.parent in
       let all = each_parts (OnStack cluster number course) may.above (may.child ∷ (may.parent ∷ []))
-          (subst (EachLife (OnStack cluster number course)) may.stack placed.stack) in
+      (subst (EachLife (OnStack cluster number course)) may.stack placed.stack) in
       let still : EachLife (OnStack cluster number course) left = each_append (OnStack cluster number course) may.above (child ∷ []) all.0 (all.1.0, tt) in
       let least = once closure.id in
       let total = counts closure.id frames in
       let bottom = count_bottom closure.id may.above may.child may.parent in
       let here_count : count closure.id (marks frames.stack) ≡ count closure.id (marks (may.above ++ (may.child ∷ (may.parent ∷ [])))) =
-          ap (λ it. count closure.id (marks it)) may.stack in
+      ap (λ it. count closure.id (marks it)) may.stack in
       let self = one_same may.parent.id closure.id (sym may.state.id) in
       let same : count closure.id (marks left) ≡ count closure.id (marks (may.above ++ (may.child ∷ []))) =
-          left_count closure.id may.above child may.child refl in
+      left_count closure.id may.above child may.child refl in
       let none_left : count closure.id (marks left) ≡ 0 = omega (arith, least, total, bottom, here_count, self, same) in
       let none_ready : count closure.id (marks frames.ready) ≡ 0 = omega (arith, least, total, bottom, here_count, self) in
       let none_parked : count closure.id (parked_marks frames.parked) ≡ 0 = omega (arith, least, total, bottom, here_count, self) in
@@ -149,7 +149,7 @@ module _ (cluster : Cluster) (course : Course) (number : ℕ) (here : Option Pos
   pub park_count : (receiver : ℕ) (join : JoinId) (closure : Closure) → MayPark node past receiver join closure → 1 ≤ count closure.id (marks frames.stack)
   park_count receiver join closure may =
       let alone : count closure.id (marks (live frames.stack)) ≡ one (same_frame may.life.id closure.id) + 0 =
-          ap (λ it. count closure.id (marks it)) may.at_join.alone in
+      ap (λ it. count closure.id (marks it)) may.at_join.alone in
       let less = count_live closure.id frames.stack in
       let self = one_same may.life.id closure.id (sym may.state.id) in omega (arith, alone, less, self)
 

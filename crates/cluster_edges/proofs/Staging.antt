@@ -63,7 +63,7 @@ since_none frame post [] none = refl
 since_none frame post (moved ∷ course) none =
     since_none_on frame post moved course (leb (length course) post) refl (λ less. none (length course) moved less (at_last moved course))
     (since_none frame post course
-        (λ later other behind found. none later other behind (at_behind (moved ∷ []) course later (within course later other found) ∙ found)))
+    (λ later other behind found. none later other behind (at_behind (moved ∷ []) course later (within course later other found) ∙ found)))
 
 -- an event that says nothing of a frame does not take it up
 untaken_item : (frame : FrameId) (node : ℕ) (done : Item) → news_in frame (told_item node done) ≡ None → takes_up_item frame done ≡ false

@@ -218,13 +218,13 @@ module _ (cluster : Cluster) (course : Course) (stepped : Stepped cluster course
       ap (λ event. news_in frame (told_event found.moved.node event)) found.event_is ∙ ap (λ said. news_in frame (told_sent it.1.receiver said)) grant.1
       ∙ ap (λ b. cond b (Some (ByGrant it.1.receiver)) None) (subst (λ id. same_frame grant.0.id id ≡ true) grant.2 (same_self grant.0.id)) in
       granted_at frame (first now course) since.post found.moved (at_first course now since.post found.moved since.before found.is) (ap is_grant says)
-          (ap (syncs_event frame) found.event_is)
+      (ap (syncs_event frame) found.event_is)
       (λ later other behind there. on later other behind there (syncs frame other) refl)
     where
       on : (later : ℕ) (other : Moved) → since.post < later → at (first now course) later ≡ Some other → (b : Bool) → syncs frame other ≡ b → b ≡ false
       on later other behind there true syncing =
           absurd (since.none later behind (before_position course now later other there)
-              (sync_at later frame other (at_whole course now later other there) (event_syncs frame other.event syncing)))
+          (sync_at later frame other (at_whole course now later other there) (event_syncs frame other.event syncing)))
       on later other behind there false syncing = refl
 
   acts_so : (node : Node) (past : Past) (frame : FrameId) (index : ℕ) (done : LoggedAct) (rest : List Item) (posts : List Msg)
@@ -256,9 +256,11 @@ module _ (cluster : Cluster) (course : Course) (stepped : Stepped cluster course
           let step = step_at cluster course now happens.moved stepped happens.is in
           let does : IsAllowed (node_at cluster node) (own node (first now course)) (Did (item.Act frame acted.index acted.act)) =
           subst (λ event. IsAllowed (node_at cluster node) (own node (first now course)) event) happens.event_is
-          (subst (λ it. IsAllowed (node_at cluster it) (own it (first now course)) happens.moved.event) happens.by step.allowed) in
-          (acted.index, subst (λ it. DoesItem (node_at cluster node) (own node (first now course)) (item.Act frame acted.index it))
-              (sync_is acted.act acted.act_is) does)
+          (subst (λ it. IsAllowed (node_at cluster it) (own it (first now course)) happens.moved.event) happens.by step.allowed) in (
+            acted.index,
+            subst (λ it. DoesItem (node_at cluster node) (own node (first now course)) (item.Act frame acted.index it))
+                (sync_is acted.act acted.act_is) does,
+          )
       on (inr served) = let not = served.act_is in absurd (cc)
 
   -- At a Sync of a frame that was granted in its block, its last take-up was from its join.

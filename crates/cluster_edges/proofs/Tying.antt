@@ -49,8 +49,10 @@ some_or_not (Some other) frame = on (same_frame other frame) refl
   where
     on : (b : Bool) → same_frame other frame ≡ b → (Some other ≡ Some frame) ⊎ (Some other ≡ Some frame → ⊥)
     on true is = inl (ap Some (same_name other frame is))
-    on false is = inr (λ some. let same : other ≡ frame =
-        cc in let is_same : same_frame other frame ≡ true = ap (λ it. same_frame it frame) same ∙ same_self frame in absurd (cc))
+    on false is =
+        inr (λ some.
+        let same : other ≡ frame = cc in
+        let is_same : same_frame other frame ≡ true = ap (λ it. same_frame it frame) same ∙ same_self frame in absurd (cc))
 
 -- ---- one event
 
@@ -199,7 +201,7 @@ module _ (cluster : Cluster) (moved : Moved) (course : Course) (stepped : Steppe
     all_joined_keeps message is any keeps =
         let all : own moved.node (moved ∷ course) ≡ Took message ∷ past = own_first moved.node moved course refl ∙ ap (λ event. event ∷ past) is in
         subst (λ it. Keeps cluster (moved ∷ course) (with_joined node it any)) all
-            (joined_keeps cluster (moved ∷ course) stepped once says_more moved.node any keeps)
+        (joined_keeps cluster (moved ∷ course) stepped once says_more moved.node any keeps)
 
     waiting_append : (parked : List Parked) (one : Parked) → AllWaiting cluster (moved ∷ course) parked → Waiting cluster (moved ∷ course) one.join one.closure
         → AllWaiting cluster (moved ∷ course) (parked ++ one ∷ [])
@@ -217,7 +219,7 @@ module _ (cluster : Cluster) (moved : Moved) (course : Course) (stepped : Steppe
       stack = keeps.stack;
       ready =
           lying_append cluster (moved ∷ course) frames.ready (carried node closure ∷ []) keeps.ready
-              (standing_lies cluster (moved ∷ course) (tie_in closure) carrying, tt);
+          (standing_lies cluster (moved ∷ course) (tie_in closure) carrying, tt);
       parked = keeps.parked;
     }
     took_keeps message body.Refuse is carrying keeps = keeps
@@ -246,7 +248,7 @@ module _ (cluster : Cluster) (moved : Moved) (course : Course) (stepped : Steppe
     sent_keeps message body.Ask is says lonely = still_keeps (ap leaves is ∙ ap frame_in says)
     sent_keeps message (body.Grant closure) is says lonely =
         let stacked = grant_stacked cluster moved course stepped.1 tied message closure is says
-            (granted cluster moved course stepped.1 tied message closure is says) lonely.stack in
+        (granted cluster moved course stepped.1 tied message closure is says) lonely.stack in
         let keeps = tied.nodes moved.node stepped.1.within in
         keeps_left (without_bottom closure.join frames.stack) lonely stacked keeps
       where
@@ -254,7 +256,7 @@ module _ (cluster : Cluster) (moved : Moved) (course : Course) (stepped : Steppe
             → Keeps cluster course frames → Keeps cluster (moved ∷ course) (with_stack stack frames)
         keeps_left stack lonely stacked keeps =
             let others = keeps_more (with_stack [] frames) (record { stack = tt; ready = lonely.ready; parked = lonely.parked })
-                (record { stack = tt; ready = keeps.ready; parked = keeps.parked }) in
+            (record { stack = tt; ready = keeps.ready; parked = keeps.parked }) in
             record { stack = stacked; ready = others.ready; parked = others.parked }
     sent_keeps message body.Refuse is says lonely = still_keeps (ap leaves is ∙ ap frame_in says)
     sent_keeps message (body.Done join index value) is says lonely = restacked [] (still_keeps (ap leaves is ∙ ap frame_in says)) tt
@@ -290,7 +292,7 @@ module _ (cluster : Cluster) (moved : Moved) (course : Course) (stepped : Steppe
       own_keeps : Keeps cluster (moved ∷ course) (frames_of node (own moved.node (moved ∷ course)))
       own_keeps =
           subst (Keeps cluster (moved ∷ course)) (sym frames_now)
-              (event_keeps moved.event refl (subst (LonelyAt moved) frames_now (lonely.nodes moved.node stepped.1.within)))
+          (event_keeps moved.event refl (subst (LonelyAt moved) frames_now (lonely.nodes moved.node stepped.1.within)))
 
       other_keeps : (number : ℕ) → number < cluster.config.nodes → eqb moved.node number ≡ false
           → Keeps cluster (moved ∷ course) (frames_of (node_at cluster number) (own number (moved ∷ course)))
