@@ -217,7 +217,7 @@ module _ (two : Two) where
           let done = first_back in
           let twin = meet_spawn two top.frame dag.frame done.at dag.act other child done.meet is in
           let end' =
-              synced_ended two.starts two.main two.run two.run_obeys top.frame twin.child done.at twin.node sync.at sync.node twin.is sync.after sync.is in
+          synced_ended two.starts two.main two.run two.run_obeys top.frame twin.child done.at twin.node sync.at sync.node twin.is sync.after sync.is in
           let below = inside act child next under twin.child end'.at end'.value (omega (arith, end'.before, sync.before, top.before)) twin.same end'.returns
           (inr (record { at = done.at; node = twin.node; parent = top.frame; before = end'.after; is = twin.is })) in
           record {

@@ -40,7 +40,7 @@ module _ (setting : Setting) where
   step : (now : ℕ) → ((before : ℕ) → before ≤ now → Follow before) → Follow (suc now)
   step now follow =
       following.step setting.two setting.finish setting.all now (follow now (omega arith))
-          (λ place inside match node other word here there obtains obtains_there.
+      (λ place inside match node other word here there obtains obtains_there.
       reading.agrees setting.two setting.memory setting.finish now setting.all follow setting.free node other word place here there
       obtains obtains_there inside match setting.by_dag (setting.serial_reads other word place there obtains_there))
 
