@@ -54,7 +54,7 @@ module _ (events : Events) (memory : SharedMemory) (caching : Caching events mem
             frame = frame;
             is =
                 is ∙ ap (λ one. log.Acts node frame (log.Write one value')) (sym (word_is word other same))
-                    ∙ ap (λ one. log.Acts node frame (log.Write word one)) value_is;
+                ∙ ap (λ one. log.Acts node frame (log.Write word one)) value_is;
           })
       on false same left = absurd cc
   leaves_on node at frame (log.Add other old addend) value is left = on (eqb word other) refl left
@@ -78,7 +78,7 @@ module _ (events : Events) (memory : SharedMemory) (caching : Caching events mem
   left_on node at frame done value is other (OfAdd frame' old addend two sum) =
       let done_is : done ≡ log.Add word old addend = cc in
       ap (λ one. left_in word (shown frames one)) done_is ∙ ap (λ b. cond b (if fits (old +ℤ addend) then Some (old +ℤ addend) else None) None) (word_test word)
-          ∙ sym (sums old addend) ∙ sum
+      ∙ sym (sums old addend) ∙ sum
 
   pub leaves_of : (entry : Access) (value : ℤ) → left_in word (shown_by entry) ≡ Some value → Leaves events memory entry.node word entry.at value
   leaves_of entry value left = by (act_of events now frames word entry) left
@@ -144,7 +144,7 @@ module _ (events : Events) (memory : SharedMemory) (caching : Caching events mem
   acts_are [] = refl
   acts_are (first ∷ list) =
       ap (λ act. cons_option act (filter_map (act_at history) (places_of events now frames word history rows list)))
-          (act_is events now frames word history rows first)
+      (act_is events now frames word history rows first)
       ∙ ap (λ list. shown_by first ∷ list) (acts_are list)
 
   pub split_at : (list : List Access) (at : ℕ) → Has at list
@@ -171,7 +171,7 @@ module _ (events : Events) (memory : SharedMemory) (caching : Caching events mem
   in_front [] entry back sorted one has = absurd has
   in_front (first ∷ front) entry back sorted one (inl same) =
       earlier_as events now frames word memory caching first entry one entry same refl
-          (sorted.0 entry (has_back events now frames word front (entry ∷ back) entry.at (inl refl)))
+      (sorted.0 entry (has_back events now frames word front (entry ∷ back) entry.at (inl refl)))
   in_front (first ∷ front) entry back sorted one (inr has) = in_front front entry back (sorted.1) one has
 
   -- what is earlier stands in front

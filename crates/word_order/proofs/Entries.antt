@@ -106,8 +106,12 @@ module _ (events : Events) (now : ℕ) (frames : List FrameId) (word : ℕ) wher
         on None found is = absurd cc
         on (Some act) found is =
             let it = comes events now frames history rows place act found in
-            let entry : Entry events now word = record { node =
-                it.node; at = it.at; inside = it.inside; is = access_of it.node it.at it.frame it.done it.is (ap (accesses word) it.act_is ∙ is) } in
+            let entry : Entry events now word = record {
+              node = it.node;
+              at = it.at;
+              inside = it.inside;
+              is = access_of it.node it.at it.frame it.done it.is (ap (accesses word) it.act_is ∙ is);
+            } in
             (entry, place_back events now frames history rows place act it ∙ same it entry (act_of entry) refl)
           where
             same : (it : Comes events now frames history rows place act) (entry : Entry events now word) (one : Accesses entry.node entry.at) → it.at ≡ entry.at
@@ -116,7 +120,7 @@ module _ (events : Events) (now : ℕ) (frames : List FrameId) (word : ℕ) wher
                 let is = sym (it.is) ∙ ap events at ∙ one.is in
                 let frame : it.frame ≡ one.frame = cc in
                 ap (λ one. place_for events now frames history rows one it.at) frame
-                    ∙ ap (λ position. place_for events now frames history rows one.frame position) at
+                ∙ ap (λ position. place_for events now frames history rows one.frame position) at
 
   -- ---- the order of the accesses
 

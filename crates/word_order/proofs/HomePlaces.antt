@@ -79,7 +79,7 @@ module _ (cluster : Cluster) (frames : List FrameId) (frame : FrameId) where
       → acts_before frames (events_of cluster (moved ∷ course)) frame now ≡ acts_before frames (events_of cluster course) frame now
   older_acts moved course position now within =
       same_before cluster frames frame (events_of cluster (moved ∷ course)) (events_of cluster course) now
-          (λ position less. older moved course position (omega (arith, less, within)))
+      (λ position less. older moved course position (omega (arith, less, within)))
 
   pub place_is : (course : Course) (position : ℕ) → position < length course
       → place_in frames (events_of cluster course) frame position ≡ acts_of frame (before course position)
@@ -150,5 +150,5 @@ module _ (cluster : Cluster) (course : Course) (frames : List FrameId) (word : �
       let here : entry.at ≡ one.position = cc in
       let rest : map (λ entry. entry.at) list ≡ map (λ one. one.position) order = cc in
       ap (λ place. place ∷ places_of (events_of cluster course) (length course) frames word history rows list)
-          (entry_place entry ∙ ap (def.place_at frames course) here)
+      (entry_place entry ∙ ap (def.place_at frames course) here)
       ∙ ap (λ places. def.place_at frames course one.position ∷ places) (same_places list order rest)

@@ -50,15 +50,15 @@ module _ (cluster : Cluster) (turns : List WholeTurn) (lawful : IsLawful cluster
   same_orders =
       same_map
       (order_of (events_of cluster (course_of turns)) (memory_of cluster) (keeps_the_page_rules cluster turns lawful) (λ old addend. refl)
-          (length (course_of turns)) frames history
+      (length (course_of turns)) frames history
       (are_rows cluster turns main frames history is_history made) consistent)
       (λ word. places_by frames (course_of turns) (homes word))
       (λ word. same_places cluster (course_of turns) frames word history (are_rows cluster turns main frames history is_history made) ((home_of word).home.list)
-          (homes word) ((home_of word).same))
+      (homes word) ((home_of word).same))
       (range_with_len 0 (words_in cluster.code.shared))
 
   pub home_orders_are_consistent : IsLocationConsistent (start_words_of cluster.code) history (orders_by cluster turns frames homes)
   home_orders_are_consistent =
       subst (IsLocationConsistent (start_words_of cluster.code) history) same_orders
       (history_is_consistent cluster turns lawful main frames history is_history made consistent (words_in cluster.code.shared)
-          (each_is_shared cluster turns lawful in_order))
+      (each_is_shared cluster turns lawful in_order))

@@ -65,7 +65,7 @@ module _ (cluster : Cluster) (turns : List WholeTurn) (lawful : IsLawful cluster
       → one.moment ≡ Some moment
   moment_of one it moment is =
       (it.moments moment).0 (moment_there cluster turns lawful (owner one it) one.node word one.position it.event it.is
-          (access_of cluster turns lawful word one it).is moment is)
+      (access_of cluster turns lawful word one it).is moment is)
 
   none_of : (one : Listed) (it : Known one) → HasNone events (memory_of cluster) now (owner one it) word one.position → one.moment ≡ None
   none_of one it none = on one.moment refl
@@ -76,7 +76,7 @@ module _ (cluster : Cluster) (turns : List WholeTurn) (lawful : IsLawful cluster
           let there = (it.moments moment).1 is in
           absurd (none moment (moment_within cluster turns lawful word one.node one.position moment there)
           (moment_at cluster turns lawful (owner one it) one.node word one.position it.event it.is
-              (access_of cluster turns lawful word one it).is moment there))
+          (access_of cluster turns lawful word one it).is moment there))
 
   by_moments : (first second : Listed) (one other : Option ℕ) → first.moment ≡ one → second.moment ≡ other → EarlierBy one other first second
       → IsEarlier first second
@@ -88,7 +88,7 @@ module _ (cluster : Cluster) (turns : List WholeTurn) (lawful : IsLawful cluster
       → Before events (memory_of cluster) now word (owner first one) first.position (owner second other) second.position → IsEarlier first second
   before_earlier first second one other (inl (inl both)) =
       by_moments first second (Some both.first) (Some both.second) (moment_of first one both.first both.first_is)
-          (moment_of second other both.second both.second_is) both.order
+      (moment_of second other both.second both.second_is) both.order
   before_earlier first second one other (inl (inr it)) =
       by_moments first second (Some it.first) None (moment_of first one it.first it.first_is) (none_of second other it.second_is) tt
   before_earlier first second one other (inr none) =
@@ -97,7 +97,7 @@ module _ (cluster : Cluster) (turns : List WholeTurn) (lawful : IsLawful cluster
       by_moments first second None None none_here none_there
       (subst (λ it. (it < second.node) ⊎ ((it ≡ second.node) × (first.position < second.position))) (own_of_none cluster turns lawful word first one none_here)
       (subst (λ it. (owner first one < it) ⊎ ((owner first one ≡ it) × (first.position < second.position)))
-          (own_of_none cluster turns lawful word second other none_there) none.order))
+      (own_of_none cluster turns lawful word second other none_there) none.order))
 
   -- ---- the list
 

@@ -51,7 +51,7 @@ done_posts : (node : ℕ) (place : PostAt) (messages : List Msg) (course : Cours
 done_posts node place [] course = refl
 done_posts node place (message ∷ messages) course =
     done_posts node (record place { index = place.index + 1 }) messages (record { node = node; event = Sent message; message = Some place } ∷ course)
-        ∙ nothing_more (done_in course)
+    ∙ nothing_more (done_in course)
 
 done_taking : (node : ℕ) (place : Option PostAt) (message : Option Msg) (course : Course) → done_in (with_taking node place message course) ≡ done_in course
 done_taking node place None course = refl
@@ -149,7 +149,7 @@ module _ (cluster : Cluster) (frames : List FrameId) (frame : FrameId) where
       ap (λ list. list ++ act_by frames frame (events_of cluster (moved ∷ course) (length course)))
       (same_before (events_of cluster (moved ∷ course)) (events_of cluster course) (length course) older ∙ acts_are_done course)
       ∙ ap (λ list. filter_map (act_in frames frame) (done_in course) ++ list)
-          (ap (act_by frames frame) here ∙ same_by course moved.node moved.message moved.event)
+      (ap (act_by frames frame) here ∙ same_by course moved.node moved.message moved.event)
       ∙ sym (filter_map-append (act_in frames frame) (done_in course) (done_by moved.event))
     where
       here : events_of cluster (moved ∷ course) (length course) ≡ happens_to cluster course moved.node moved.message moved.event

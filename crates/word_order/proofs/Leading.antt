@@ -49,7 +49,7 @@ module _ (history : History) (numbered : IsNumbered history) where
     where
       on : (parent : Option Place) → (row_at history row).parent ≡ parent
           → ((up : Place) → up.row < row → Leads history up.row (up.act ∷ rest) place
-              → Leads history 0 (row_way history numbered up.row ++ up.act ∷ rest) place)
+          → Leads history 0 (row_way history numbered up.row ++ up.act ∷ rest) place)
           → Leads history 0 (row_way history numbered row ++ rest) place
       on None parent up =
           subst (λ front. Leads history 0 (front ++ rest) place) (sym (ap (way_on (way history)) parent))
@@ -57,14 +57,14 @@ module _ (history : History) (numbered : IsNumbered history) where
       on (Some above) parent up =
           let is = parent_of history numbered row above parent in
           subst (λ whole. Leads history 0 whole place) (way_more row above rest within parent)
-              (up above is.before (leads_on row above rest place is.spawns leads))
+          (up above is.before (leads_on row above rest place is.spawns leads))
 
   -- the way of a place leads to it
   pub way_leads : (place : Place) → IsPlace history place → Leads history 0 (way history place) place
   way_leads place is =
       let within = row_within history numbered place.row place refl is in
       subst (λ whole. Leads history 0 whole place) (sym (way_is history numbered place within))
-          (leads_within (suc place.row) place.row (place.act ∷ []) place (omega arith) within refl)
+      (leads_within (suc place.row) place.row (place.act ∷ []) place (omega arith) within refl)
 
 -- ---- a Sync between two acts
 

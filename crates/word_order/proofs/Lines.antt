@@ -40,7 +40,7 @@ module _ (events : Events) (now : ℕ) (frames : List FrameId) (history : Histor
       let below = first_there child next rest place at it leads in
       let same : below.1.frame ≡ spawn.0 = some_same (below.1.frame) (spawn.0) (sym (below.1.number) ∙ spawn.2) in
       Below that.node (spawn.0) (below.0) (spawn.1)
-          (subst (λ frame. Under events at frame (below.0)) same (under child next rest place at (below.0) it (below.1) leads))
+      (subst (λ frame. Under events at frame (below.0)) same (under child next rest place at (below.0) it (below.1) leads))
 
   -- in one row, the one earlier, and no child or a Sync between
   module _ (row act later_act : ℕ) (first second : ℕ) (it : Is (place_of row act) first) (that : Is (place_of row later_act) second) where
@@ -51,7 +51,7 @@ module _ (events : Events) (now : ℕ) (frames : List FrameId) (history : Histor
     synced sync =
         let found = stands events now frames history rows (place_of row sync.at) acts.Sync sync.is in
         let frame : found.1.frame ≡ it.frame =
-            one_frame events now frames history rows (place_of row sync.at) (place_of row act) (found.0) first refl (found.1) it in
+        one_frame events now frames history rows (place_of row sync.at) (place_of row act) (found.0) first refl (found.1) it in
         record {
           at = found.0;
           node = found.1.node;
@@ -76,7 +76,7 @@ module _ (events : Events) (now : ℕ) (frames : List FrameId) (history : Histor
             omega (arith, order)
         up_to at found (Same3 one) =
             let here = one_position_at events now frames history rows (place_of row later_act) at second
-                (subst (λ place. Is (place_of row place) at) one found) that in omega (arith, here)
+            (subst (λ place. Is (place_of row place) at) one found) that in omega (arith, here)
         up_to at found (More3 more) = let up_to = sync.up_to in absurd (omega (arith, more, up_to))
 
     across : (x y : ℕ) → act < later_act → Under events x it.frame first → Under events y that.frame second → (x ≡ first) ⊎ SyncAt events it.frame first second
@@ -99,13 +99,13 @@ module _ (events : Events) (now : ℕ) (frames : List FrameId) (history : Histor
       let first = first_there row i [] x at it one in
       let second = first_there row j ys y later that two in
       across row i j (first.0) (second.0) (first.1) (second.1) at later less (under row i [] x at (first.0) it (first.1) one)
-          (under row j ys y later (second.0) that (second.1) two)
+      (under row j ys y later (second.0) that (second.1) two)
       (inl (one_position_at events now frames history rows (place_of row i) at (first.0) (subst (λ place. Is place at) one it) (first.1)))
   parts row (i ∷ (k ∷ xs)) (j ∷ ys) x y at later it that one two (inl less) serial =
       let first = first_there row i (k ∷ xs) x at it one in
       let second = first_there row j ys y later that two in
       across row i j (first.0) (second.0) (first.1) (second.1) at later less (under row i (k ∷ xs) x at (first.0) it (first.1) one)
-          (under row j ys y later (second.0) that (second.1) two)
+      (under row j ys y later (second.0) that (second.1) two)
       (elim (sync_or_none (row_at history row).acts i j less) [
         | inl sync ↦ inr (synced row i j (first.0) (second.0) (first.1) (second.1) sync)
         | inr quiet ↦ absurd (serial (inl (less, (λ none. absurd cc), quiet)))

@@ -53,7 +53,7 @@ module _ (events : Events) (now : ℕ) (frames : List FrameId) (word : ℕ) wher
     place_in [] entry has = absurd has
     place_in (first ∷ list) entry (inl same) =
         subst (λ place. Contains (places_of (first ∷ list)) place) (one_place events now frames word history rows first entry same)
-            (is_first (its_place first) (places_of list))
+        (is_first (its_place first) (places_of list))
     place_in (first ∷ list) entry (inr has) = is_later (its_place first) (places_of list) (its_place entry) (place_in list entry has)
 
     pub only_accesses : (list : List (Entry events now word)) (place : Place) → Contains (places_of list) place → is_access history word place ≡ true
@@ -76,7 +76,7 @@ module _ (events : Events) (now : ℕ) (frames : List FrameId) (word : ℕ) wher
           let it = stands_earlier list sorted place place stands in
           let same = one_access events now frames word history rows (it.0) (it.1) (sym (it.2) ∙ it.3) in
           not_earlier events now frames word memory caching (it.1)
-              (earlier_as events now frames word memory caching (it.0) (it.1) (it.1) (it.1) same refl (it.4))
+          (earlier_as events now frames word memory caching (it.0) (it.1) (it.1) (it.1) same refl (it.4))
 
       -- what the home order has first stands first
       pub stands_as : (list : List (Entry events now word)) → Sorted events memory now word list
@@ -86,7 +86,7 @@ module _ (events : Events) (now : ℕ) (frames : List FrameId) (word : ℕ) wher
           elim (one_stands_first (places_of list) (its_place first) (its_place second) (place_in list first has) (place_in list second has')) [
             | inl same ↦ absurd (not_earlier events now frames word memory caching second
                 (earlier_as events now frames word memory caching first second second second
-                    (one_access events now frames word history rows first second same) refl earlier))
+                (one_access events now frames word history rows first second same) refl earlier))
             | inr (inl stands) ↦ stands
             | inr (inr stands) ↦ absurd (
                 let it = stands_earlier list sorted (its_place second) (its_place first) stands in
@@ -122,4 +122,4 @@ module _ (events : Events) (now : ℕ) (frames : List FrameId) (word : ℕ) wher
       let it = entry_for events now frames word history rows place is in
       let entry = it.0 in
       subst (λ one. Contains (places_of history rows list.list) one) (sym (it.1))
-          (place_in history rows list.list entry (list.all entry.node entry.at entry.inside entry.is))
+      (place_in history rows list.list entry (list.all entry.node entry.at entry.inside entry.is))

@@ -39,7 +39,7 @@ module _ (node : Node) (order : AreInOrder 0 node.code.shared) where
     where
       on : (value : Option ℤ) → ((deposits : List Deposit) → EachFine (live_from deposits below))
           → EachFine
-              (elim value [ None ↦ record life { kept = life.kept ++ deposits } ∷ below | Some value ↦ live_from ((life.spawned.target, value) ∷ []) below ])
+          (elim value [ None ↦ record life { kept = life.kept ++ deposits } ∷ below | Some value ↦ live_from ((life.spawned.target, value) ∷ []) below ])
       on None rest = each
       on (Some value) rest = rest ((life.spawned.target, value) ∷ [])
 

@@ -93,7 +93,7 @@ module _ (cluster : Cluster) (turns : List WholeTurn) (main : ℕ) (frames : Lis
         let born : Birth = record { child = frame; parent = parent; index = acted.index; procedure = spawn.0; arguments = spawn.1 } in
         let gives : birth_in one ≡ Some born = ap (λ it. birth_in (item.Act parent acted.index it)) (spawn.2) in
         contains_later main_id (map (λ (it : Birth). it.child) (births_of items)) frame
-            (mapped_by (λ (it : Birth). it.child) (births_of items) born (given_by birth_in items one born here gives))
+        (mapped_by (λ (it : Birth). it.child) (births_of items) born (given_by birth_in items one born here gives))
   ]
 
   -- The history has the rows of the events.

@@ -56,14 +56,14 @@ module _ (events : Events) (memory : SharedMemory) (caching : Caching events mem
           left : left_in word (shown_by one) ≡ Some value
           left =
               left_of events memory caching sums now frames history rows word one node value
-                  (subst (λ at. Leaves events memory node word at value) (sym same) leaves)
+              (subst (λ at. Leaves events memory node word at value) (sym same) leaves)
 
           none : (other : Access) → Has other.at back → (left : ℤ) → left_in word (shown_by other) ≡ Some left → ⊥
           none other has_other left is =
               let behind_one : IsEarlier one other =
               (sorted_back events memory caching sums now frames history rows word front (one ∷ back) (subst IsSorted parts sorted)).0 other has_other in
               let in_list : Has other.at list =
-                  subst (λ list. Has other.at list) (sym parts) (has_back events now frames word front (one ∷ back) other.at (inr has_other)) in
+              subst (λ list. Has other.at list) (sym parts) (has_back events now frames word front (one ∷ back) other.at (inr has_other)) in
               elim (last other in_list (left, leaves_of events memory caching sums now frames history rows word other left is)) [
                 | inl here ↦ not_earlier events now frames word memory caching one
                     (earlier_as events now frames word memory caching one other one one refl (here ∙ sym same) behind_one)
@@ -80,7 +80,7 @@ module _ (events : Events) (memory : SharedMemory) (caching : Caching events mem
       last_is value last =
           last_left before (sorted_front events memory caching sums now frames history rows word before (entry ∷ behind) sorted) leaver
           (stands_in_front events memory caching sums now frames history rows word before entry behind sorted leaver
-              (all last.node last.at inside leaver.is) last.before)
+          (all last.node last.at inside leaver.is) last.before)
           last.node value last.leaves
           (λ other has left. last.last other.node other.at other.inside left
           (in_front events memory caching sums now frames history rows word before entry behind sorted other has))
@@ -95,7 +95,7 @@ module _ (events : Events) (memory : SharedMemory) (caching : Caching events mem
       none_is value none =
           none_left events memory caching sums now frames history rows word (memory.start word) before
           (λ other has left is. none.none other.node other.at other.inside
-              (left, leaves_of events memory caching sums now frames history rows word other left is)
+          (left, leaves_of events memory caching sums now frames history rows word other left is)
           (in_front events memory caching sums now frames history rows word before entry behind sorted other has))
           ∙ sym (none.start)
 
@@ -107,14 +107,14 @@ module _ (events : Events) (memory : SharedMemory) (caching : Caching events mem
           → IsAnsweredFrom (λ one. last_write one (memory.start one) (map shown_by before)) (shown_by entry)
       answered (inl (inl write)) same =
           subst (λ is. IsAnsweredFrom (λ one. last_write one (memory.start one) (map shown_by before))
-              (shown frames (act_in events now frames word entry.node entry.at is).done)) (sym same) tt
+          (shown frames (act_in events now frames word entry.node entry.at is).done)) (sym same) tt
       answered (inl (inr read)) same =
           subst (λ is. IsAnsweredFrom (λ one. last_write one (memory.start one) (map shown_by before))
-              (shown frames (act_in events now frames word entry.node entry.at is).done)) (sym same)
+          (shown frames (act_in events now frames word entry.node entry.at is).done)) (sym same)
           (obtained (read.0) (inl (read.1)))
       answered (inr add) same =
           subst (λ is. IsAnsweredFrom (λ one. last_write one (memory.start one) (map shown_by before))
-              (shown frames (act_in events now frames word entry.node entry.at is).done)) (sym same)
+          (shown frames (act_in events now frames word entry.node entry.at is).done)) (sym same)
           (obtained (add.0) (inr (add.1)))
 
     -- In the list of the word each is answered by the last write before it.

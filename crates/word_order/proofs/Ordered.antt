@@ -57,7 +57,7 @@ module _ (events : Events) (memory : SharedMemory) (caching : Caching events mem
       let count : length (orders_of words) ≡ words = length-map-range_with_len order_of 0 words in
       let within = slice_get_within (orders_of words) word places is in
       sym (get_or-map-range_with_len order_of 0 words word word places (omega (arith, count, within)) (omega arith))
-          ∙ get_or_from_slice_get (orders_of words) word places places is
+      ∙ get_or_from_slice_get (orders_of words) word places places is
 
   pub is_location_consistent : (words : ℕ) → EachIsShared events now words → IsLocationConsistent memory.start history (orders_of words)
   is_location_consistent words shared = record {
@@ -79,18 +79,18 @@ module _ (cluster : Cluster) (turns : List WholeTurn) (lawful : IsLawful cluster
   abbrev pub orders : List (List Place)
   orders =
       orders_of (events_of cluster (course_of turns)) (memory_of cluster) (keeps_the_page_rules cluster turns lawful) (λ old addend. refl)
-          (length (course_of turns)) frames history
+      (length (course_of turns)) frames history
       (are_rows cluster turns main frames history is_history made) consistent words
 
   pub history_is_consistent : IsLocationConsistent (start_words_of cluster.code) history orders
   history_is_consistent =
       is_location_consistent (events_of cluster (course_of turns)) (memory_of cluster) (keeps_the_page_rules cluster turns lawful) (λ old addend. refl)
-          (length (course_of turns)) frames history
+      (length (course_of turns)) frames history
       (are_rows cluster turns main frames history is_history made) consistent words shared
 
   -- with a list for each of so many words
   pub as_many : length orders ≡ words
   as_many =
       length-map-range_with_len (order_of (events_of cluster (course_of turns)) (memory_of cluster) (keeps_the_page_rules cluster turns lawful)
-          (λ old addend. refl)
+      (λ old addend. refl)
       (length (course_of turns)) frames history (are_rows cluster turns main frames history is_history made) consistent) 0 words

@@ -42,14 +42,23 @@ module _ (events : Events) (now : ℕ) (frames : List FrameId) (history : Histor
   pub comes : (place : Place) (act : Act) → act_at history place ≡ Some act → Comes place act
   comes place act is =
       let within : place.row < length history =
-          row_within history (rows.numbered) (place.row) place refl (slice_get_within (row_at history place.row).acts place.act act is) in
+      row_within history (rows.numbered) (place.row) place refl (slice_get_within (row_at history place.row).acts place.act act is) in
       let frame : FrameId = slice_index_or frames (place.row) (record { node = 0; number = 0 }) in
       let less : place.row < length frames = let count = rows.count in omega (arith, within, count) in
       let number : slice_get frames (place.row) ≡ Some frame = slice_get-get_or frames (place.row) (record { node = 0; number = 0 }) less in
       let found =
-          act_found frames events frame now (place.act) act (subst (λ acts. slice_get acts (place.act) ≡ Some act) (rows.acts (place.row) frame number) is) in
-      record { at = found.at; node = found.node; frame = frame; done = found.done; inside = found.inside; is = found.is; number_is = number;
-          place_is = found.place_is; act_is = found.act_is }
+      act_found frames events frame now (place.act) act (subst (λ acts. slice_get acts (place.act) ≡ Some act) (rows.acts (place.row) frame number) is) in
+      record {
+        at = found.at;
+        node = found.node;
+        frame = frame;
+        done = found.done;
+        inside = found.inside;
+        is = found.is;
+        number_is = number;
+        place_is = found.place_is;
+        act_is = found.act_is;
+      }
 
   spawned_number : (done : log.Act) (number : ℕ) → shown frames done ≡ row.Spawn number
       → (child : FrameId) × (done ≡ log.Spawn child) × (row_number frames child ≡ number)
@@ -76,7 +85,7 @@ module _ (events : Events) (now : ℕ) (frames : List FrameId) (history : Histor
   place_back place act it =
       let row_is : row_number frames it.frame ≡ place.row = number_is (place.row) (it.frame) (it.number_is) in
       ap (λ number. record { row = number; act = place.act }) (sym row_is)
-          ∙ ap (λ number. record { row = row_number frames it.frame; act = number }) (sym (it.place_is))
+      ∙ ap (λ number. record { row = row_number frames it.frame; act = number }) (sym (it.place_is))
 
   -- what was done stands in the history
   pub act_here : (at node : ℕ) (frame : FrameId) (act : log.Act) → at < now → events at ≡ log.Acts node frame act
@@ -89,7 +98,7 @@ module _ (events : Events) (now : ℕ) (frames : List FrameId) (history : Histor
   pub place_there : (at node : ℕ) (frame : FrameId) (act : log.Act) → at < now → events at ≡ log.Acts node frame act → IsPlace history (place_for frame at)
   place_there at node frame act inside is =
       slice_get_within (row_at history (row_number frames frame)).acts (place_in frames events frame at) (shown frames act)
-          (act_here at node frame act inside is)
+      (act_here at node frame act inside is)
 
   -- two positions have two places
   pub one_position : (at node : ℕ) (frame : FrameId) (act : log.Act) (other_at other : ℕ) (second : FrameId) (next : log.Act) → at < now
@@ -118,9 +127,19 @@ module _ (events : Events) (now : ℕ) (frames : List FrameId) (history : Histor
 
   pub stands : (place : Place) (act : Act) → act_at history place ≡ Some act → (at : ℕ) × Stands place at
   stands place act is =
-      let it = comes place act is in
-      (it.at, record { node = it.node; frame = it.frame; done = it.done; inside = it.inside; is = it.is; number = it.number_is; place_is = it.place_is;
-          act_is = is ∙ ap Some (sym (it.act_is)) })
+      let it = comes place act is in (
+        it.at,
+        record {
+          node = it.node;
+          frame = it.frame;
+          done = it.done;
+          inside = it.inside;
+          is = it.is;
+          number = it.number_is;
+          place_is = it.place_is;
+          act_is = is ∙ ap Some (sym (it.act_is));
+        },
+      )
 
   pub stands_for : (at node : ℕ) (frame : FrameId) (act : log.Act) → at < now → events at ≡ log.Acts node frame act → Stands (place_for frame at) at
   stands_for at node frame act inside is = record {
@@ -143,7 +162,7 @@ module _ (events : Events) (now : ℕ) (frames : List FrameId) (history : Histor
   one_position_at place at other_at it that =
       let same = one_frame place place at other_at refl it that in
       place_once frames events it.frame at other_at it.node that.node it.done that.done it.is
-          (subst (λ frame. events other_at ≡ log.Acts that.node frame that.done) (sym same) that.is)
+      (subst (λ frame. events other_at ≡ log.Acts that.node frame that.done) (sym same) that.is)
       (it.place_is ∙ sym (that.place_is) ∙ ap (λ frame. place_in frames events frame other_at) (sym same))
 
   -- in one row what stands earlier was done earlier
@@ -161,6 +180,9 @@ module _ (events : Events) (now : ℕ) (frames : List FrameId) (history : Histor
   spawned_there place at child it spawns =
       let spawn = spawned_number it.done child (some_same (shown frames it.done) (row.Spawn child) (sym (it.act_is) ∙ spawns)) in
       let within : child < length history = (rows.numbered.child place child spawns).0 in
-      let less : row_number frames (spawn.0) < length frames = let same = spawn.2 in let count = rows.count in omega (arith, within, same, count) in
-      (spawn.0, subst (λ done. events at ≡ log.Acts it.node it.frame done) (spawn.1) it.is, ap (slice_get frames) (sym (spawn.2))
-          ∙ number_get frames (spawn.0) less)
+      let less : row_number frames (spawn.0) < length frames = let same = spawn.2 in let count = rows.count in omega (arith, within, same, count) in (
+        spawn.0,
+        subst (λ done. events at ≡ log.Acts it.node it.frame done) (spawn.1) it.is,
+        ap (slice_get frames) (sym (spawn.2))
+            ∙ number_get frames (spawn.0) less,
+      )

@@ -137,8 +137,15 @@ module _ (frames : List FrameId) (events : Events) (frame : FrameId) where
       older : slice_get (acts now) place ≡ Some act → Found (suc now) place act
       older found =
           let it = rest found in
-          record { at = it.at; node = it.node; done = it.done; inside = (let less = it.inside in omega (arith, less)); is = it.is; place_is = it.place_is;
-              act_is = it.act_is }
+          record {
+            at = it.at;
+            node = it.node;
+            done = it.done;
+            inside = (let less = it.inside in omega (arith, less));
+            is = it.is;
+            place_is = it.place_is;
+            act_is = it.act_is;
+          }
 
       nothing : (list : List Act) → slice_get (list ++ []) place ≡ Some act → slice_get list place ≡ Some act
       nothing list found = let same : list ++ [] ≡ list = search rules in subst (λ it. slice_get it place ≡ Some act) same found

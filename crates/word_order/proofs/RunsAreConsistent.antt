@@ -55,7 +55,7 @@ turns_are_consistent cluster turns lawful order program stands parted main frame
     let made = made_of cluster turns lawful program stands parted in
     let consistent = consistent_of cluster turns lawful program stands parted in
     let shared : EachIsShared (events_of cluster (course_of turns)) (length (course_of turns)) (words_in cluster.code.shared) =
-        each_is_shared cluster turns lawful order in
+    each_is_shared cluster turns lawful order in
     record {
       orders = orders cluster turns lawful main frames history is_history made consistent (words_in cluster.code.shared) shared;
       is_consistent = history_is_consistent cluster turns lawful main frames history is_history made consistent (words_in cluster.code.shared) shared;

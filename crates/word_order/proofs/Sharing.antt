@@ -37,12 +37,12 @@ module _ (cluster : Cluster) (turns : List WholeTurn) (lawful : IsLawful cluster
     where
       on : Serves (node_at cluster home) (past_at cluster turns lawful home position) frame index word old addend
           ⊎ (IsFree (past_at cluster turns lawful home position)
-              × MayAddHere (node_at cluster home) (past_at cluster turns lawful home position) frame index word old addend)
+          × MayAddHere (node_at cluster home) (past_at cluster turns lawful home position) frame index word old addend)
           → word < all_words
       on (inr own_add) = add_shared home home (past_at cluster turns lawful home position) frame index word addend own_add.1.add
       on (inl serves) =
           let taken = owed_taken cluster turns lawful home position happens.moved happens.is serves.add
-              (subst (λ list. Among serves.add list) (sym serves.oldest) (inl refl)) in
+          (subst (λ list. Among serves.add list) (sym serves.oldest) (inl refl)) in
           let posted = taken.2.posted in
           let may = add_allowed cluster turns lawful (taken.2.sender) (taken.0) serves.add frame index word addend
           (record { moved = posted.moved; is = posted.is; by = posted.by; event_is = posted.event_is }) serves.asked in
@@ -54,17 +54,17 @@ module _ (cluster : Cluster) (turns : List WholeTurn) (lawful : IsLawful cluster
       let it = wrote_there cluster turns lawful number word position value wrote in
       let may = act_allowed cluster turns lawful number position (it.0) (it.1) (act.Write word value) (it.2) in
       highest_wants (node_at cluster number) order (past_at cluster turns lawful number position) may.1.life
-          (Asks (want.Write word value)) may.1.acts.is may.1.makes.wanted
+      (Asks (want.Write word value)) may.1.acts.is may.1.makes.wanted
   each_is_shared number word position inside (inl (inr (value, read))) =
       let it = read_there cluster turns lawful number word position value read in
       let may = act_allowed cluster turns lawful number position (it.0) (it.1) (act.Read word value) (it.2) in
       highest_wants (node_at cluster number) order (past_at cluster turns lawful number position) may.1.life
-          (Asks (want.Read word)) may.1.acts.is may.1.makes.wanted
+      (Asks (want.Read word)) may.1.acts.is may.1.makes.wanted
   each_is_shared number word position inside (inr (old, add)) =
       elim (acted_is cluster (course_of turns) position number add.frame (log.Add word old add.addend) add.is) [
-    | inl acted ↦ absurd (no_add word old add.addend acted.act acted.act_is)
-    | inr served ↦ (
-        let less = served_shared served.home position add.frame served.index served.word served.old served.addend served.is in
-        let same : served.word ≡ word = let is = served.act_is in cc in
-        subst (λ one. one < all_words) same less)
-  ]
+        | inl acted ↦ absurd (no_add word old add.addend acted.act acted.act_is)
+        | inr served ↦ (
+            let less = served_shared served.home position add.frame served.index served.word served.old served.addend served.is in
+            let same : served.word ≡ word = let is = served.act_is in cc in
+            subst (λ one. one < all_words) same less)
+      ]

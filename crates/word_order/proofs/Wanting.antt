@@ -152,10 +152,10 @@ module _ (code : Code) (order : AreInOrder 0 code.shared) where
       pop_fair f.running.operands _ (λ i rest. given_fair (word_of (extent_of code.shared array) i) _ (λ word is. among array i word is))
   act_fair f (Some (instr.WriteShared array)) =
       pop_fair f.running.operands _
-          (λ v below. pop_fair below _ (λ i rest. given_fair (word_of (extent_of code.shared array) i) _ (λ word is. among array i word is)))
+      (λ v below. pop_fair below _ (λ i rest. given_fair (word_of (extent_of code.shared array) i) _ (λ word is. among array i word is)))
   act_fair f (Some (instr.AddShared array)) =
       pop_fair f.running.operands _
-          (λ v below. pop_fair below _ (λ i rest. given_fair (word_of (extent_of code.shared array) i) _ (λ word is. among array i word is)))
+      (λ v below. pop_fair below _ (λ i rest. given_fair (word_of (extent_of code.shared array) i) _ (λ word is. among array i word is)))
   act_fair f (Some instr.PrintTop) = pop_fair f.running.operands _ (λ v rest. tt)
   act_fair f (Some instr.Turn) = tt
   act_fair f (Some (instr.Call procedure)) = proc_fair (slice_get code.procs procedure) _ (λ proc. trap_fair (length f.callers == limits.calls) TooDeep _ tt)
