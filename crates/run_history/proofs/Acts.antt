@@ -96,16 +96,16 @@ module _ (frames : List FrameId) where
       on (inl none) rest = birth_later moved course birth (rest (subst (λ list. Contains list birth) (born_none moved course none.0) is))
       on (inr born) rest =
           elim (Contains-append_cases (born_in course) (born.0 ∷ []) birth (subst (λ list. Contains list birth) (born_one moved course born.0 born.1) is)) [
-        | inl older ↦ birth_later moved course birth (rest older)
-        | inr here ↦
-            let same : born.0 ≡ birth = only_one born.0 birth here in
-            let bearing : Bears birth moved.event = subst (λ it. Bears it moved.event) same born.1 in
-            let done = item.Act birth.parent birth.index (act.Spawn birth.child birth.procedure birth.arguments) in
-            let count = index_is_count cluster course moved stepped done bearing birth.parent birth.index (refl, refl) in
-            let place : length (acts_in birth.parent course) ≡ birth.index = acts_counted birth.parent course ∙ sym count in
-            let acts = acts_more birth.parent moved course ∙ ap (λ list. acts_in birth.parent course ++ list) (born_act birth moved.event bearing) in
-            subst (λ list. slice_get list birth.index ≡ Some (row.Spawn (row_number frames birth.child))) (sym acts)
-            (subst (λ it. slice_get (acts_in birth.parent course ++ row.Spawn (row_number frames birth.child) ∷ []) it
+            | inl older ↦ birth_later moved course birth (rest older)
+            | inr here ↦
+                let same : born.0 ≡ birth = only_one born.0 birth here in
+                let bearing : Bears birth moved.event = subst (λ it. Bears it moved.event) same born.1 in
+                let done = item.Act birth.parent birth.index (act.Spawn birth.child birth.procedure birth.arguments) in
+                let count = index_is_count cluster course moved stepped done bearing birth.parent birth.index (refl, refl) in
+                let place : length (acts_in birth.parent course) ≡ birth.index = acts_counted birth.parent course ∙ sym count in
+                let acts = acts_more birth.parent moved course ∙ ap (λ list. acts_in birth.parent course ++ list) (born_act birth moved.event bearing) in
+                subst (λ list. slice_get list birth.index ≡ Some (row.Spawn (row_number frames birth.child))) (sym acts)
+                (subst (λ it. slice_get (acts_in birth.parent course ++ row.Spawn (row_number frames birth.child) ∷ []) it
                 ≡ Some (row.Spawn (row_number frames birth.child))) place
-            (get_last (acts_in birth.parent course) (row.Spawn (row_number frames birth.child))))
-      ]
+                (get_last (acts_in birth.parent course) (row.Spawn (row_number frames birth.child))))
+          ]

@@ -87,7 +87,7 @@ was_counts (moved ∷ course) frame was = on (bears moved.event) was (was_counts
     on (inr born) (inl spawns) rest =
         let sum = made_one frame moved course born.0 born.1 in
         let here : one (same_frame frame (born.0).child) ≡ 1 =
-            ap (λ it. one (same_frame frame it)) (spawned_child frame born.0 moved.event born.1 spawns) ∙ ap one (same_self frame) in
+        ap (λ it. one (same_frame frame it)) (spawned_child frame born.0 moved.event born.1 spawns) ∙ ap one (same_self frame) in
         omega (arith, sum, here)
     on (inr born) (inr older) rest = let sum = made_one frame moved course born.0 born.1 in let before = rest older in omega (arith, sum, before)
 

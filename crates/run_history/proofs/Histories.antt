@@ -104,7 +104,7 @@ module _ (cluster : Cluster) (main : ℕ) (course : Course) (stepped : Stepped c
   main_row : row_at history 0 ≡ row_with frames main None (acts_in frames main_id course)
   main_row =
       ap (row_at history) (sym main_number) ∙ named_row main_id main_there
-          ∙ ap (λ birth. row_with frames main birth (acts_in frames main_id course)) (given_none births main_id never)
+      ∙ ap (λ birth. row_with frames main birth (acts_in frames main_id course)) (given_none births main_id never)
 
   -- ---- parents
 
@@ -131,7 +131,7 @@ module _ (cluster : Cluster) (main : ℕ) (course : Course) (stepped : Stepped c
       parent_counts : row_number frames birth.parent < row_number frames birth.child → 1 ≤ times birth.parent (made_by births)
       parent_counts less =
           let inside : row_number frames birth.parent < length frames =
-              let most = within birth there in let same = same_count in omega (arith, less, most, same) in
+          let most = within birth there in let same = same_count in omega (arith, less, most, same) in
           let some = times_there frames (row_number frames birth.parent) birth.parent (number_get frames birth.parent inside) in
           let same = often birth.parent in
           omega (arith, some, same)
@@ -189,7 +189,7 @@ module _ (cluster : Cluster) (main : ℕ) (course : Course) (stepped : Stepped c
       row_inside (inl less) = less
       row_inside (inr more) =
           absurd (none_is (slice_get [] place.act) (Spawn number) refl
-              (ap (λ (row : Row). slice_get row.acts place.act) (sym (no_row_past history place.row more)) ∙ found))
+          (ap (λ (row : Row). slice_get row.acts place.act) (sym (no_row_past history place.row more)) ∙ found))
 
   -- ---- the serial order
 

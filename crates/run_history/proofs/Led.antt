@@ -45,9 +45,11 @@ module _ (births : List Birth) (once : (frame : FrameId) → times frame (childr
 
   led_walk : (depth : ℕ) (seen : List FrameId) (frame : FrameId) → HasParent seen frame → IsLed seen (walk births depth frame)
   led_walk zero seen frame has = (has, tt)
-  led_walk (suc depth) seen frame has =
-      (has, led_all (frame ∷ seen) (walk births depth) (children births frame) (λ child is. led_walk depth (frame ∷ seen) child (child_has child is))
-          (children births frame) (λ other some. some))
+  led_walk (suc depth) seen frame has = (
+    has,
+    led_all (frame ∷ seen) (walk births depth) (children births frame) (λ child is. led_walk depth (frame ∷ seen) child (child_has child is))
+        (children births frame) (λ other some. some),
+  )
     where
       child_has : (child : FrameId) → 1 ≤ times child (children births frame) → HasParent (frame ∷ seen) child
       child_has child is birth there names =

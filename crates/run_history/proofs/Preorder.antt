@@ -27,7 +27,7 @@ module _ (history : History) where
   named_both : (front back : List Place) → named_at (front ++ back) ≡ named_at front ++ named_at back
   named_both front back =
       ap (filter_map spawned_by) (filter_map-append (act_at history) front back)
-          ∙ filter_map-append spawned_by (filter_map (act_at history) front) (filter_map (act_at history) back)
+      ∙ filter_map-append spawned_by (filter_map (act_at history) front) (filter_map (act_at history) back)
 
   -- what one act names
   abbrev named_by : (ℕ → List Place) → Act → List ℕ
@@ -82,7 +82,7 @@ module _ (history : History) where
       let here : act_at history place ≡ Some done = subst (λ it. act_at history (record { row = row; act = it }) ≡ Some done) same (there 0 done refl) in
       let rest = named_from places row (suc index) acts
       (λ later one found. subst (λ it. act_at history (record { row = row; act = it }) ≡ Some one) (sym (next_place index later))
-          (there (suc later) one found)) in
+      (there (suc later) one found)) in
       named_both (with_child_places places place done) (places_from places row (suc index) acts)
       ∙ ap (λ list. list ++ named_at (places_from places row (suc index) acts)) (named_one places place done here)
       ∙ ap (λ list. named_by places done ++ list) rest
@@ -90,7 +90,7 @@ module _ (history : History) where
 
   module _ (births : List Birth) (frames : List FrameId)
       (spawns : (frame : FrameId) → 1 ≤ times frame (made_by births)
-          → filter_map spawned_by (row_at history (row_number frames frame)).acts ≡ map (row_number frames) (children births frame))
+      → filter_map spawned_by (row_at history (row_number frames frame)).acts ≡ map (row_number frames) (children births frame))
       (made : (frame child : FrameId) → 1 ≤ times child (children births frame) → 1 ≤ times child (made_by births)) where
     below_all : (below : ℕ → List ℕ) (walked : FrameId → List FrameId) (list : List FrameId)
         → ((frame : FrameId) → 1 ≤ times frame list → row_number frames frame ∷ below (row_number frames frame) ≡ map (row_number frames) (walked frame))
@@ -108,7 +108,7 @@ module _ (history : History) where
     named_below (suc depth) frame some =
         ap (λ list. row_number frames frame ∷ list)
         (named_from (places_below depth history) (row_number frames frame) 0 (row_at history (row_number frames frame)).acts
-            (λ place done found. from_zero (row_number frames frame) place done found)
+        (λ place done found. from_zero (row_number frames frame) place done found)
         ∙ ap (all_below (λ number. named_at (places_below depth history number))) (spawns frame some)
         ∙ below_all (λ number. named_at (places_below depth history number)) (walk births depth) (children births frame)
-            (λ child is. named_below depth child (made frame child is)))
+        (λ child is. named_below depth child (made frame child is)))

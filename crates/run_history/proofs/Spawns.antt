@@ -120,7 +120,7 @@ module _ (frames : List FrameId) where
       on (inr (done, is, births)) rest =
           let same = acts_more frames frame moved course ∙ ap (λ list. acts_in frames frame course ++ list) is in
           elim (get_more (acts_in frames frame course) done (row.Spawn number) place
-              (subst (λ list. slice_get list place ≡ Some (row.Spawn number)) same found)) [
+          (subst (λ list. slice_get list place ≡ Some (row.Spawn number)) same found)) [
             | inl older ↦ rest older
             | inr here ↦ now (births number here.1) here.0
           ]
@@ -134,7 +134,7 @@ module _ (frames : List FrameId) where
                 birth = birth;
                 there =
                     subst (λ list. Contains list birth) (sym (born_one moved course birth it.is))
-                        (Contains-append_right (born_in course) (birth ∷ []) birth (0, omega arith, refl));
+                    (Contains-append_right (born_in course) (birth ∷ []) birth (0, omega arith, refl));
                 parent = it.parent;
                 index = count ∙ sym (acts_counted frames frame course) ∙ sym place_is;
                 number_is = it.number_is;
@@ -179,4 +179,4 @@ module _ (frames : List FrameId) where
       ∙ ap (λ list. map (row_number frames) (children (born_in course) frame) ++ list) (spawns_by frame moved.event)
       ∙ sym (map-append (row_number frames) (children (born_in course) frame) (children (births_by moved.event) frame))
       ∙ ap (map (row_number frames)) (sym (filter_map-append (child_of frame) (born_in course) (births_by moved.event))
-          ∙ ap (λ births. children births frame) (sym (born_more moved course)))
+      ∙ ap (λ births. children births frame) (sym (born_more moved course)))

@@ -64,10 +64,10 @@ as_often _ (Grown births birth tree parent new) frame zero deep = let sum = leng
 as_often _ (Grown births birth tree parent new) frame (suc depth) deep =
     let sum = length-append births (birth ∷ []) in
     let more = grows births birth frame (childless births tree birth.child new)
-        (not_itself births birth parent new (same_frame birth.parent birth.child) refl) depth main_id in
+    (not_itself births birth parent new (same_frame birth.parent birth.child) refl) depth main_id in
     let old = as_often births tree frame (suc depth) (omega (arith, sum, deep)) in
     let gain = gained (same_frame frame birth.child) (times birth.parent (walk births depth main_id))
-        (as_often births tree birth.parent depth (omega (arith, sum, deep)) ∙ parent) in
+    (as_often births tree birth.parent depth (omega (arith, sum, deep)) ∙ parent) in
     let made = made_times frame births birth in
     omega (arith, more, old, gain, made)
 

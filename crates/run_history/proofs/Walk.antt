@@ -74,9 +74,9 @@ module _ (births : List Birth) (birth : Birth) (frame : FrameId) where
       let left = times_append frame (later it) (walk_all later list) in
       let right = times_append frame (earlier it) (walk_all earlier list) in
       let more : gains here (times birth.parent (before it ++ walk_all before list)) ≡ gains here (times birth.parent (before it)) + gains here
-          (times birth.parent (walk_all before list)) =
+      (times birth.parent (walk_all before list)) =
       ap (gains here) (times_append birth.parent (before it) (walk_all before list))
-          ∙ gains_sum here (times birth.parent (before it)) (times birth.parent (walk_all before list)) in
+      ∙ gains_sum here (times birth.parent (before it)) (times birth.parent (walk_all before list)) in
       omega (arith, rest, first, left, right, more)
 
   -- the children now
@@ -116,7 +116,7 @@ module _ (births : List Birth) (birth : Birth) (frame : FrameId) where
     alone zero = let it : one here + 0 ≡ one here = omega arith in it
     alone (suc depth) =
         ap (λ list. one here + times frame (walk_all (walk (births ++ birth ∷ []) depth) list)) childless_still
-            ∙ (let it : one here + 0 ≡ one here = omega arith in it)
+        ∙ (let it : one here + 0 ≡ one here = omega arith in it)
 
     -- The child stands in the walk as often as its parent does one level higher.
     pub grows : (depth : ℕ) (it : FrameId) → times frame (walk (births ++ birth ∷ []) (suc depth) it)
