@@ -69,14 +69,14 @@ module _ (starts : Starts) (main : ℕ) (trace : Trace) (obeys : Obeys starts ma
   abbrev RunsBehind : ℕ → Event → List row.Act → Type 0
   RunsBehind at event acts =
       Runs acts (block_of starts trace now frames (children_after event (children trace.events at frame)))
-          (serve.after (goes_at at) (answer_of (reply_to event (given starts trace at frame))))
+      (serve.after (goes_at at) (answer_of (reply_to event (given starts trace at frame))))
 
   own_row : row_number frames frame ≡ number
   own_row = number_is trace.events now frames history rows number frame is_row
 
   is_child : (at node : ℕ) (child : FrameId) → at < now → trace.events at ≡ Acts node frame (Spawn child) →
       IsChild history (row_number frames child) (record { row = number; act = length (acts_at at) }) (trace.instance child).procedure
-          (trace.instance child).arguments
+      (trace.instance child).arguments
   is_child at node child inside is =
       let it = row_of_child starts main trace obeys now frames history rows at node frame child inside is in
       let child_row : slice_get frames (row_number frames child) ≡ Some child = number_get frames child it.there in
@@ -108,7 +108,7 @@ module _ (starts : Starts) (main : ℕ) (trace : Trace) (obeys : Obeys starts ma
         made (wanted.Spawn (trace.target child) (trace.instance child).procedure (trace.instance child).arguments) (shown frames (Spawn child)) Done
         (block_at at ++ (trace.target child, row_number frames child) ∷ []) want
         (program.Spawn (trace.target child) (trace.instance child).procedure (trace.instance child).arguments (row_number frames child) (block_at at)
-            (is_child at node child inside is))
+        (is_child at node child inside is))
     act_step node Sync is want =
         made wanted.Sync (shown frames Sync) (Children (given starts trace at frame)) [] want
         (program.Sync (block_at at) (given starts trace at frame)
@@ -130,7 +130,7 @@ module _ (starts : Starts) (main : ℕ) (trace : Trace) (obeys : Obeys starts ma
         subst (λ b. RunsBehind at (Acts node actor act) (acts_at at ++ cond b (shown frames act ∷ []) [])) (sym acts)
         (subst (λ one. RunsBehind at (Acts node one act) (acts_at at ++ shown frames act ∷ [])) (sym same)
         (act_step node act (is ∙ ap (λ one. Acts node one act) same)
-            (subst (λ one. Answers trace (Acts node one act) (want_at starts trace at frame)) same want)))
+        (subst (λ one. Answers trace (Acts node one act) (want_at starts trace at frame)) same want)))
     item_step (Tick node actor) is acts want =
         subst (λ list. RunsBehind at (Tick node actor) list) (sym (nothing_more (acts_at at))) (Ticks (acts_at at) (block_at at) (goes_at at) before want)
     item_step Nothing is acts want = absurd cc
@@ -155,17 +155,17 @@ module _ (starts : Starts) (main : ℕ) (trace : Trace) (obeys : Obeys starts ma
     next_step = elim (either_bool (by frame (trace.events at))) [
       | inl acts ↦
           subst (λ goes. Runs (acts_at (suc at)) (block_at (suc at)) goes)
-              (sym (told_more (reply_to (trace.events at) (given starts trace at frame)) (grew starts trace at frame acts)))
+          (sym (told_more (reply_to (trace.events at) (given starts trace at frame)) (grew starts trace at frame acts)))
           (subst (λ block. Runs (acts_at (suc at)) (block_of starts trace now frames block)
-              (serve.after (goes_at at) (answer_of (reply_to (trace.events at) (given starts trace at frame)))))
+          (serve.after (goes_at at) (answer_of (reply_to (trace.events at) (given starts trace at frame)))))
           (sym (block_grew trace at frame acts))
           (subst (λ list. RunsBehind at (trace.events at) list) (sym acts_more)
-              (item_step (trace.events at) refl acts (asked starts main trace obeys at frame (trace.events at) refl acts))))
+          (item_step (trace.events at) refl acts (asked starts main trace obeys at frame (trace.events at) refl acts))))
       | inr none ↦
           subst (λ told. Runs (acts_at (suc at)) (block_at (suc at)) (behind begin told)) (sym (still starts trace at frame none))
           (subst (λ block. Runs (acts_at (suc at)) (block_of starts trace now frames block) (goes_at at)) (sym (block_still trace at frame none))
           (subst (λ list. Runs list (block_at at) (goes_at at))
-              (sym (acts_more ∙ ap (λ list. acts_at at ++ list) (no_act frames frame (trace.events at) none) ∙ nothing_more (acts_at at))) before))
+          (sym (acts_more ∙ ap (λ list. acts_at at ++ list) (no_act frames frame (trace.events at) none) ∙ nothing_more (acts_at at))) before))
     ]
 
   first_step : RunsAt 0

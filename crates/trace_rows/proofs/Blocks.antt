@@ -62,15 +62,15 @@ module _ (starts : Starts) (main : ℕ) (trace : Trace) (obeys : Obeys starts ma
   -- where all children have returned, their rows have what is given back
   pub have_returned : (at : ℕ) (block : List FrameId) → at ≤ now →
       ((child : FrameId) → IsOn child block → (row_number frames child < length frames) × (value : ℤ) × (want_at starts trace at child ≡ Some (Returns value)))
-          →
+      →
       HaveReturned (returned starts trace now frames) (block_of starts trace now frames block)
-          (deposits (λ child. (trace.target child, value_in (want_at starts trace at child))) block)
+      (deposits (λ child. (trace.target child, value_in (want_at starts trace at child))) block)
   unfolding deposits
   have_returned at [] inside each = tt
   have_returned at (latest ∷ earlier) inside each =
       let it = each latest (inl refl) in
       have_more starts trace now frames (block_of starts trace now frames earlier)
-          (deposits (λ child. (trace.target child, value_in (want_at starts trace at child))) earlier)
+      (deposits (λ child. (trace.target child, value_in (want_at starts trace at child))) earlier)
       (trace.target latest) (row_number frames latest) (value_in (want_at starts trace at latest))
       (have_returned at earlier inside (λ child on. each child (inr on))) (child_value at latest it.1 inside it.2 it.0)
 

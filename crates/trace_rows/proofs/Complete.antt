@@ -89,9 +89,11 @@ module _ (starts : Starts) (main : ℕ) (trace : Trace) (obeys : Obeys starts ma
     | inl on ↦ absurd (obeys.no_children now frame child value want on)
     | inr joined ↦ (
         let gave = obeys.joined joined.at joined.node frame child joined.is joined.on in
-        let less = joined.before in
-        (gave.0, ap (λ told. want_of starts (trace.instance child) told)
-            (settled starts main trace obeys child joined.at gave.0 gave.1 now (omega (arith, less))).told ∙ gave.1))
+        let less = joined.before in (
+          gave.0,
+          ap (λ told. want_of starts (trace.instance child) told)
+              (settled starts main trace obeys child joined.at gave.0 gave.1 now (omega (arith, less))).told ∙ gave.1,
+        ))
   ]
 
   module _ (frames : List FrameId) (history : History) (rows : AreRows trace.events now frames history) (runs : RunAs trace frames history)

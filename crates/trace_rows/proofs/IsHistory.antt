@@ -31,16 +31,16 @@ module _ (starts : Starts) (main : ℕ) (trace : Trace) (obeys : Obeys starts ma
   same_run : (number depth procedure proc : ℕ) (arguments args : List ℤ) (acts made : List row.Act) (frame : FrameId) → proc ≡ procedure → args ≡ arguments
       → made ≡ acts →
       AloneRun history values number (starts depth procedure arguments) acts (block_of starts trace now frames (children trace.events now frame))
-          (state_at starts trace now frame) →
+      (state_at starts trace now frame) →
       AloneRun history values number (starts depth proc args) made (block_of starts trace now frames (children trace.events now frame))
-          (state_at starts trace now frame)
+      (state_at starts trace now frame)
   same_run number depth procedure proc arguments args acts made frame one two three alone =
       subst (λ it. AloneRun history values number (starts depth it args) made (block_of starts trace now frames (children trace.events now frame))
-          (state_at starts trace now frame)) (sym one)
+      (state_at starts trace now frame)) (sym one)
       (subst (λ it. AloneRun history values number (starts depth procedure it) made (block_of starts trace now frames (children trace.events now frame))
-          (state_at starts trace now frame)) (sym two)
+      (state_at starts trace now frame)) (sym two)
       (subst (λ it. AloneRun history values number (starts depth procedure arguments) it (block_of starts trace now frames (children trace.events now frame))
-          (state_at starts trace now frame))
+      (state_at starts trace now frame))
       (sym three) alone))
 
   is_row_with : (number : ℕ) (frame : FrameId) → slice_get frames number ≡ Some frame → IsRowOf starts history values number
@@ -51,7 +51,7 @@ module _ (starts : Starts) (main : ℕ) (trace : Trace) (obeys : Obeys starts ma
     has_depth = has_depth starts main trace obeys now frames history rows runs number frame is;
     alone_run =
         same_run number (trace.instance frame).depth (trace.instance frame).procedure (row_at history number).proc (trace.instance frame).arguments
-            (row_at history number).args
+        (row_at history number).args
         (acts_before frames trace.events frame now) (row_at history number).acts frame (runs.procedure number frame is) (runs.arguments number frame is)
         (rows.acts number frame is)
         (alone_run starts main trace obeys now frames history rows runs number frame is now (omega arith));

@@ -127,7 +127,7 @@ module _ (events : Events) (now : ℕ) (frames : List FrameId) (history : Histor
             let sync_in : sync.at < now = (let up_to = sync.before in let later = two.inside in omega (arith, up_to, later)) in
             let up_to : position it.frame sync.at ≤ position it.frame it.later_act = place_later frames events it.frame sync.at it.later_act sync.before in
             synced_beside (row_number frames it.frame) (position it.frame it.act) (position it.frame it.later_act)
-                (position it.frame sync.at) one.rest two.rest less
+            (position it.frame sync.at) one.rest two.rest less
             (later_place it.frame it.act sync.at one.node one.done one.is sync.after) up_to
             (act_here events now frames history rows sync.at sync.node it.frame log.Sync sync_in sync.is)
             (parted it.frame it.act it.later_act x y one.rest two.rest inside one.way_is two.way_is beside)

@@ -67,7 +67,7 @@ module _ (events : Events) (now : ℕ) (frames : List FrameId) (history : Histor
   is_changed word other entry writer =
       ap (holds_at (changes word)) (act_is events now frames word history rows entry)
       ∙ changes_it word entry.node other entry.at (act_of events now frames word entry).frame (its_act word entry)
-          (act_of events now frames word entry).is writer
+      (act_of events now frames word entry).is writer
 
   -- ---- no race in the history
 
@@ -78,7 +78,7 @@ module _ (events : Events) (now : ℕ) (frames : List FrameId) (history : Histor
         let one = act_of events now frames word first in
         let two = act_of events now frames word second in
         not_parallel events now frames history rows behind first.at second.at first.node second.node one.frame two.frame one.done two.done first.inside
-            second.inside one.is two.is before parallel
+        second.inside one.is two.is before parallel
 
     not_both : (word : ℕ) (first second : Access word) → (IsWriter events first.node word first.at ⊎ IsWriter events second.node word second.at)
         → IsParallel history (its_place word first) (its_place word second) → ⊥
@@ -104,7 +104,7 @@ module _ (events : Events) (now : ℕ) (frames : List FrameId) (history : Histor
         by : (first : Access word) × (x ≡ its_place word first) → (second : Access word) × (y ≡ its_place word second) → ⊥
         by (first, one) (second, two) =
             not_both word first second
-                (elim race.change [ inl change ↦ inl (is_writer word first x one change) | inr change ↦ inr (is_writer word second y two change) ])
+            (elim race.change [ inl change ↦ inl (is_writer word first x one change) | inr change ↦ inr (is_writer word second y two change) ])
             (subst (λ place. IsParallel history (its_place word first) place) two (subst (λ place. IsParallel history place y) one race.parallel))
 
   -- ---- no race in the events
@@ -113,7 +113,7 @@ module _ (events : Events) (now : ℕ) (frames : List FrameId) (history : Histor
   abbrev pub InSerialOrder : Type 0
   InSerialOrder =
       (at later node other : ℕ) (frame second : FrameId) (act next : log.Act) → at < later → later < now → events at ≡ log.Acts node frame act
-          → events later ≡ log.Acts other second next →
+      → events later ≡ log.Acts other second next →
       IsBefore history (place_for events now frames history rows frame at) (place_for events now frames history rows second later)
 
   pub is_race_free : InSerialOrder → HasNoRace history → RaceFree events now
@@ -129,8 +129,12 @@ module _ (events : Events) (now : ℕ) (frames : List FrameId) (history : Histor
       (is_place events now frames word history rows first) (is_place events now frames word history rows second) (
         serial at later node other one.frame two.frame one.done two.done less inside one.is two.is,
         λ parallel. none word (its_place word first) (its_place word second)
-            (record { first = is_accessed events now frames word history rows first; second = is_accessed events now frames word history rows second;
-                change = change; parallel = parallel }),
+            (record {
+              first = is_accessed events now frames word history rows first;
+              second = is_accessed events now frames word history rows second;
+              change = change;
+              parallel = parallel;
+            }),
       )
 
 module _ (starts : Starts) (main : ℕ) (trace : Trace) (obeys : Obeys starts main trace) (now : ℕ) (frames : List FrameId) (history : History)

@@ -38,7 +38,7 @@ module _ (events : Events) (now : ℕ) (frames : List FrameId) (history : Histor
   own_way at node frame act inside is =
       way_is history rows.numbered (its_place frame at)
       (row_within history rows.numbered (row_number frames frame) (its_place frame at) refl
-          (place_there events now frames history rows at node frame act inside is))
+      (place_there events now frames history rows at node frame act inside is))
 
   -- The frame acts there, and the way to the place goes through this act.
   pub record Through (place : Place) (frame : FrameId) (at : ℕ) : Type 0 where
@@ -61,7 +61,7 @@ module _ (events : Events) (now : ℕ) (frames : List FrameId) (history : Histor
         let later = through.inside in
         let inside : at < now = omega (arith, earlier, later) in
         let parent = (rows.numbered.child (its_place frame at) (row_number frames child)
-            (act_here events now frames history rows at node frame (log.Spawn child) inside is)).1 in
+        (act_here events now frames history rows at node frame (log.Spawn child) inside is)).1 in
         let up : row_of child ≡ row_of frame ++ index frame at ∷ [] =
         row_way_is history rows.numbered (row_number frames child) (its_place frame at) parent.named ∙ own_way at node frame (log.Spawn child) inside is in
         record {
@@ -72,7 +72,7 @@ module _ (events : Events) (now : ℕ) (frames : List FrameId) (history : Histor
           rest = index child next ∷ through.rest;
           way_is =
               through.way_is ∙ ap (λ front. front ++ index child next ∷ through.rest) up
-                  ∙ append_assoc (row_of frame) (index frame at ∷ []) (index child next ∷ through.rest);
+              ∙ append_assoc (row_of frame) (index frame at ∷ []) (index child next ∷ through.rest);
         }
 
     pub through : (at node : ℕ) (frame : FrameId) (act : log.Act) → at < now → events at ≡ log.Acts node frame act → (above : FrameId) (first : ℕ)
@@ -81,6 +81,6 @@ module _ (events : Events) (now : ℕ) (frames : List FrameId) (history : Histor
     through at node frame act inside is above first (At (other, next, is') same) =
         let same_frame : frame ≡ above = one_frame node other frame above act next (events at) is (ap events same ∙ is') in
         subst (λ position. Through (its_place frame at) above position) same
-            (subst (λ one. Through (its_place frame at) one at) same_frame (own at node frame act inside is))
+        (subst (λ one. Through (its_place frame at) one at) same_frame (own at node frame act inside is))
     through at node frame act inside is above first (Below other child next is' under) =
         below (its_place frame at) first other next above child is' (through at node frame act inside is child next under)
