@@ -37,7 +37,7 @@ item_clean trace (Acts node frame (Print value)) count frames goes gave answers 
     asks_clean count (has_some frames) goes (wanted.Print value) wanted.Done answers refl clean
 item_clean trace (Acts node frame (Spawn child)) count frames goes gave answers clean =
     asks_clean count (has_some frames) goes (wanted.Spawn (trace.target child) (trace.instance child).procedure (trace.instance child).arguments) wanted.Done
-        answers refl clean
+    answers refl clean
 item_clean trace (Acts node frame Sync) count frames goes gave answers clean =
     asks_clean count (has_some frames) goes wanted.Sync (wanted.Children gave) answers refl clean
 item_clean trace (Tick node frame) count frames goes gave answers clean = elim answers [
@@ -73,7 +73,7 @@ state_still starts trace at frame quiet = ap (λ i. state_of starts (trace.insta
 
 module _ (most : Limits) (program : Program) (parted : IsParted program) (trace : Trace)
     (wants : (at : ℕ) (frame : FrameId) → by frame (trace.events at) ≡ true
-        → Answers trace (trace.events at) (want_at (wants_within most program) trace at frame)) where
+    → Answers trace (trace.events at) (want_at (wants_within most program) trace at frame)) where
   abbrev starts : Starts
   starts = wants_within most program
 
@@ -96,7 +96,7 @@ module _ (most : Limits) (program : Program) (parted : IsParted program) (trace 
         (wants at frame is) (all_clean at frame (suc count)) in
         let stated : Clean count (has_some (children_after (trace.events at) (children trace.events at frame))) (state_at starts trace (suc at) frame) =
         subst (λ i. Clean count (has_some (children_after (trace.events at) (children trace.events at frame))) i)
-            (sym (state_grew starts trace at frame is)) behind in
+        (sym (state_grew starts trace at frame is)) behind in
         subst (λ i. Clean count (has_some i) (state_at starts trace (suc at) frame)) (sym (block_grew trace at frame is)) stated
   ]
 

@@ -36,7 +36,7 @@ elision_reads most program start budget memory begins = (reads most program star
 pub elision_remembers : ElisionRemembers
 elision_remembers most program start budget memory begins word value last =
     last_one memory (elision_trace most program start budget).events word (finish_of most program start budget)
-        ((end_of most program start budget).world.memory word) value
+    ((end_of most program start budget).world.memory word) value
     ((reads most program start budget memory begins).holds word) last
 
 pub elision_returns : ElisionReturns

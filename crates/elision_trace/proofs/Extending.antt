@@ -71,7 +71,7 @@ module _ (trace : Trace) where
         spawned_more trace.events now child (child_spawned now frame child before)
     | inl is ↦
         let behind : IsOn child (children_after (trace.events now) (children trace.events now frame)) =
-            subst (λ i. IsOn child i) (block_grew trace now frame is) on in
+        subst (λ i. IsOn child i) (block_grew trace now frame is) on in
         elim (child_or (trace.events now) (children trace.events now frame) child behind) [
           | inl before ↦ spawned_more trace.events now child (child_spawned now frame child before)
           | inr spawned ↦ record { at = now; node = spawned.0; parent = spawned.1; before = omega arith; is = spawned.2 }

@@ -45,7 +45,7 @@ not_same frame other differ = elim (either_bool (same_frame frame other)) [ inl 
 instance_kept : (event : Event) (runs : FrameId → Instance) (frame : FrameId) → Keeps event frame → instance_after event runs frame ≡ runs frame
 instance_kept (Acts row (world.Spawn child procedure arguments)) runs frame keeps =
     when_false (same_frame frame (frame_at child)) (record { depth = suc (runs (frame_at row)).depth; procedure = procedure; arguments = arguments })
-        (runs frame)
+    (runs frame)
     (not_same frame (frame_at child) (keeps.other row child procedure arguments refl))
 instance_kept (Acts row (world.Read word value)) runs frame keeps = refl
 instance_kept (Acts row (world.Write word value)) runs frame keeps = refl
@@ -72,7 +72,7 @@ pub child_instance : (runs : FrameId → Instance) (row child procedure : ℕ) (
     ≡ record { depth = suc (runs (frame_at row)).depth; procedure = procedure; arguments = arguments }
 child_instance runs row child procedure arguments =
     when_true (same_frame (frame_at child) (frame_at child)) (record { depth = suc (runs (frame_at row)).depth; procedure = procedure; arguments = arguments })
-        (runs (frame_at child))
+    (runs (frame_at child))
     (same_self (frame_at child))
 
 pub child_target : (starts : Starts) (trace : Trace) (at row child procedure : ℕ) (arguments : List ℤ) →

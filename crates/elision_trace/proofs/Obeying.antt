@@ -60,7 +60,7 @@ module _ (starts : Starts) (main : ℕ) where
     below = omega arith;
     top =
         subst (λ i. Stands starts (trace_in starts main []) 0 (first_state starts main memory).running 0 i)
-            (sym (childless.first_block (trace_in starts main []) main_id)) (first_stands memory);
+        (sym (childless.first_block (trace_in starts main []) main_id)) (first_stands memory);
     waits = refl;
   }
 
@@ -134,8 +134,11 @@ module _ (starts : Starts) (main : ℕ) where
       record {
         sound = good.sound;
         finished =
-            λ done. (value, ap (λ i. want_at starts (so_far starts main made.log) (length made.log) (frame_at i)) (sym waits)
-                ∙ its_return entry [] value made is good);
+            λ done. (
+              value,
+              ap (λ i. want_at starts (so_far starts main made.log) (length made.log) (frame_at i)) (sym waits)
+                  ∙ its_return entry [] value made is good,
+            );
       }
 
   good_kept : IsInvariant starts (λ left s. Good starts main s) Ended

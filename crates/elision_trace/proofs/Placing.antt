@@ -46,7 +46,7 @@ number_of start zero place row is inside = absurd (omega (arith, inside))
 number_of start (suc count) zero row is inside =
     let same : row ≡ start = omega (arith, is) in
     let test : same_frame (frame_at start) (frame_at row) ≡ true =
-        subst (λ i. same_frame (frame_at start) (frame_at i) ≡ true) (sym same) (same_self (frame_at start)) in
+    subst (λ i. same_frame (frame_at start) (frame_at i) ≡ true) (sym same) (same_self (frame_at start)) in
     when_true (same_frame (frame_at start) (frame_at row)) 0 (suc (row_number (frames_from (suc start) count) (frame_at row))) test
 number_of start (suc count) (suc place) row is inside =
     when_false (same_frame (frame_at start) (frame_at row)) 0 (suc (row_number (frames_from (suc start) count) (frame_at row)))
@@ -134,7 +134,7 @@ module _ (events : List Event) (event : Event) where
   order_old : (most : ℕ) (h : History) (rows : ℕ) → Placed events h rows → rows ≤ most → (at later node other row second : ℕ) (act next : log.Act)
       → at < later →
       later < length events → events_in (event ∷ events) at ≡ log.Acts node (frame_at row) act
-          → events_in (event ∷ events) later ≡ log.Acts other (frame_at second) next →
+      → events_in (event ∷ events) later ≡ log.Acts other (frame_at second) next →
       StandsBefore (serial_order h) (place_at most (event ∷ events) row at) (place_at most (event ∷ events) second later)
   order_old most h rows placed inside at later node other row second act next before within is is_next =
       let here = sym (agrees at (length events) (omega arith) (omega (arith, before, within))) ∙ is in
@@ -149,14 +149,14 @@ placed_tick events row h rows placed = record {
   acts = λ most inside other.
       placed.acts most inside other
       ∙ sym (acts_next (frames_to most) (events_in (world.Ticks row ∷ events)) (frame_at other) (length events) (log.Tick 0 (frame_at row))
-          (event_here (world.Ticks row) events)
+      (event_here (world.Ticks row) events)
       ∙ append-nil (acts_before (frames_to most) (events_in (world.Ticks row ∷ events)) (frame_at other) (length events))
       ∙ before_same events (world.Ticks row) most other (length events) (omega arith));
   order = λ most inside at later node other first second act next before within is is_next. elim (compare later (length events)) [
     | Less3 l ↦ order_old events (world.Ticks row) most h rows placed inside at later node other first second act next before l is is_next
     | Same3 same ↦
         absurd (no_tick row other (frame_at second) next
-            (sym (event_here (world.Ticks row) events) ∙ ap (events_in (world.Ticks row ∷ events)) (sym same) ∙ is_next))
+        (sym (event_here (world.Ticks row) events) ∙ ap (events_in (world.Ticks row ∷ events)) (sym same) ∙ is_next))
     | More3 l ↦ absurd (omega (arith, within))
   ];
 }
@@ -170,7 +170,7 @@ module _ (events : List Event) (row : ℕ) (act : world.Act) (h grown : History)
 
   now_acts : (most : ℕ) → next ≤ most → (other : ℕ) →
       acts_before (frames_to most) (events_in (event ∷ events)) (frame_at other) (suc (length events))
-          ≡ (row_at h other).acts ++ act_by (frames_to most) (frame_at other) (event_of event)
+      ≡ (row_at h other).acts ++ act_by (frames_to most) (frame_at other) (event_of event)
   now_acts most inside other =
       acts_next (frames_to most) (events_in (event ∷ events)) (frame_at other) (length events) (event_of event) (event_here event events)
       ∙ ap (λ i. i ++ act_by (frames_to most) (frame_at other) (event_of event))
@@ -182,7 +182,7 @@ module _ (events : List Event) (row : ℕ) (act : world.Act) (h grown : History)
     | Same3 same ↦ subst (λ i. (row_at grown i).acts ≡ acts_before (frames_to most) (events_in (event ∷ events)) (frame_at i) (suc (length events))) (sym same)
         (one.here ∙ ap (λ i. (row_at h row).acts ++ i ∷ []) (sym (told most inside))
         ∙ ap (λ i. (row_at h row).acts ++ i)
-            (sym (when_true (same_frame (frame_at row) (frame_at row)) (shown (frames_to most) (act_of act) ∷ []) [] (same_self (frame_at row))))
+        (sym (when_true (same_frame (frame_at row) (frame_at row)) (shown (frames_to most) (act_of act) ∷ []) [] (same_self (frame_at row))))
         ∙ sym (now_acts most inside row))
     | Less3 l ↦ far (λ same. absurd (omega (arith, l, same)))
     | More3 l ↦ far (λ same. absurd (omega (arith, l, same)))
@@ -233,7 +233,7 @@ module _ (events : List Event) (row : ℕ) (act : world.Act) (h grown : History)
         let stands = order_new most inside at node first done (omega (arith, before, same)) is in
         let its_row : StandsBefore (serial_order grown) (place_at most (event ∷ events) first at) (place_at most (event ∷ events) second (length events)) =
         subst (λ i. StandsBefore (serial_order grown) (place_at most (event ∷ events) first at) (place_at most (event ∷ events) i (length events)))
-            rows_same stands in
+        rows_same stands in
         subst (λ i. StandsBefore (serial_order grown) (place_at most (event ∷ events) first at) (place_at most (event ∷ events) second i)) (sym same) its_row
     | More3 l ↦ absurd (omega (arith, within))
   ]

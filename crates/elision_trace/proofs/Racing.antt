@@ -105,7 +105,7 @@ module _ (starts : Starts) (main : ℕ) where
   born_row s good at frame before (inl of_main) = (0, of_main, omega (arith, good.below))
   born_row s good at frame before (inr spawned) =
       let is_row = good.numbered frame
-          (record { at = spawned.at; node = spawned.node; parent = spawned.parent; before = omega (arith, before, spawned.before); is = spawned.is }) in
+      (record { at = spawned.at; node = spawned.node; parent = spawned.parent; before = omega (arith, before, spawned.before); is = spawned.is }) in
       (is_row.row, is_row.is, is_row.below)
 
   in_rows : (left : ℕ) (s : State) (e : End) → Rowed left s → e.world ≡ s.world → InRows e
@@ -158,7 +158,7 @@ module _ (most : Limits) (program : Program) (start : ℕ → ℤ) (budget : ℕ
   acts number frame is =
       let same : frame ≡ frame_at number = get_frame 0 end.world.rows number frame is ∙ ap frame_at (omega arith) in
       subst (λ i. (row_at (history_of program end) number).acts ≡ acts_before frames (events_in end.world.log) i (finish_of most program start budget))
-          (sym same)
+      (sym same)
       (rowed.placed.acts end.world.rows (omega arith) number)
 
   named : (at node : ℕ) (frame : FrameId) (act : log.Act) → at < finish_of most program start budget → events_in end.world.log at ≡ log.Acts node frame act →
@@ -174,7 +174,7 @@ module _ (most : Limits) (program : Program) (start : ℕ → ℤ) (budget : ℕ
 
   its_place : (row at : ℕ) (frame : FrameId) → frame ≡ frame_at row → row < end.world.rows →
       place_at end.world.rows end.world.log row at ≡ place_for (events_in end.world.log) (finish_of most program start budget) frames
-          (history_of program end) are_rows frame at
+      (history_of program end) are_rows frame at
   its_place row at frame same inside =
       ap (λ i. record { row = i; act = place_in frames (events_in end.world.log) (frame_at row) at }) (sym (number_in end.world.rows row inside))
       ∙ ap (λ i. record { row = row_number frames i; act = place_in frames (events_in end.world.log) i at }) (sym same)
@@ -195,4 +195,4 @@ module _ (most : Limits) (program : Program) (start : ℕ → ℤ) (budget : ℕ
       (place_for (events_in end.world.log) (finish_of most program start budget) frames (history_of program end) are_rows second later))
       (its_place first_row.0 at frame first_row.1 first_row.2)
       (subst (λ i. IsBefore (history_of program end) (place_at end.world.rows end.world.log first_row.0 at) i)
-          (its_place second_row.0 later second second_row.1 second_row.2) stands)
+      (its_place second_row.0 later second second_row.1 second_row.2) stands)

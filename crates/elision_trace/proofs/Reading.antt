@@ -61,16 +61,16 @@ module _ (memory : SharedMemory) where
           obtains_from (events_in events) at (events_in events at) node word value refl
           (obtains_by (events_in (event ∷ events)) at (events_in events at) node word value (agrees at l) obtains) in
           last_same memory (events_in events) (events_in (event ∷ events)) word at value (λ i below. agrees_below at i (omega arith) below)
-              (reads.reads node word at value old)
+          (reads.reads node word at value old)
       | Same3 same ↦
           let now : Obtains (events_in (event ∷ events)) node word (length events) value =
-              subst (λ i. Obtains (events_in (event ∷ events)) node word i value) same obtains in
+          subst (λ i. Obtains (events_in (event ∷ events)) node word i value) same obtains in
           let is = steps.obtains node word value (obtains_by (events_in (event ∷ events)) (length events) (event_of event) node word value
-              (event_here event events) now) in
+          (event_here event events) now) in
           let here : LastOf (events_in (event ∷ events)) memory word (length events) (before word) =
           last_same memory (events_in events) (events_in (event ∷ events)) word (length events) (before word) agrees (reads.holds word) in
           let its : LastOf (events_in (event ∷ events)) memory word (length events) value =
-              subst (λ i. LastOf (events_in (event ∷ events)) memory word (length events) i) (sym is) here in
+          subst (λ i. LastOf (events_in (event ∷ events)) memory word (length events) i) (sym is) here in
           subst (λ i. LastOf (events_in (event ∷ events)) memory word i value) (sym same) its
       | More3 l ↦ absurd (no_obtains node word value
           (obtains_by (events_in (event ∷ events)) at Nothing node word value (nothing_from (event ∷ events) at (omega arith)) obtains))
@@ -128,7 +128,7 @@ module _ (memory : SharedMemory) where
 
       left : (other : ℕ) → ((node : ℕ) × LeavesBy memory (event_of (world.Acts row (world.Write word value))) node other (with_word word value words other))
           ⊎ (((node : ℕ) (got : ℤ) → LeavesBy memory (event_of (world.Acts row (world.Write word value))) node other got → ⊥)
-              × (with_word word value words other ≡ words other))
+          × (with_word word value words other ≡ words other))
       left other = elim (either_bool (other == word)) [
         | inl is ↦ inl (
           0,

@@ -104,7 +104,7 @@ module _ (memory : SharedMemory) (sums : (old addend : ℤ) → memory.sum old a
         Reads memory (served starts request s).world.memory (served starts request s).world.log
     step_reads s (wanted.Read word) reads =
         more memory s.world.log (world.Acts s.running.row (world.Read word (s.world.memory word))) s.world.memory s.world.memory reads
-            (read_steps memory s.running.row word s.world.memory)
+        (read_steps memory s.running.row word s.world.memory)
     step_reads s (wanted.Write word value) reads =
         more memory s.world.log (world.Acts s.running.row (world.Write word value)) s.world.memory (with_word word value s.world.memory) reads
         (write_steps memory s.running.row word value s.world.memory)
@@ -113,7 +113,7 @@ module _ (memory : SharedMemory) (sums : (old addend : ℤ) → memory.sum old a
         (with_word word (sum_or_old (s.world.memory word) addend) s.world.memory) reads (add_steps s.running.row word addend s.world.memory)
     step_reads s (wanted.Print value) reads =
         more memory s.world.log (world.Acts s.running.row (world.Print value)) s.world.memory s.world.memory reads
-            (print_steps s.running.row value s.world.memory)
+        (print_steps s.running.row value s.world.memory)
     step_reads s (wanted.Spawn target procedure arguments) reads =
         more memory s.world.log (world.Acts s.running.row (world.Spawn s.world.rows procedure arguments)) s.world.memory s.world.memory reads
         (spawn_steps s.running.row s.world.rows procedure arguments s.world.memory)

@@ -123,7 +123,7 @@ module _ (starts : Starts) (main : ℕ) where
   module _ (s : State) (good : Good s) (event : world.Event) (answer : Answer) (plain : Plain event answer)
       (acts : by (frame_at s.running.row) (event_of event) ≡ true)
       (answers : Answers (so_far (event ∷ s.world.log)) (event_of event)
-          (want_at starts (so_far s.world.log) (length s.world.log) (frame_at s.running.row))) where
+      (want_at starts (so_far s.world.log) (length s.world.log) (frame_at s.running.row))) where
     plain_one : OneMore (so_far s.world.log) (so_far (event ∷ s.world.log)) (length s.world.log) (event_of event)
     plain_one = one_more starts main s.world.log event (λ node parent child is. absurd (plain.no_spawn node parent child is))
 
@@ -142,26 +142,26 @@ module _ (starts : Starts) (main : ℕ) where
         ≡ children (events_in s.world.log) (length s.world.log) (frame_at s.running.row)
     plain_block =
         block_moved starts main (so_far s.world.log) (so_far (event ∷ s.world.log)) (length s.world.log) (event_of event) good.sound plain_one
-            (frame_at s.running.row) plain_allowed
+        (frame_at s.running.row) plain_allowed
         ∙ plain.block (children (events_in s.world.log) (length s.world.log) (frame_at s.running.row))
 
     pub plain_step : (memory : ℕ → ℤ) → Good (with_answer s event answer s.running.kept memory)
     plain_step memory = record {
       sound =
           sound_more starts main (so_far s.world.log) (so_far (event ∷ s.world.log)) (length s.world.log) (event_of event) good.sound plain_one
-              (frame_at s.running.row) plain_allowed;
+          (frame_at s.running.row) plain_allowed;
       numbered = numbered_more starts main (so_far s.world.log) (so_far (event ∷ s.world.log)) (length s.world.log) (event_of event) good.sound plain_one
           s.world.rows s.world.rows (omega arith) good.numbered (λ node parent child is. absurd (plain.no_spawn node parent child is));
       below = good.below;
       top =
           subst (λ i. Stands starts (so_far (event ∷ s.world.log)) (suc (length s.world.log)) (answered answer s.running.kept s.running) (length s.waiting) i)
-              (sym plain_block)
+          (sym plain_block)
           (stands_acted starts main (so_far s.world.log) (so_far (event ∷ s.world.log)) (length s.world.log) (event_of event) good.sound plain_one s.running
-              (length s.waiting)
+          (length s.waiting)
           plain_allowed answer (plain.told _) (children (events_in s.world.log) (length s.world.log) (frame_at s.running.row)) good.top);
       waits =
           wait_still starts main (so_far s.world.log) (so_far (event ∷ s.world.log)) (length s.world.log)
-              (event_of event) good.sound plain_one s.running.row plain_allowed
+          (event_of event) good.sound plain_one s.running.row plain_allowed
           s.running.row s.waiting (omega arith) good.waits;
     }
 
@@ -190,25 +190,25 @@ module _ (starts : Starts) (main : ℕ) where
     sync_step = record {
       sound =
           sound_more starts main (so_far s.world.log) (so_far (sync ∷ s.world.log)) (length s.world.log) (event_of sync) good.sound sync_one
-              (frame_at s.running.row) sync_allowed;
+          (frame_at s.running.row) sync_allowed;
       numbered = numbered_more starts main (so_far s.world.log) (so_far (sync ∷ s.world.log)) (length s.world.log) (event_of sync) good.sound sync_one
           s.world.rows s.world.rows (omega arith) good.numbered (λ node parent child same. absurd (no_spawn_sync s.running.row node parent child same));
       below = good.below;
       top =
           subst (λ i. Stands starts (so_far (sync ∷ s.world.log)) (suc (length s.world.log)) (answered (wanted.Children s.running.kept) [] s.running)
-              (length s.waiting) i)
+          (length s.waiting) i)
           (sym (block_moved starts main (so_far s.world.log) (so_far (sync ∷ s.world.log)) (length s.world.log) (event_of sync) good.sound sync_one
-              (frame_at s.running.row) sync_allowed
+          (frame_at s.running.row) sync_allowed
           ∙ sync_block s.running.row (children (events_in s.world.log) (length s.world.log) (frame_at s.running.row))))
           (stands_synced starts main (so_far s.world.log) (so_far (sync ∷ s.world.log)) (length s.world.log) (event_of sync) good.sound sync_one s.running
-              (length s.waiting)
+          (length s.waiting)
           sync_allowed (wanted.Children s.running.kept)
           (sync_told s.running.row (deposits (gives starts (so_far s.world.log) (length s.world.log))
-              (children (events_in s.world.log) (length s.world.log) (frame_at s.running.row)))
+          (children (events_in s.world.log) (length s.world.log) (frame_at s.running.row)))
           ∙ ap (λ i. wanted.Children i) (sym good.top.kept))
           (children (events_in s.world.log) (length s.world.log) (frame_at s.running.row)) good.top);
       waits =
           wait_still starts main (so_far s.world.log) (so_far (sync ∷ s.world.log)) (length s.world.log)
-              (event_of sync) good.sound sync_one s.running.row sync_allowed
+          (event_of sync) good.sound sync_one s.running.row sync_allowed
           s.running.row s.waiting (omega arith) good.waits;
     }

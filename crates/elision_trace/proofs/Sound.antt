@@ -51,7 +51,7 @@ spawns target instance = Some (Asks (wanted.Spawn target instance.procedure inst
 -- an item answers the same want where its child is the same
 answers_on : (trace more : Trace) (event : Event) (want : Option Want) →
     ((node : ℕ) (parent child : FrameId) → event ≡ Acts node parent (Spawn child)
-        → (more.instance child ≡ trace.instance child) × (more.target child ≡ trace.target child)) →
+    → (more.instance child ≡ trace.instance child) × (more.target child ≡ trace.target child)) →
     Answers trace event want → Answers more event want
 answers_on trace more (Acts node frame (Spawn child)) want same answers =
     let both = same node frame child refl in
@@ -117,7 +117,7 @@ module _ (starts : Starts) (main : ℕ) (trace more : Trace) (now : ℕ) (event 
       subst (λ i. Answers more (trace.events at) i) (sym (wants_before at frame before (sound.born at frame is)))
       (answers_on trace more (trace.events at) (want_at starts trace at frame)
       (λ node parent child spawns. (let spawned : SpawnedBefore trace.events now child =
-          record { at = at; node = node; parent = parent; before = before; is = spawns } in
+      record { at = at; node = node; parent = parent; before = before; is = spawns } in
       (one.extends.instance child spawned, one.extends.target child spawned)))
       (sound.wants at frame is))
 
@@ -141,9 +141,9 @@ module _ (starts : Starts) (main : ℕ) (trace more : Trace) (now : ℕ) (event 
           want_same starts trace more now one.extends frame (instance_born frame allowed.born) in
           let answers : Answers more event (want_at starts more now frame) = subst (λ i. Answers more event i) (sym want) allowed.answers in
           let there : Answers more (more.events now) (want_at starts more now frame) =
-              subst (λ i. Answers more i (want_at starts more now frame)) (sym one.here) answers in
+          subst (λ i. Answers more i (want_at starts more now frame)) (sym one.here) answers in
           let actor_there : Answers more (more.events now) (want_at starts more now actor) =
-              subst (λ i. Answers more (more.events now) (want_at starts more now i)) (sym new.1) there in
+          subst (λ i. Answers more (more.events now) (want_at starts more now i)) (sym new.1) there in
           subst (λ i. Answers more (more.events i) (want_at starts more i actor)) (sym new.0) actor_there
     ]
 
@@ -156,9 +156,9 @@ module _ (starts : Starts) (main : ℕ) (trace more : Trace) (now : ℕ) (event 
       | inl old ↦
           let spawned : SpawnedBefore trace.events now child = record { at = at; node = node; parent = actor; before = old.0; is = old.1 } in
           let born = born_more trace at now actor (let before = old.0 in omega arith)
-              (sound.born at actor (by_acts node actor (Spawn child) (trace.events at) old.1)) in
+          (sound.born at actor (by_acts node actor (Spawn child) (trace.events at) old.1)) in
           ap (λ i. i.depth) (one.extends.instance child spawned) ∙ sound.deeper at node actor child old.1
-              ∙ ap (λ i. suc (i.depth)) (sym (instance_born actor born))
+          ∙ ap (λ i. suc (i.depth)) (sym (instance_born actor born))
       | inr new ↦
           let born : Born trace.events now actor = subst (λ i. Born trace.events now i) (sym (acts_by node actor (Spawn child) new.1)) allowed.born in
           allowed.deeper node actor child new.1 ∙ ap (λ i. suc (i.depth)) (sym (instance_born actor born))
@@ -208,7 +208,7 @@ module _ (starts : Starts) (main : ℕ) (trace more : Trace) (now : ℕ) (event 
           let same = new.0 in
           joined_there at actor child (omega arith) on
           (subst (λ i. IsOn child (children trace.events i actor) → (value : ℤ) × (want_at starts trace i child ≡ Some (Returns value))) (sym same)
-              (allowed.joined node actor child new.1))
+          (allowed.joined node actor child new.1))
     ]
 
     -- so the longer trace is sound

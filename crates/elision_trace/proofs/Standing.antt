@@ -123,13 +123,13 @@ module _ (starts : Starts) (main : ℕ) (trace more : Trace) (now : ℕ) (event 
     given_now =
         ap (deposits (gives starts more now)) (block_same starts trace more now one.extends runner)
         ∙ deposits_same (gives starts more now) (gives starts trace now) (children trace.events now runner)
-            (λ child on. given_child child (child_spawned trace now runner child on))
+        (λ child on. given_child child (child_spawned trace now runner child on))
       where
         given_child : (child : FrameId) → SpawnedBefore trace.events now child → gives starts more now child ≡ gives starts trace now child
         given_child child spawned =
             ap (λ i. as_deposit i (value_in (want_at starts more now child))) (one.extends.target child spawned)
             ∙ ap (λ i. as_deposit (trace.target child) (value_in (serve.now i)))
-                (state_same starts trace more now one.extends child (one.extends.instance child spawned))
+            (state_same starts trace more now one.extends child (one.extends.instance child spawned))
 
     pub state_moved : state_at starts more (suc now) runner
         ≡ after (state_at starts trace now runner) (answer_of (reply_to event (given starts trace now runner)))

@@ -117,17 +117,17 @@ some_same is = cc
 module _ (most : Limits) (program : Program) (parted : IsParted program) (depth procedure : ℕ) (arguments : List ℤ) where
   cilk_leaves : (count : ℕ) (function : Function) → slice_get program.functions procedure ≡ Some function → function.«cilk» ≡ true →
       Leaves true BothClean clean_kept most program depth (no_claim {A = IsParted program}) false (slice_get program.functions procedure) count
-          (λ v. ends (Returns v)) (λ v. ends (Returns v))
+      (λ v. ends (Returns v)) (λ v. ends (Returns v))
   cilk_leaves count function is cilk =
       subst (λ f. Leaves true BothClean clean_kept most program depth (no_claim {A = IsParted program}) false f count (λ v. ends (Returns v))
-          (λ v. ends (Returns v))) (sym is)
+      (λ v. ends (Returns v))) (sym is)
       (λ v. subst (λ c. BothClean (not c) count (ends (Returns v)) (ends (Returns v))) (sym cilk) (clean_kept.returns count v))
 
   cilk_clean : (bound : ℕ) (function : Function) → slice_get program.functions procedure ≡ Some function → function.«cilk» ≡ true →
       Clean bound false (instance most program depth bound procedure arguments)
   cilk_clean bound function is cilk =
       instance_at true BothClean clean_kept most program depth (no_claim {A = IsParted program}) bound bound bound (omega arith)
-          (omega arith) procedure arguments
+      (omega arith) procedure arguments
       (λ f is_f none. no_claim {A = IsPlain program f.body} none) (cilk_leaves bound function is cilk)
 
   plain_clean : (bound : ℕ) → CallsPlain program procedure → Clean bound false (instance most program depth bound procedure arguments)
@@ -156,7 +156,7 @@ module _ (most : Limits) (program : Program) (parted : IsParted program) (depth 
 
 alike_at : (Clean' : Bool → Meaning → Type 0) (want : Option Want) (out : Bool) (goes other : Meaning) →
     ((answer : Answer) (flag : Bool) → Clean' flag (after goes answer) → Clean' flag (after other answer)) → CleanAt Clean' want out goes
-        → CleanAt Clean' want out other
+    → CleanAt Clean' want out other
 alike_at Clean' None out goes other on clean = clean
 alike_at Clean' (Some (Asks request)) out goes other on clean = λ answer good. on answer (out_after request out) (clean answer good)
 alike_at Clean' (Some (Returns value)) out goes other on clean = clean
