@@ -81,8 +81,11 @@ module _ (cluster : Cluster) (turns : List WholeTurn) (lawful : IsLawful cluster
 
   start : Accounted cluster program stands trace 0 []
   start =
-      record { nodes = λ number less. node_start number
-      (eqb number 0) refl; carries = λ place message was none. absurd was; says = λ place message was. absurd was }
+      record {
+        nodes = λ number less. node_start number (eqb number 0) refl;
+        carries = λ place message was none. absurd was;
+        says = λ place message was. absurd was;
+      }
 
   -- ---- at each position
 

@@ -50,6 +50,6 @@ module _ (cluster : Cluster) (turns : List WholeTurn) (lawful : IsLawful cluster
         ∙ sym (untouched_state cluster program stands trace (suc position) child none) in (
           runs.0,
           account_first cluster program stands trace (suc position) child
-          (starts cluster.code (suc (trace.instance frame).depth) runs.0.procedure runs.0.arguments) goes
+              (starts cluster.code (suc (trace.instance frame).depth) runs.0.procedure runs.0.arguments) goes
               (untouched_children cluster program stands trace (suc position) child none),
         )

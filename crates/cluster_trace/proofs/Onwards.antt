@@ -223,8 +223,11 @@ module _ (cluster : Cluster) (turns : List WholeTurn) (lawful : IsLawful cluster
                 (all_each Not (λ id goes. none id) (lead (ahead number later) each.stack))
                 (all_each Not (λ id goes. none id) each.ready) (all_parked Not (λ id goes. none id) cluster.code each.parked) now))
                 aheads frames_there
-                (λ message is. let both = sent message is in (body_same cluster turns lawful program stands position moved found answers message.body
-                (all_body Not (λ id goes. none id) cluster.code message.body) both.0, says_same cluster turns lawful program stands position moved found answers message.body both.1))
+                (λ message is. let both = sent message is in (
+                  body_same cluster turns lawful program stands position moved found answers message.body
+                      (all_body Not (λ id goes. none id) cluster.code message.body) both.0,
+                  says_same cluster turns lawful program stands position moved found answers message.body both.1,
+                ))
                 it,
           )
 
@@ -282,7 +285,7 @@ module _ (cluster : Cluster) (turns : List WholeTurn) (lawful : IsLawful cluster
         let stack = act_stack cluster turns lawful program stands position moved found answers answered_before frame index done refl may.life first.0 may.acts may.makes all rest in (
           answers,
           item_next cluster turns lawful program stands position moved found answers number (less event found) may.life.id only some
-          (after_act node done (live frames.stack))
+              (after_act node done (live frames.stack))
               (frames_now event found)
               (lead_none_stack position moved (ahead number earlier) (after_act node done (live frames.stack)) led
               (subst (λ list. Stacked cluster program stands trace (suc position) (moved ∷ earlier) [] (after_act node done list)) (sym first.1) stack))
@@ -315,7 +318,7 @@ module _ (cluster : Cluster) (turns : List WholeTurn) (lawful : IsLawful cluster
         ) in (
           answers,
           item_next cluster turns lawful program stands position moved found answers number (less event found) may.life.id only some
-          (with_first (answered Done) (live frames.stack))
+              (with_first (answered Done) (live frames.stack))
               (frames_now event found)
               (lead_none_stack position moved (ahead number earlier) (with_first (answered Done) (live frames.stack)) led
               (subst (λ list. Stacked cluster program stands trace (suc position) (moved ∷ earlier) [] (with_first (answered Done) list)) (sym first.1) stack))
@@ -475,9 +478,11 @@ module _ (cluster : Cluster) (turns : List WholeTurn) (lawful : IsLawful cluster
           (subst Keeps (sym is) keeps) (λ other apart. refl)
           (λ other same. subst (λ (it : Msg). BodyAccount cluster program stands trace position earlier it.body
           × Says cluster program stands trace position earlier it.body)
-          (same_message message other same)
-          (subst (BodyAccount cluster program stands trace position earlier) (sym is) account, subst (Says cluster program stands trace position earlier)
-          (sym is) says)) it
+          (same_message message other same) (
+            subst (BodyAccount cluster program stands trace position earlier) (sym is) account,
+            subst (Says cluster program stands trace position earlier)
+                (sym is) says,
+          )) it
 
       abbrev before_so : Stepped cluster earlier
       before_so = (stepped sending found).0

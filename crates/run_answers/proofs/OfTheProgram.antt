@@ -21,6 +21,6 @@ runs_are_of_the_program cluster program log frames history stands parted run its
     let of_them = of_turns cluster log run frames history its in (
       is_history_of cluster program turns run.lawful stands parted frames history of_them,
       λ has. (
-      let main = comes_to cluster program log Finished stands parted run has in
-      is_complete_of cluster program turns run.lawful stands parted frames history of_them main.0 main.1),
+          let main = comes_to cluster program log Finished stands parted run has in
+          is_complete_of cluster program turns run.lawful stands parted frames history of_them main.0 main.1),
     )
