@@ -13,7 +13,8 @@ use Rattle.span_tree.specs.Program.{Starts}
 abbrev pub HasEnd : List Turn → NodeEnd → Type 0
 HasEnd log end = (earlier : List Turn) × (turn : Turn) × (log ≡ earlier ++ turn ∷ []) × (turn.end ≡ Some end)
 
--- The execution has come to this end at `now`: `main` has returned, some frame traps so, or some frame asks for more.
+-- What the execution has come to at `now` where it ends so: `main` has returned, some frame traps so, or some frame asks for more. How many ticks
+-- were made is no matter here.
 abbrev pub ComesTo : Starts → Trace → ℕ → NodeEnd → Type 0
 ComesTo starts trace now Finished = (value : ℤ) × (want_at starts trace now main_id ≡ Some (Returns value))
 ComesTo starts trace now (Trapped kind) = (frame : FrameId) × Born trace.events now frame × (want_at starts trace now frame ≡ Some (Traps kind))

@@ -45,7 +45,7 @@ instance_on (Sent message) earlier frame = earlier frame
 instance_on (Took message) earlier frame = earlier frame
 instance_on (Ended end) earlier frame = earlier frame
 
--- What a frame runs, by its Spawn. What was not spawned is `main`.
+-- What a frame runs, by its Spawn. What was not spawned runs as `main` does.
 abbrev pub instance_of : Cluster → Course → FrameId → Instance
 instance_of cluster [] frame = main_instance cluster
 instance_of cluster (moved ∷ course) frame = instance_on moved.event (instance_of cluster course) frame

@@ -1,4 +1,4 @@
-//! Every run of the written cluster is an execution of its program: it answers each frame as the program's meaning says.
+//! Every run of the written cluster is an execution of its program: each of its items is one that its frame wants by the program's meaning.
 #![tactic(auto)]
 
 ghost use Rattle.cluster_trace.specs.Laws.{RunsComeToEnds, RunsObey};

@@ -1,4 +1,4 @@
--- A location consistent run of a program whose serial execution has no race is that execution.
+-- A location consistent run of a program whose serial execution finishes without race goes as that does.
 use Rattle.std.specs.Prelude.{◌≡◌, ℕ, ◌<◌, ◌≤◌, ℤ, Some, None}
 use Rattle.backer_order.specs.Dag.{Consistent}
 use Rattle.backer_order.specs.Log.{main_id, SharedMemory}

@@ -1,5 +1,5 @@
-//! Executions without race have one answer: a location consistent run of a program goes as its serial execution does, where that has no
-//! race.
+//! Executions without race have one answer: a location consistent run of a program goes as its serial execution does, where that finishes
+//! without race.
 //!
 //! An execution is a trace: its events, and what each frame runs. What a frame is told, and so what it wants next, is a function of the
 //! trace, for runs of a cluster and for serial executions alike.

@@ -17,7 +17,7 @@ use Rattle.cluster_order.proofs.Growing.{Grown, grown_items, grown_posts, grown_
 use Rattle.one_node.specs.Alone.{EndsAs}
 use Rattle.cluster_trace.proofs.Logs.{ended_at, ends_last, log_is}
 use Rattle.cluster_trace.specs.Instances.{trace_of}
-use Rattle.lone_cluster.specs.Laws.{course_in, takes_up, SendsNothing, OneNodeSendsNothing, OneNodeRunsDepthFirst, OneNodeEnds}
+use Rattle.lone_cluster.specs.Laws.{course_in, takes_up, IsByItself, OneNodeActsByItself, OneNodeRunsDepthFirst, OneNodeEnds}
 use Rattle.lone_cluster.proofs.Silent.{OwnItem, Silent, silent_front, number_here, lone}
 use Rattle.lone_cluster.proofs.Runs.{lone_runs, lone_ends}
 
@@ -59,7 +59,7 @@ latest_last : (turn : WholeTurn) (older : List WholeTurn) → map logged (revers
 latest_last turn older = ap (map logged) (reverse-append (turn ∷ []) older) ∙ map-append logged (reverse older) (turn ∷ [])
 
 module _ (cluster : Cluster) (alone : cluster.config.nodes ≡ 1) where
-  turn_silent : (turn : WholeTurn) (older : List WholeTurn) → IsLawful cluster (turn ∷ older) → SendsNothing (logged turn)
+  turn_silent : (turn : WholeTurn) (older : List WholeTurn) → IsLawful cluster (turn ∷ older) → IsByItself (logged turn)
   unfolding course_of
   turn_silent turn older lawful =
       let items = with_items turn.node turn.items (course_of older) in
@@ -79,17 +79,17 @@ module _ (cluster : Cluster) (alone : cluster.config.nodes ≡ 1) where
         stays = all_stay turn.node turn.items (course_of older) done;
       }
 
-  all_silent : (turns : List WholeTurn) → IsLawful cluster turns → All SendsNothing (map logged (reverse turns))
-  all_silent [] lawful = All-nil SendsNothing
+  all_silent : (turns : List WholeTurn) → IsLawful cluster turns → All IsByItself (map logged (reverse turns))
+  all_silent [] lawful = All-nil IsByItself
   all_silent (turn ∷ older) lawful =
-      subst (All SendsNothing) (sym (latest_last turn older))
-      (All-append SendsNothing (map logged (reverse older)) (logged turn ∷ []) (all_silent older lawful.0)
-      (All-cons SendsNothing (logged turn) [] (turn_silent turn older lawful) (All-nil SendsNothing)))
+      subst (All IsByItself) (sym (latest_last turn older))
+      (All-append IsByItself (map logged (reverse older)) (logged turn ∷ []) (all_silent older lawful.0)
+      (All-cons IsByItself (logged turn) [] (turn_silent turn older lawful) (All-nil IsByItself)))
 
 -- On one node nothing is sent.
-pub one_node_sends_nothing : OneNodeSendsNothing
-one_node_sends_nothing cluster log turn alone run among =
-    All-contains SendsNothing log turn (subst (All SendsNothing) (sym (log_is cluster log run)) (all_silent cluster alone (reverse run.turns) run.lawful)) among
+pub one_node_acts_by_itself : OneNodeActsByItself
+one_node_acts_by_itself cluster log turn alone run among =
+    All-contains IsByItself log turn (subst (All IsByItself) (sym (log_is cluster log run)) (all_silent cluster alone (reverse run.turns) run.lawful)) among
 
 -- A run on one node goes depth first.
 pub one_node_runs_depth_first : OneNodeRunsDepthFirst

@@ -21,7 +21,7 @@ takes_up (TakeUp frame) = true
 takes_up _ = false
 
 -- Node 0 does all of the turn by itself: no message is posted or taken, and no frame is taken up.
-pub record SendsNothing (turn : Turn) : Type 0 where
+pub record IsByItself (turn : Turn) : Type 0 where
   pub node : turn.node ≡ 0
   pub posts : turn.posts ≡ []
   pub took : turn.took ≡ None
@@ -31,9 +31,9 @@ pub record SendsNothing (turn : Turn) : Type 0 where
 abbrev pub course_in : (cluster : Cluster) (log : List Turn) → IsRun cluster log → Course
 course_in cluster log run = course_of (reverse run.turns)
 
--- On one node each turn sends nothing.
-abbrev pub OneNodeSendsNothing : Type 0
-OneNodeSendsNothing = (cluster : Cluster) (log : List Turn) (turn : Turn) → cluster.config.nodes ≡ 1 → IsRun cluster log → Contains log turn → SendsNothing turn
+-- On one node, node 0 does each turn by itself.
+abbrev pub OneNodeActsByItself : Type 0
+OneNodeActsByItself = (cluster : Cluster) (log : List Turn) (turn : Turn) → cluster.config.nodes ≡ 1 → IsRun cluster log → Contains log turn → IsByItself turn
 
 -- A run on one node goes depth first, within the budget, and each word is accessed by one node alone.
 abbrev pub OneNodeRunsDepthFirst : Type 0

@@ -3,4 +3,4 @@
 
 mod laws;
 
-pub use laws::{one_node_ends, one_node_runs_depth_first, one_node_sends_nothing};
+pub use laws::{one_node_acts_by_itself, one_node_ends, one_node_runs_depth_first};

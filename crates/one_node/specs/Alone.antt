@@ -1,4 +1,4 @@
--- A run depth first, in which each word is accessed by one node alone, is the elision, races or not.
+-- A run depth first that has come to an end, and in which each word is accessed by one node alone, is the elision, races or not.
 use Rattle.std.specs.Prelude.{◌≡◌, ℕ, ◌<◌, ℤ, true, Some}
 use Rattle.backer_order.specs.Log.{main_id, SharedMemory}
 use Rattle.backer_order.specs.Moments.{IsAccess}

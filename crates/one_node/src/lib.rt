@@ -1,4 +1,4 @@
-//! What runs depth first on one node is the elision, races or not.
+//! What runs depth first on one node to an end is the elision, races or not.
 #![tactic(auto)]
 
 ghost use Rattle.one_node.specs.Alone.{AloneSerial};

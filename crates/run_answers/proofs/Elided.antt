@@ -32,7 +32,7 @@ use Rattle.run_memory.proofs.RunMemory.{run_memory, memory_there}
 use Rattle.word_order.specs.Consistency.{places_by}
 use Rattle.run_ticks.specs.Laws.{items_in, ticks_counted}
 use Rattle.cluster_trace.specs.Ends.{HasEnd}
-use Rattle.run_answers.specs.Laws.{IsElision, elision_of}
+use Rattle.run_answers.specs.Laws.{AnswersAs, elision_of}
 use Rattle.run_answers.proofs.Executions.{begins, obeys_it, rows_of, runs_as}
 use Rattle.run_answers.proofs.OfTheProgram.{of_turns}
 
@@ -92,8 +92,8 @@ module _ (cluster : Cluster) (program : Program) (log : List Turn) (run : IsRun 
     ticks_are = goes.ticks ∙ goes.one.ticks ∙ (elision_ticks limits program (start_words_of cluster.code) budget).1
 
     -- So it answers as the elision.
-    pub is_elision : HasEnd log elision.end → IsElision cluster program log run elision
-    is_elision ends = record {
+    pub answers_as : HasEnd log elision.end → AnswersAs cluster program log run elision
+    answers_as ends = record {
       ends = ends;
       history = history_is;
       output = λ frames history its. ap output_of (history_is frames history its) ∙ (acts_in_order limits program (start_words_of cluster.code) budget).2;

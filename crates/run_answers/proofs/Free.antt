@@ -29,8 +29,8 @@ use Rattle.elision_trace.proofs.NoRace.{elision_is_serial}
 use Rattle.trace_rows.proofs.Races.{no_race}
 use Rattle.run_ticks.proofs.Runs.{returned_ticks, spent_ticks}
 use Rattle.cluster_trace.specs.Ends.{HasEnd}
-use Rattle.run_answers.specs.Laws.{EndsAsElision, RaceFreeRunsEndAsElision, elision_of}
-use Rattle.run_answers.proofs.Elided.{trace, serial, finish, GoesThrough, is_elision}
+use Rattle.run_answers.specs.Laws.{AgreesWith, RaceFreeProgramsHaveOneAnswer, elision_of}
+use Rattle.run_answers.proofs.Elided.{trace, serial, finish, GoesThrough, answers_as}
 use Rattle.run_answers.proofs.Executions.{begins, comes_to, obeys_it, runs_program, rows_of}
 use Rattle.run_answers.proofs.OfTheProgram.{of_turns}
 
@@ -90,14 +90,14 @@ module _ (cluster : Cluster) (program : Program) (log : List Turn) (run : IsRun 
       (obeys_it cluster program turns run.lawful stands parted) now frames history
       (rows_of cluster program turns run.lawful stands parted frames history (of_turns cluster log run frames history its)) determined.free
 
-  pub ends_as_elision : EndsAsElision cluster program log run elision
-  ends_as_elision = record {
+  pub agrees : AgreesWith cluster program log run elision
+  agrees = record {
     no_trap = no_trap;
     spent = spent;
-    finished = λ has. is_elision cluster program log run stands parted budget (goes_through has) (subst (HasEnd log) (sym finished) has);
+    finished = λ has. answers_as cluster program log run stands parted budget (goes_through has) (subst (HasEnd log) (sym finished) has);
     no_race = no_race_here;
   }
 
-pub race_free_runs_end_as_elision : RaceFreeRunsEndAsElision
-race_free_runs_end_as_elision cluster program log budget stands parted run finished free =
-    ends_as_elision cluster program log run stands parted budget finished free
+pub race_free_programs_have_one_answer : RaceFreeProgramsHaveOneAnswer
+race_free_programs_have_one_answer cluster program log budget stands parted run finished free =
+    agrees cluster program log run stands parted budget finished free

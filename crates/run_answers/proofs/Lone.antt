@@ -21,8 +21,8 @@ use Rattle.run_ticks.proofs.Runs.{run_ticks}
 use Rattle.one_node.specs.Alone.{OneNode, EndsAs, SameRun}
 use Rattle.one_node.proofs.Alone.{alone_serial}
 use Rattle.elision_alone.proofs.Alone.{elision_is_alone}
-use Rattle.run_answers.specs.Laws.{IsElision, OneNodeRunsAreElisions, elision_of}
-use Rattle.run_answers.proofs.Elided.{trace, serial, finish, GoesThrough, is_elision}
+use Rattle.run_answers.specs.Laws.{AnswersAs, OneNodeRunsAnswerAsElisions, elision_of}
+use Rattle.run_answers.proofs.Elided.{trace, serial, finish, GoesThrough, answers_as}
 use Rattle.run_answers.proofs.Executions.{begins}
 
 -- no Add is under way, since nothing is posted
@@ -78,8 +78,8 @@ module _ (cluster : Cluster) (program : Program) (log : List Turn) (run : IsRun 
           let none = none_posted (course_of turns) (lone cluster alone (course_of turns) (lawful_stepped cluster turns run.lawful)).0 in
           omega (arith, all, none)
 
-  pub is_the_elision : IsElision cluster program log run (elision_of cluster program budget)
-  is_the_elision = is_elision cluster program log run stands parted budget goes_through (subst (HasEnd log) same_run.end_is has)
+  pub answers_so : AnswersAs cluster program log run (elision_of cluster program budget)
+  answers_so = answers_as cluster program log run stands parted budget goes_through (subst (HasEnd log) same_run.end_is has)
 
-pub one_node_runs_are_elisions : OneNodeRunsAreElisions
-one_node_runs_are_elisions cluster program log end stands parted run alone has = is_the_elision cluster program log run stands parted alone end has
+pub one_node_runs_answer_as_elisions : OneNodeRunsAnswerAsElisions
+one_node_runs_answer_as_elisions cluster program log end stands parted run alone has = answers_so cluster program log run stands parted alone end has

@@ -29,23 +29,24 @@ use Rattle.word_order.specs.Consistency.{places_by}
 abbrev pub elision_of : Cluster → Program → ℕ → End
 elision_of cluster program budget = elision program (start_words_of cluster.code) budget
 
--- The run answers as this elision: it ends so, each of its histories is the elision's, with its output, each word holds in its home order at
--- last what the elision leaves in it, and the ticks of the nodes are together those of the elision.
-pub record IsElision (cluster : Cluster) (program : Program) (log : List Turn) (run : IsRun cluster log) (elision : End) : Type 0 where
-  pub ends : HasEnd log elision.end
-  pub history : (frames : List FrameId) (history : History) → IsHistoryOf cluster.code.main log frames history → history ≡ history_of program elision
-  pub output : (frames : List FrameId) (history : History) → IsHistoryOf cluster.code.main log frames history → output_of history ≡ world.output_of elision
+-- The run answers as this elision: it ends so, each of its histories is the elision's own (`history_of`), with its output, the last access of each
+-- word in its home order leaves what the elision leaves there, and the ticks of the nodes are together those of the elision. Each run has a
+-- history, and each word a home order, by the laws of `run_history` and `word_order`.
+pub record AnswersAs (cluster : Cluster) (program : Program) (log : List Turn) (run : IsRun cluster log) (serial : End) : Type 0 where
+  pub ends : HasEnd log serial.end
+  pub history : (frames : List FrameId) (history : History) → IsHistoryOf cluster.code.main log frames history → history ≡ history_of program serial
+  pub output : (frames : List FrameId) (history : History) → IsHistoryOf cluster.code.main log frames history → output_of history ≡ world.output_of serial
   pub words : (frames : List FrameId) (history : History) (word : ℕ) (order : List Listed) → IsHistoryOf cluster.code.main log frames history →
       IsHomeOrder cluster (course_of (reverse run.turns)) word order →
-      left_in_order (start_words_of cluster.code) history (places_by frames (course_of (reverse run.turns)) order) word ≡ elision.world.memory word
-  pub ticks : sum (counts_of cluster.config.nodes log).ticks ≡ ticks_of elision
+      left_in_order (start_words_of cluster.code) history (places_by frames (course_of (reverse run.turns)) order) word ≡ serial.world.memory word
+  pub ticks : sum (counts_of cluster.config.nodes log).ticks ≡ ticks_of serial
 
--- Where the elision finishes without race, a run of the cluster ends as it does: no run traps, none whose nodes may each make the elision's
--- ticks ends for want of one, and each finished one answers as the elision. The run has no race either, ended or not.
-pub record EndsAsElision (cluster : Cluster) (program : Program) (log : List Turn) (run : IsRun cluster log) (elision : End) : Type 0 where
+-- The run does not trap, it does not end for want of a tick where each node may make the elision's ticks, and where it finished it answers as the
+-- elision. Its histories have no race, whether it ended or not.
+pub record AgreesWith (cluster : Cluster) (program : Program) (log : List Turn) (run : IsRun cluster log) (serial : End) : Type 0 where
   pub no_trap : (kind : TrapKind) → ¬ HasEnd log (Trapped kind)
-  pub spent : HasEnd log Budget → cluster.config.budget < ticks_of elision
-  pub finished : HasEnd log Finished → IsElision cluster program log run elision
+  pub spent : HasEnd log Budget → cluster.config.budget < ticks_of serial
+  pub finished : HasEnd log Finished → AnswersAs cluster program log run serial
   pub no_race : (frames : List FrameId) (history : History) → IsHistoryOf cluster.code.main log frames history → HasNoRace history
 
 -- Each history of a run is one of its program, and a complete one where the run finished.
@@ -55,15 +56,15 @@ RunsAreOfTheProgram =
     IsRun cluster log → IsHistoryOf cluster.code.main log frames history →
     of_program.IsHistoryOf program history × (HasEnd log Finished → of_program.IsCompleteOf program history)
 
--- Where the elision finishes, within whatever budget, and its history has no race, each run ends as it does.
-abbrev pub RaceFreeRunsEndAsElision : Type 0
-RaceFreeRunsEndAsElision =
+-- Where the elision finishes, within whatever budget, and its history has no race, each run agrees with it.
+abbrev pub RaceFreeProgramsHaveOneAnswer : Type 0
+RaceFreeProgramsHaveOneAnswer =
     (cluster : Cluster) (program : Program) (log : List Turn) (budget : ℕ) → StandsFor cluster.code program → IsParted program → (run : IsRun cluster log) →
     (elision_of cluster program budget).end ≡ Finished → HasNoRace (history_of program (elision_of cluster program budget)) →
-    EndsAsElision cluster program log run (elision_of cluster program budget)
+    AgreesWith cluster program log run (elision_of cluster program budget)
 
--- On one node a run that ended is the elision of the node's own budget, however that ends, with races too.
-abbrev pub OneNodeRunsAreElisions : Type 0
-OneNodeRunsAreElisions =
+-- On one node a run that ended answers as the elision of the node's own budget, however that ends, with races too.
+abbrev pub OneNodeRunsAnswerAsElisions : Type 0
+OneNodeRunsAnswerAsElisions =
     (cluster : Cluster) (program : Program) (log : List Turn) (end : NodeEnd) → StandsFor cluster.code program → IsParted program → (run : IsRun cluster log) →
-    cluster.config.nodes ≡ 1 → HasEnd log end → IsElision cluster program log run (elision_of cluster program cluster.config.budget)
+    cluster.config.nodes ≡ 1 → HasEnd log end → AnswersAs cluster program log run (elision_of cluster program cluster.config.budget)

@@ -39,7 +39,7 @@ ReturnedTicks =
     want_at (starts cluster.code) (trace_of cluster (course_of (reverse run.turns))) (length (course_of (reverse run.turns))) main_id ≡ Some (Returns value) →
     ticks_counted cluster log ≡ items_in cluster (course_of (reverse run.turns))
 
--- Where a run ended with a spent budget, a node has made all of it, and each of its ticks is an item.
+-- Where a run ended with a spent budget, its trace has at least as many items as that, which is what one node may make.
 abbrev pub SpentTicks : Type 0
 SpentTicks =
     (cluster : Cluster) (log : List Turn) (run : IsRun cluster log) → HasEnd log Budget → cluster.config.budget ≤ items_in cluster (course_of (reverse run.turns))

@@ -13,7 +13,8 @@ pub fn returned_ticks()
     ensures { ReturnedTicks }
 {}
 
-/// Where a run ended with a spent budget, a node waits for nothing and has made all its ticks, so there are as many items at least.
+/// Where a run ended with a spent budget, there are at least as many items: the node that ended has made all its ticks, and waits for nothing, so each
+/// of them is an item.
 pub fn spent_ticks()
     ensures { SpentTicks }
 {}
