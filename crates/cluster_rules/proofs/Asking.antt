@@ -10,10 +10,9 @@ use Rattle.page_messages.specs.declared.message.Body.TheVariants as body
 use Rattle.page_messages.specs.declared.log.Item.{Item}
 use Rattle.page_messages.specs.declared.log.Item.TheVariants as item
 use Rattle.page_messages.specs.declared.log.PostAt.{PostAt}
-use Rattle.cluster_rules.specs.Walking.{rest_of}
 use Rattle.cluster_rules.specs.Turns.{Event, Did, Sent, Took, Ended, Past}
 use Rattle.cluster_rules.specs.Sendings.{ForAdded, adds_in, tells_in, awaits}
-use Rattle.cluster_rules.specs.Home.{replies_in, owed_adds, owed_olds, after_served, told_by}
+use Rattle.cluster_rules.specs.Home.{replies_in, owed_adds, owed_olds, told_by}
 use Rattle.cluster_rules.specs.Lives.{same_frame, live}
 use Rattle.cluster_rules.specs.Frames.{stack_sent, frames_took, frames_of, stack_of}
 use Rattle.cluster_rules.specs.Acting.{MayPostAdd, Serves}
@@ -26,8 +25,8 @@ use Rattle.cluster_rules.proofs.Passing.{may_post}
 use Rattle.cluster_rules.proofs.Holding.{own_first, own_other}
 use Rattle.cluster_rules.proofs.Phases.{Phase, Idle, Asked, Told, after_post, after_taking, after_adding, after_item, phase_of, waits_in}
 use Rattle.cluster_rules.proofs.Phases.{is_asked, is_told, IsFirst, first_idle, awaits_told, awaits_took}
-use Rattle.cluster_rules.proofs.UnderWay.{adds_body, add_from, under_way, tells_body, old_to, to_tell, amount_in, moved_by, adds_sent, adds_took, adds_ended}
-use Rattle.cluster_rules.proofs.UnderWay.{adds_kept, adds_served, owed_counts, olds_ended, olds_took, olds_did, olds_posted, olds_told}
+use Rattle.cluster_rules.proofs.UnderWay.{adds_body, add_from, only_adds, under_way, first_amount, serves_amount, tells_body, old_to, to_tell, amount_in, moved_by}
+use Rattle.cluster_rules.proofs.UnderWay.{none_waits, adds_sent, adds_took, adds_ended, adds_did, owed_counts, olds_ended, olds_took, olds_did, olds_posted, olds_told}
 use Rattle.cluster_rules.proofs.Phasing.{Phased, equal_number, cond_same, is_one, asked_same, told_same, own_value, first_granted, first_done}
 use Rattle.cluster_rules.proofs.Testing.{own_number, other_number}
 use Rattle.cluster_rules.proofs.Phasing.{first_parked, awaits_more, stack_more, first_more, kept, quiet_idle}
@@ -48,11 +47,12 @@ module _ (cluster : Cluster) (course : Course) (node : ℕ) (here : Option PostA
   -- ---- items
 
   did_kept : (done : Item) → ((number : ℕ) (phase : Phase) → after_item number done (owed_adds past) phase ≡ phase)
-      → after_served done (owed_adds past) ≡ owed_adds past
+      → ((amount : Msg → ℕ) → serves_amount amount done (owed_adds past) ≡ 0)
       → told_by (node_at cluster node) done (owed_adds past) ≡ [] → IsFree past → Phased cluster (more (Did done))
   did_kept done same served told free =
       kept cluster course node here less phased (Did done) (λ number. same number (phase_of number course))
-      (λ number frame index. adds_kept cluster course node here less number frame index done served)
+      (λ number frame index. let adds = adds_did cluster course node here less (add_from number frame index) done in
+      let none = served (add_from number frame index) in omega (arith, adds, none))
       (λ such number. let olds = olds_did cluster course node here less such number done in
       let none : amount_in (old_to such number) (told_by (node_at cluster node) done (owed_adds past)) ≡ 0 = ap (amount_in (old_to such number)) told in
       omega (arith, olds, none))
@@ -66,13 +66,13 @@ module _ (cluster : Cluster) (course : Course) (node : ℕ) (here : Option PostA
     asker = serves.add.sender
 
     add_is : (number : ℕ) (other : FrameId) (acts : ℕ)
-        → add_from number other acts serves.add ≡ one (eqb asker number && (same_frame frame other && eqb index acts))
-    add_is number other acts = ap (λ it. one (adds_body number other acts asker it)) serves.asked
+        → first_amount (add_from number other acts) (owed_adds past) ≡ one (eqb asker number && (same_frame frame other && eqb index acts))
+    add_is number other acts = ap (first_amount (add_from number other acts)) serves.oldest ∙ ap (λ it. one (adds_body number other acts asker it)) serves.asked
 
     pub was_asked : phase_of asker course ≡ Asked frame index
     was_asked =
-        let counts = owed_counts cluster course node here less asker frame index serves.add serves.later serves.oldest in
-        let here_one : add_from asker frame index serves.add ≡ 1 = add_is asker frame index ∙ rw (own_number asker, same_self frame, own_number index) refl in
+        let counts = owed_counts cluster course node here less (add_from asker frame index) in
+        let here_one : first_amount (add_from asker frame index) (owed_adds past) ≡ 1 = add_is asker frame index ∙ rw (own_number asker, same_self frame, own_number index) refl in
         let before = phased.adds asker frame index in
         asked_same frame index (phase_of asker course) (is_one (is_asked frame index (phase_of asker course)) (omega (arith, counts, here_one, before)))
 
@@ -105,8 +105,8 @@ module _ (cluster : Cluster) (course : Course) (node : ℕ) (here : Option PostA
 
     adds_asker : (other : FrameId) (acts : ℕ) → under_way cluster (more served) asker other acts ≡ one (is_asked other acts (phase_of asker (more served)))
     adds_asker other acts =
-        let change = adds_served cluster course node here less asker other acts serves.add serves.later frame index word old addend serves.oldest in
-        let amount : add_from asker other acts serves.add ≡ one (same_frame frame other && eqb index acts) =
+        let change = adds_did cluster course node here less (add_from asker other acts) (item.Served frame index word old addend) in
+        let amount : first_amount (add_from asker other acts) (owed_adds past) ≡ one (same_frame frame other && eqb index acts) =
         add_is asker other acts ∙ rw (own_number asker) refl in
         let before : under_way cluster course asker other acts ≡ one (same_frame frame other && eqb index acts) =
         phased.adds asker other acts ∙ ap (λ it. one (is_asked other acts it)) was_asked in
@@ -116,8 +116,8 @@ module _ (cluster : Cluster) (course : Course) (node : ℕ) (here : Option PostA
     adds_others : (other : FrameId) (acts number : ℕ) → eqb asker number ≡ false
         → under_way cluster (more served) number other acts ≡ one (is_asked other acts (phase_of number (more served)))
     adds_others other acts number apart =
-        let change = adds_served cluster course node here less number other acts serves.add serves.later frame index word old addend serves.oldest in
-        let amount : add_from number other acts serves.add ≡ 0 = add_is number other acts ∙ rw apart refl in
+        let change = adds_did cluster course node here less (add_from number other acts) (item.Served frame index word old addend) in
+        let amount : first_amount (add_from number other acts) (owed_adds past) ≡ 0 = add_is number other acts ∙ rw apart refl in
         let before = phased.adds number other acts in
         let after : one (is_asked other acts (phase_of number (more served))) ≡ one (is_asked other acts (phase_of number course)) =
         ap (λ it. one (is_asked other acts it)) (phase_others number apart) in
@@ -174,22 +174,22 @@ module _ (cluster : Cluster) (course : Course) (node : ℕ) (here : Option PostA
       → IsOwed (node_at cluster node) past done ⊎ (IsFree past × MayDo (node_at cluster node) past done rest posts)
       → Phased cluster (more (Did done))
   did_phased (item.Act frame index act) rest posts may =
-      did_kept (item.Act frame index act) (λ number phase. refl) refl refl (free_of (item.Act frame index act) rest posts (λ owed. owed) may)
+      did_kept (item.Act frame index act) (λ number phase. refl) (λ amount. refl) refl (free_of (item.Act frame index act) rest posts (λ owed. owed) may)
   did_phased (item.Tick frame) rest posts may =
-      did_kept (item.Tick frame) (λ number phase. refl) refl refl (free_of (item.Tick frame) rest posts (λ owed. owed) may)
+      did_kept (item.Tick frame) (λ number phase. refl) (λ amount. refl) refl (free_of (item.Tick frame) rest posts (λ owed. owed) may)
   did_phased (item.Drop page) rest posts may =
-      did_kept (item.Drop page) (λ number phase. refl) refl refl (free_of (item.Drop page) rest posts (λ owed. owed) may)
+      did_kept (item.Drop page) (λ number phase. refl) (λ amount. refl) refl (free_of (item.Drop page) rest posts (λ owed. owed) may)
   did_phased (item.TakeUp frame) rest posts may =
-      did_kept (item.TakeUp frame) (λ number phase. refl) refl refl (free_of (item.TakeUp frame) rest posts (λ owed. owed) may)
+      did_kept (item.TakeUp frame) (λ number phase. refl) (λ amount. refl) refl (free_of (item.TakeUp frame) rest posts (λ owed. owed) may)
   did_phased (item.OwnFetch page words) rest posts may =
-      did_kept (item.OwnFetch page words) (λ number phase. refl) refl refl (free_of (item.OwnFetch page words) rest posts (λ owed. owed) may)
+      did_kept (item.OwnFetch page words) (λ number phase. refl) (λ amount. refl) refl (free_of (item.OwnFetch page words) rest posts (λ owed. owed) may)
   did_phased (item.OwnReconcile part) rest posts may =
-      did_kept (item.OwnReconcile part) (λ number phase. refl) refl refl (free_of (item.OwnReconcile part) rest posts (λ owed. owed) may)
+      did_kept (item.OwnReconcile part) (λ number phase. refl) (λ amount. refl) refl (free_of (item.OwnReconcile part) rest posts (λ owed. owed) may)
   did_phased (item.Served frame index word old addend) rest posts (inl serves) = served_phased frame index word old addend serves
   did_phased (item.Served frame index word old addend) rest posts (inr both) =
       let none = both.0.none_owed in
       did_kept (item.Served frame index word old addend) (λ number phase. ap (λ adds. after_adding number frame index old adds phase) none)
-      (ap rest_of none ∙ sym none)
+      (λ amount. ap (first_amount amount) none)
       (ap (told_by (node_at cluster node) (item.Served frame index word old addend)) none) both.0
 
   -- ---- posts
@@ -204,18 +204,15 @@ module _ (cluster : Cluster) (course : Course) (node : ℕ) (here : Option PostA
 
     -- it is neither an Add nor an Added
     other_post : (said : Body) → message.body ≡ said → ((phase : Phase) → after_post said phase ≡ phase)
-        → ((number : ℕ) (frame : FrameId) (index sender : ℕ) → adds_body number frame index sender said ≡ false)
         → ((such : ℤ → Bool) (number : ℕ) → to_tell cluster (more post) such number ≡ to_tell cluster course such number) → adds_in said ≡ false
         → IsFirst (phase_of node course) (stack_sent said (stack_of (node_at cluster node) past)) → Phased cluster (more post)
     unfolding frames_of
-    other_post said is same adds olds waits first =
+    other_post said is same olds waits first =
         kept cluster course node here less phased post
         (λ number. phase_posted number said is ∙ cond_same (eqb node number) (after_post said (phase_of number course)) (phase_of number course)
         (same (phase_of number course)))
-        (λ number frame index. let sent = adds_sent cluster course node here less number frame index message posts in
-        let none : add_from number frame index message ≡ 0 =
-        ap (λ it. one (adds_body number frame index message.sender it)) is ∙ ap one (adds number frame index message.sender) in
-        omega (arith, sent, none))
+        (λ number frame index. let sent = adds_sent cluster course node here less (add_from number frame index) message posts in
+        let none = only_adds number frame index message (ap adds_in is ∙ waits) in omega (arith, sent, none))
         olds (ap (λ it. adds_in it || awaits ForAdded past) is ∙ ap (λ b. b || awaits ForAdded past) waits)
         (subst (λ it. IsFirst (phase_of node course) (stack_sent it (stack_of (node_at cluster node) past))) (sym is) first)
 
@@ -263,7 +260,7 @@ module _ (cluster : Cluster) (course : Course) (node : ℕ) (here : Option PostA
 
       adds_node : (other : FrameId) (acts : ℕ) → under_way cluster (more post) node other acts ≡ one (is_asked other acts (phase_of node (more post)))
       adds_node other acts =
-          let sent = adds_sent cluster course node here less node other acts message posts in
+          let sent = adds_sent cluster course node here less (add_from node other acts) message posts in
           let amount : add_from node other acts message ≡ one (same_frame frame other && eqb index acts) =
           add_amount node other acts ∙ rw (own_number node) refl in
           let before : under_way cluster course node other acts ≡ 0 = phased.adds node other acts ∙ ap (λ it. one (is_asked other acts it)) was_idle in
@@ -274,7 +271,7 @@ module _ (cluster : Cluster) (course : Course) (node : ℕ) (here : Option PostA
       adds_apart : (other : FrameId) (acts number : ℕ) → number ≢ node
           → under_way cluster (more post) number other acts ≡ one (is_asked other acts (phase_of number (more post)))
       adds_apart other acts number not =
-          let sent = adds_sent cluster course node here less number other acts message posts in
+          let sent = adds_sent cluster course node here less (add_from number other acts) message posts in
           let amount : add_from number other acts message ≡ 0 = add_amount number other acts
           ∙ ap (λ b. one (b && (same_frame frame other && eqb index acts))) (other_number node number (λ same. not (sym same))) in
           let before = phased.adds number other acts in
@@ -310,42 +307,42 @@ module _ (cluster : Cluster) (course : Course) (node : ℕ) (here : Option PostA
         → Phased cluster (more post)
     sent_phased (body.Fetch page) is (inl reply) = absurd (cc)
     sent_phased (body.Fetch page) is (inr may) =
-        other_post (body.Fetch page) is (λ phase. refl) (λ number frame index sender. refl)
+        other_post (body.Fetch page) is (λ phase. refl)
         (olds_stay (body.Fetch page) is refl (λ such number receiver. refl)) refl
         (first_idle (phase_of node course) (live (stack_of (node_at cluster node) past)) (quiet_idle cluster course node here less phased may.quiet))
     sent_phased (body.Page page words) is may =
-        other_post (body.Page page words) is (λ phase. refl) (λ number frame index sender. refl)
+        other_post (body.Page page words) is (λ phase. refl)
         (olds_stay (body.Page page words) is refl (λ such number receiver. refl)) refl first_here
     sent_phased (body.Reconcile parts) is may =
-        other_post (body.Reconcile parts) is (λ phase. refl) (λ number frame index sender. refl)
+        other_post (body.Reconcile parts) is (λ phase. refl)
         (olds_stay (body.Reconcile parts) is refl (λ such number receiver. refl)) refl first_here
     sent_phased body.Ack is may =
-        other_post body.Ack is (λ phase. refl) (λ number frame index sender. refl) (olds_stay body.Ack is refl (λ such number receiver. refl)) refl first_here
+        other_post body.Ack is (λ phase. refl) (olds_stay body.Ack is refl (λ such number receiver. refl)) refl first_here
     sent_phased body.Ask is may =
-        other_post body.Ask is (λ phase. refl) (λ number frame index sender. refl) (olds_stay body.Ask is refl (λ such number receiver. refl)) refl first_here
+        other_post body.Ask is (λ phase. refl) (olds_stay body.Ask is refl (λ such number receiver. refl)) refl first_here
     sent_phased (body.Grant closure) is (inl reply) = absurd (cc)
     sent_phased (body.Grant closure) is (inr may) =
-        other_post (body.Grant closure) is (λ phase. refl) (λ number frame index sender. refl)
+        other_post (body.Grant closure) is (λ phase. refl)
         (olds_stay (body.Grant closure) is refl (λ such number receiver. refl)) refl
         (first_granted (node_at cluster node) past message.receiver closure (phase_of node course) may first_here)
     sent_phased body.Refuse is may =
-        other_post body.Refuse is (λ phase. refl) (λ number frame index sender. refl)
+        other_post body.Refuse is (λ phase. refl)
         (olds_stay body.Refuse is refl (λ such number receiver. refl)) refl first_here
     sent_phased (body.Done join index value) is (inl reply) = absurd (cc)
     sent_phased (body.Done join index value) is (inr may) =
-        other_post (body.Done join index value) is (λ phase. refl) (λ number frame index sender. refl)
+        other_post (body.Done join index value) is (λ phase. refl)
         (olds_stay (body.Done join index value) is refl (λ such number receiver. refl)) refl
         (first_done (phase_of node course) (stack_of (node_at cluster node) past) may.returned.none_left first_here)
     sent_phased (body.Park join closure) is (inl reply) = absurd (cc)
     sent_phased (body.Park join closure) is (inr may) =
-        other_post (body.Park join closure) is (λ phase. refl) (λ number frame index sender. refl)
+        other_post (body.Park join closure) is (λ phase. refl)
         (olds_stay (body.Park join closure) is refl (λ such number receiver. refl)) refl
         (first_parked (phase_of node course) (stack_of (node_at cluster node) past) may.life may.at_join.alone may.at_join.wanted first_here)
     sent_phased (body.Add frame index word addend) is (inl reply) = absurd (cc)
     sent_phased (body.Add frame index word addend) is (inr may) = add_phased frame index word addend is may
     sent_phased (body.Added old) is (inl reply) = absurd (cc)
     sent_phased (body.Added old) is (inr may) =
-        other_post (body.Added old) is (λ phase. refl) (λ number frame index sender. refl)
+        other_post (body.Added old) is (λ phase. refl)
         (λ such number. olds_told cluster course node here less such number message old posts is may) refl first_here
 
   -- ---- takings
@@ -366,7 +363,7 @@ module _ (cluster : Cluster) (course : Course) (node : ℕ) (here : Option PostA
         kept cluster course node here less phased taking
         (λ number. phase_taken number said is ∙ cond_same (eqb node number) (after_taking said (phase_of number course)) (phase_of number course)
         (same (phase_of number course)))
-        (λ number frame index. adds_took cluster course node here less number frame index message stepped takes)
+        (λ number frame index. adds_took cluster course node here less (add_from number frame index) (only_adds number frame index) message stepped takes)
         (λ such number. let took = olds_took cluster course node here less such number message stepped takes in
         let zero : old_to such number message ≡ 0 =
         ap (λ it. one (tells_body such number message.receiver it)) is ∙ ap one (none such number message.receiver) in
@@ -430,7 +427,7 @@ module _ (cluster : Cluster) (course : Course) (node : ℕ) (here : Option PostA
         first =
             first_more cluster course node here less phased taking phase_far
             (first_idle (phase_of node (more taking)) (stack_of (node_at cluster node) (taking ∷ past)) phase_done);
-        adds = λ number frame index. adds_took cluster course node here less number frame index message stepped takes
+        adds = λ number frame index. adds_took cluster course node here less (add_from number frame index) (only_adds number frame index) message stepped takes
             ∙ by_place (λ number. under_way cluster course number frame index ≡ one (is_asked frame index (phase_of number (more taking))))
             (phased.adds node frame index ∙ ap (λ it. one (is_asked frame index it)) was_told.2 ∙ ap (λ it. one (is_asked frame index it)) (sym phase_done))
             (λ number not. phased.adds number frame index ∙ ap (λ it. one (is_asked frame index it)) (sym (phase_far number not))) number;
@@ -470,7 +467,7 @@ module _ (cluster : Cluster) (course : Course) (node : ℕ) (here : Option PostA
   unfolding frames_of
   ended_phased end =
       kept cluster course node here less phased (Ended end) (λ number. refl)
-      (λ number frame index. adds_ended cluster course node here less number frame index end)
+      (λ number frame index. adds_ended cluster course node here less (add_from number frame index) end)
       (λ such number. olds_ended cluster course node here less such number end) refl (phased.first node)
 
 -- ---- all events
@@ -488,10 +485,6 @@ event_phased cluster course node here (Took message) stepped step phased =
     took_phased cluster course node here step.within phased message stepped step.carries message.body refl
 event_phased cluster course node here (Ended end) stepped step phased = ended_phased cluster course node here step.within phased end
 
-start_adds : (cluster : Cluster) (number : ℕ) (frame : FrameId) (index : ℕ) → under_way cluster [] number frame index ≡ 0
-unfolding owed_adds
-start_adds cluster number frame index = let sum = sum_none cluster.config.nodes (λ home. 0) (λ home below. refl) in omega (arith, sum)
-
 start_olds : (cluster : Cluster) (such : ℤ → Bool) (number : ℕ) → to_tell cluster [] such number ≡ 0
 unfolding owed_olds
 start_olds cluster such number = let sum = sum_none cluster.config.nodes (λ home. 0) (λ home below. refl) in omega (arith, sum)
@@ -501,7 +494,7 @@ phased cluster [] stepped = record {
   within = λ number waits. absurd (cc);
   waiting = λ number. refl;
   first = λ number. tt;
-  adds = λ number frame index. start_adds cluster number frame index;
+  adds = λ number frame index. none_waits (add_from number frame index) cluster;
   olds = λ such number. start_olds cluster such number;
 }
 phased cluster (moved ∷ course) stepped = event_phased cluster course moved.node moved.message moved.event stepped.0 stepped.1 (phased cluster course stepped.0)

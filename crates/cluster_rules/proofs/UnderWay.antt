@@ -10,7 +10,7 @@ use Rattle.page_messages.specs.declared.log.Item.TheVariants as item
 use Rattle.page_messages.specs.declared.log.PostAt.{PostAt}
 use Rattle.cluster_rules.specs.Walking.{rest_of}
 use Rattle.cluster_rules.specs.Turns.{Event, Did, Sent, Took, Ended, Past}
-use Rattle.cluster_rules.specs.Sendings.{tells_in}
+use Rattle.cluster_rules.specs.Sendings.{adds_in, tells_in}
 use Rattle.cluster_rules.specs.Home.{owed_adds, with_add, after_served, told_by, owed_olds}
 use Rattle.cluster_rules.specs.Lives.{same_frame}
 use Rattle.cluster_rules.specs.Acting.{Tells}
@@ -18,7 +18,7 @@ use Rattle.cluster_rules.specs.Runs.{Cluster, node_at}
 use Rattle.cluster_rules.specs.Positions.{Moved, Course, own}
 use Rattle.cluster_rules.proofs.Stepping.{Posts, Takes, Stepped}
 use Rattle.cluster_rules.proofs.Letters.{letters_of, amount_of, letter_sent, letter_taken}
-use Rattle.cluster_rules.proofs.Summing.{sum_below, sum_change, sum_one}
+use Rattle.cluster_rules.proofs.Summing.{sum_below, sum_none, sum_change, sum_one}
 use Rattle.cluster_rules.proofs.Marks.{one}
 use Rattle.cluster_rules.proofs.Holding.{own_first, own_other}
 
@@ -49,13 +49,33 @@ adds_body number frame index sender (body.Added old) = false
 abbrev pub add_from : ℕ → FrameId → ℕ → Msg → ℕ
 add_from number frame index message = one (adds_body number frame index message.sender message.body)
 
+-- It measures Adds alone.
+pub only_adds : (number : ℕ) (frame : FrameId) (index : ℕ) (message : Msg) → adds_in message.body ≡ false → add_from number frame index message ≡ 0
+only_adds number frame index message none = ap one (on message.body none)
+  where
+    on : (said : Body) → adds_in said ≡ false → adds_body number frame index message.sender said ≡ false
+    on (body.Fetch page) none = refl
+    on (body.Page page words) none = refl
+    on (body.Reconcile parts) none = refl
+    on body.Ack none = refl
+    on body.Ask none = refl
+    on (body.Grant closure) none = refl
+    on body.Refuse none = refl
+    on (body.Done join child value) none = refl
+    on (body.Park join closure) none = refl
+    on (body.Add other acts word addend) none = absurd (cc)
+    on (body.Added old) none = refl
+
 abbrev pub owed_at : Cluster → Course → (Msg → ℕ) → ℕ → ℕ
 owed_at cluster course amount home = amount_in amount (owed_adds (own home course))
 
--- The Adds of a frame and index, from a node, that were posted and not done.
+-- The Adds that were posted and not done, by a measure of messages: those that homes owe, and those that travel to them.
+abbrev pub waiting : (Msg → ℕ) → Cluster → Course → ℕ
+waiting amount cluster course = sum_below cluster.config.nodes (owed_at cluster course amount) + amount_of amount (letters_of course)
+
+-- those of a frame and index, from a node
 abbrev pub under_way : Cluster → Course → ℕ → FrameId → ℕ → ℕ
-under_way cluster course number frame index =
-    sum_below cluster.config.nodes (owed_at cluster course (add_from number frame index)) + amount_of (add_from number frame index) (letters_of course)
+under_way cluster course number frame index = waiting (add_from number frame index) cluster course
 
 -- it tells such an old value to this node
 abbrev pub tells_body : (ℤ → Bool) → ℕ → ℕ → Body → Bool
@@ -97,6 +117,58 @@ sum_moved count part node event here course less =
     let first = ap (part node) (own_first moved course) in
     omega (arith, sum, first)
 
+-- ---- one message or item, by any measure
+
+module _ (amount : Msg → ℕ) where
+  abbrev pub first_amount : List Msg → ℕ
+  first_amount [] = 0
+  first_amount (add ∷ later) = amount add
+
+  -- a Served item serves the oldest Add that is owed
+  abbrev pub serves_amount : Item → List Msg → ℕ
+  serves_amount (item.Act frame index act) adds = 0
+  serves_amount (item.Tick frame) adds = 0
+  serves_amount (item.Drop page) adds = 0
+  serves_amount (item.TakeUp frame) adds = 0
+  serves_amount (item.OwnFetch page words) adds = 0
+  serves_amount (item.OwnReconcile part) adds = 0
+  serves_amount (item.Served frame index word old addend) adds = first_amount adds
+
+  first_within : (adds : List Msg) → first_amount adds ≤ amount_in amount adds
+  first_within [] = omega arith
+  first_within (add ∷ later) = omega arith
+
+  served_less : (done : Item) (adds : List Msg) → amount_in amount (after_served done adds) + serves_amount done adds ≡ amount_in amount adds
+  served_less (item.Act frame index act) adds = omega arith
+  served_less (item.Tick frame) adds = omega arith
+  served_less (item.Drop page) adds = omega arith
+  served_less (item.TakeUp frame) adds = omega arith
+  served_less (item.OwnFetch page words) adds = omega arith
+  served_less (item.OwnReconcile part) adds = omega arith
+  served_less (item.Served frame index word old addend) [] = omega arith
+  served_less (item.Served frame index word old addend) (add ∷ later) = omega arith
+
+  -- where Adds alone are measured
+  taken_more : ((message : Msg) → adds_in message.body ≡ false → amount message ≡ 0) → (message : Msg) (adds : List Msg) (said : Body) → message.body ≡ said
+      → amount_in amount (with_add said message adds) ≡ amount_in amount adds + amount message
+  taken_more only message adds (body.Fetch page) is = let none = only message (ap adds_in is) in omega (arith, none)
+  taken_more only message adds (body.Page page words) is = let none = only message (ap adds_in is) in omega (arith, none)
+  taken_more only message adds (body.Reconcile parts) is = let none = only message (ap adds_in is) in omega (arith, none)
+  taken_more only message adds body.Ack is = let none = only message (ap adds_in is) in omega (arith, none)
+  taken_more only message adds body.Ask is = let none = only message (ap adds_in is) in omega (arith, none)
+  taken_more only message adds (body.Grant closure) is = let none = only message (ap adds_in is) in omega (arith, none)
+  taken_more only message adds body.Refuse is = let none = only message (ap adds_in is) in omega (arith, none)
+  taken_more only message adds (body.Done join index value) is = let none = only message (ap adds_in is) in omega (arith, none)
+  taken_more only message adds (body.Park join closure) is = let none = only message (ap adds_in is) in omega (arith, none)
+  taken_more only message adds (body.Add frame index word addend) is = let both = amount_append amount adds (message ∷ []) in omega (arith, both)
+  taken_more only message adds (body.Added old) is = let none = only message (ap adds_in is) in omega (arith, none)
+
+  pub none_waits : (cluster : Cluster) → waiting amount cluster [] ≡ 0
+  unfolding owed_adds
+  none_waits cluster = let sum = sum_none cluster.config.nodes (λ home. 0) (λ home below. refl) in omega (arith, sum)
+
+-- ---- one event
+
 module _ (cluster : Cluster) (course : Course) (node : ℕ) (here : Option PostAt) (within : node < cluster.config.nodes) where
   abbrev past : Past
   past = own node course
@@ -108,74 +180,34 @@ module _ (cluster : Cluster) (course : Course) (node : ℕ) (here : Option PostA
         ≡ sum_below cluster.config.nodes (owed_at cluster course amount) + amount_in amount (owed_adds (event ∷ past))
     adds_sum event = sum_moved cluster.config.nodes (λ home past. amount_in amount (owed_adds past)) node event here course within
 
-    olds_sum : (event : Event) → sum_below cluster.config.nodes (olds_at cluster (moved_by node event here ∷ course) amount) + amount_in amount
-        (owed_olds (node_at cluster node) past)
-        ≡ sum_below cluster.config.nodes (olds_at cluster course amount) + amount_in amount (owed_olds (node_at cluster node) (event ∷ past))
-    olds_sum event = sum_moved cluster.config.nodes (λ home past. amount_in amount (owed_olds (node_at cluster home) past)) node event here course within
-
-  module _ (number : ℕ) (frame : FrameId) (index : ℕ) where
-    abbrev amount : Msg → ℕ
-    amount = add_from number frame index
-
     pub adds_sent : (message : Msg) → Posts course node here message
-        → under_way cluster (moved_by node (Sent message) here ∷ course) number frame index ≡ under_way cluster course number frame index + amount message
+        → waiting amount cluster (moved_by node (Sent message) here ∷ course) ≡ waiting amount cluster course + amount message
     unfolding owed_adds
     adds_sent message posts =
-        let sum = adds_sum amount (Sent message) in
-        let letters = letter_sent cluster amount course node here message posts in omega (arith, sum, letters)
+        let sum = adds_sum (Sent message) in let letters = letter_sent cluster amount course node here message posts in omega (arith, sum, letters)
 
-    with_add_amount : (message : Msg) (adds : List Msg) (said : Body) → message.body ≡ said
-        → amount_in amount (with_add said message adds) ≡ amount_in amount adds + one (adds_body number frame index message.sender said)
-    with_add_amount message adds (body.Fetch page) is = omega arith
-    with_add_amount message adds (body.Page page words) is = omega arith
-    with_add_amount message adds (body.Reconcile parts) is = omega arith
-    with_add_amount message adds body.Ack is = omega arith
-    with_add_amount message adds body.Ask is = omega arith
-    with_add_amount message adds (body.Grant closure) is = omega arith
-    with_add_amount message adds body.Refuse is = omega arith
-    with_add_amount message adds (body.Done join child value) is = omega arith
-    with_add_amount message adds (body.Park join closure) is = omega arith
-    with_add_amount message adds (body.Add other acts word addend) is =
-        let both = amount_append amount adds (message ∷ []) in
-        let same : amount message ≡ one (adds_body number frame index message.sender (body.Add other acts word addend)) =
-        ap (λ it. one (adds_body number frame index message.sender it)) is in
-        omega (arith, both, same)
-    with_add_amount message adds (body.Added old) is = omega arith
-
-    pub adds_took : (message : Msg) → Stepped cluster course → Takes course node here message
-        → under_way cluster (moved_by node (Took message) here ∷ course) number frame index ≡ under_way cluster course number frame index
+    pub adds_took : ((message : Msg) → adds_in message.body ≡ false → amount message ≡ 0) → (message : Msg) → Stepped cluster course
+        → Takes course node here message → waiting amount cluster (moved_by node (Took message) here ∷ course) ≡ waiting amount cluster course
     unfolding owed_adds
-    adds_took message stepped takes =
-        let sum = adds_sum amount (Took message) in
-        let owed = with_add_amount message (owed_adds past) message.body refl in
+    adds_took only message stepped takes =
+        let sum = adds_sum (Took message) in
+        let owed = taken_more amount only message (owed_adds past) message.body refl in
         let letters = letter_taken cluster amount course node here message stepped takes in omega (arith, sum, owed, letters)
 
-    pub adds_ended : (end : NodeEnd) → under_way cluster (moved_by node (Ended end) here ∷ course) number frame index
-        ≡ under_way cluster course number frame index
+    pub adds_ended : (end : NodeEnd) → waiting amount cluster (moved_by node (Ended end) here ∷ course) ≡ waiting amount cluster course
     unfolding owed_adds
-    adds_ended end = let sum = adds_sum amount (Ended end) in omega (arith, sum)
+    adds_ended end = let sum = adds_sum (Ended end) in omega (arith, sum)
 
-    pub adds_kept : (done : Item) → after_served done (owed_adds past) ≡ owed_adds past
-        → under_way cluster (moved_by node (Did done) here ∷ course) number frame index ≡ under_way cluster course number frame index
+    pub adds_did : (done : Item)
+        → waiting amount cluster (moved_by node (Did done) here ∷ course) + serves_amount amount done (owed_adds past) ≡ waiting amount cluster course
     unfolding owed_adds
-    adds_kept done same = let sum = adds_sum amount (Did done) in let owed = ap (amount_in amount) same in omega (arith, sum, owed)
+    adds_did done = let sum = adds_sum (Did done) in let served = served_less amount done (owed_adds past) in omega (arith, sum, served)
 
-    -- the oldest that is owed is done
-    pub adds_served : (add : Msg) (later : List Msg) (other : FrameId) (acts word : ℕ) (old addend : ℤ) → owed_adds past ≡ add ∷ later
-        → under_way cluster (moved_by node (Did (item.Served other acts word old addend)) here ∷ course) number frame index + amount add
-        ≡ under_way cluster course number frame index
-    unfolding owed_adds
-    adds_served add later other acts word old addend oldest =
-        let sum = adds_sum amount (Did (item.Served other acts word old addend)) in
-        let before : amount_in amount (owed_adds past) ≡ amount add + amount_in amount later = ap (amount_in amount) oldest in
-        let after : amount_in amount (rest_of (owed_adds past)) ≡ amount_in amount later = ap (λ it. amount_in amount (rest_of it)) oldest in
-        omega (arith, sum, before, after)
-
-    -- such an Add that is owed is under way
-    pub owed_counts : (add : Msg) (later : List Msg) → owed_adds past ≡ add ∷ later → amount add ≤ under_way cluster course number frame index
-    owed_counts add later oldest =
-        let before : amount_in amount (owed_adds past) ≡ amount add + amount_in amount later = ap (amount_in amount) oldest in
-        let whole = sum_one cluster.config.nodes (owed_at cluster course amount) node within in omega (arith, before, whole)
+    -- the oldest that is owed is among those that wait
+    pub owed_counts : first_amount amount (owed_adds past) ≤ waiting amount cluster course
+    owed_counts =
+        let first = first_within amount (owed_adds past) in
+        let whole = sum_one cluster.config.nodes (owed_at cluster course amount) node within in omega (arith, first, whole)
 
   -- ---- old values
 
@@ -183,15 +215,20 @@ module _ (cluster : Cluster) (course : Course) (node : ℕ) (here : Option PostA
     abbrev told : Msg → ℕ
     told = old_to such number
 
+    olds_sum : (event : Event) → sum_below cluster.config.nodes (olds_at cluster (moved_by node event here ∷ course) told) + amount_in told
+        (owed_olds (node_at cluster node) past)
+        ≡ sum_below cluster.config.nodes (olds_at cluster course told) + amount_in told (owed_olds (node_at cluster node) (event ∷ past))
+    olds_sum event = sum_moved cluster.config.nodes (λ home past. amount_in told (owed_olds (node_at cluster home) past)) node event here course within
+
     pub olds_ended : (end : NodeEnd) → to_tell cluster (moved_by node (Ended end) here ∷ course) such number ≡ to_tell cluster course such number
     unfolding owed_olds
-    olds_ended end = let sum = olds_sum told (Ended end) in omega (arith, sum)
+    olds_ended end = let sum = olds_sum (Ended end) in omega (arith, sum)
 
     pub olds_took : (message : Msg) → Stepped cluster course → Takes course node here message
         → to_tell cluster (moved_by node (Took message) here ∷ course) such number + told message ≡ to_tell cluster course such number
     unfolding owed_olds
     olds_took message stepped takes =
-        let sum = olds_sum told (Took message) in
+        let sum = olds_sum (Took message) in
         let letters = letter_taken cluster told course node here message stepped takes in omega (arith, sum, letters)
 
     pub olds_did : (done : Item)
@@ -199,14 +236,14 @@ module _ (cluster : Cluster) (course : Course) (node : ℕ) (here : Option PostA
         ≡ to_tell cluster course such number + amount_in told (told_by (node_at cluster node) done (owed_adds past))
     unfolding owed_olds
     olds_did done =
-        let sum = olds_sum told (Did done) in
+        let sum = olds_sum (Did done) in
         let both = amount_append told (owed_olds (node_at cluster node) past) (told_by (node_at cluster node) done (owed_adds past)) in omega (arith, sum, both)
 
     pub olds_posted : (message : Msg) → Posts course node here message → tells_in message.body ≡ false → told message ≡ 0
         → to_tell cluster (moved_by node (Sent message) here ∷ course) such number ≡ to_tell cluster course such number
     unfolding owed_olds
     olds_posted message posts other none =
-        let sum = olds_sum told (Sent message) in
+        let sum = olds_sum (Sent message) in
         let owed : amount_in told (cond (tells_in message.body) (rest_of (owed_olds (node_at cluster node) past)) (owed_olds (node_at cluster node) past))
         ≡ amount_in told (owed_olds (node_at cluster node) past) =
         ap (λ b. amount_in told (cond b (rest_of (owed_olds (node_at cluster node) past)) (owed_olds (node_at cluster node) past))) other in
@@ -217,7 +254,7 @@ module _ (cluster : Cluster) (course : Course) (node : ℕ) (here : Option PostA
         → to_tell cluster (moved_by node (Sent message) here ∷ course) such number ≡ to_tell cluster course such number
     unfolding owed_olds
     olds_told message old posts is tells =
-        let sum = olds_sum told (Sent message) in
+        let sum = olds_sum (Sent message) in
         let owed : amount_in told (cond (tells_in message.body) (rest_of (owed_olds (node_at cluster node) past)) (owed_olds (node_at cluster node) past))
         ≡ amount_in told tells.later =
         ap (λ b. amount_in told (cond b (rest_of (owed_olds (node_at cluster node) past)) (owed_olds (node_at cluster node) past))) (ap tells_in is)

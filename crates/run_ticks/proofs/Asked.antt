@@ -26,10 +26,10 @@ use Rattle.cluster_rules.proofs.Holding.{one_node}
 use Rattle.cluster_rules.proofs.Phases.{Phase, Idle, Asked, phase_of, phase_on, after_post, is_told_of, waits_in, IsFirst}
 use Rattle.cluster_rules.proofs.Phasing.{quiet_idle, is_one, equal_number}
 use Rattle.cluster_rules.proofs.Asking.{phased, asked_by}
-use Rattle.cluster_rules.proofs.UnderWay.{adds_body, add_from, owed_counts}
+use Rattle.cluster_rules.proofs.UnderWay.{adds_body, add_from, only_adds, first_amount, serves_amount, waiting, owed_counts}
 use Rattle.cluster_rules.proofs.Claiming.{acts_before, claims_event}
 use Rattle.cluster_rules.proofs.Indexing.{stack_mark, mark_named, first_stack_mark, mark_acts, index_is_count}
-use Rattle.run_ticks.proofs.Waiting.{first_amount, serves_amount, event_serves, posts_amount, posted_amount, served_amount, waiting, waiting_sum}
+use Rattle.run_ticks.proofs.Waiting.{event_serves, posts_amount, posted_amount, served_amount, waiting_sum}
 
 both_false : (first second : Bool) → second ≡ false → first && second ≡ false
 both_false true second is = is
@@ -72,19 +72,6 @@ module _ (frame : FrameId) (index : ℕ) where
   adds_asked number sender (body.Add other acts word addend) = refl
   adds_asked number sender (body.Added old) = never (eqb sender number)
 
-  only_adds : (number sender : ℕ) (said : Body) → adds_in said ≡ false → adds_body number frame index sender said ≡ false
-  only_adds number sender (body.Fetch page) none = refl
-  only_adds number sender (body.Page page words) none = refl
-  only_adds number sender (body.Reconcile parts) none = refl
-  only_adds number sender body.Ack none = refl
-  only_adds number sender body.Ask none = refl
-  only_adds number sender (body.Grant closure) none = refl
-  only_adds number sender body.Refuse none = refl
-  only_adds number sender (body.Done join child value) none = refl
-  only_adds number sender (body.Park join closure) none = refl
-  only_adds number sender (body.Add other acts word addend) none = absurd (cc)
-  only_adds number sender (body.Added old) none = refl
-
   -- an Add of the frame and index, from this node
   abbrev from : ℕ → Msg → ℕ
   from number = add_from number frame index
@@ -93,7 +80,7 @@ module _ (frame : FrameId) (index : ℕ) where
   from_sum : (cluster : Cluster) (course : Course) → Stepped cluster course → (number : ℕ)
       → waiting (from number) cluster course + served_amount (from number) course ≡ posted_amount (from number) course
   from_sum cluster course stepped number =
-      waiting_sum (from number) (λ message none. ap one (only_adds number message.sender message.body none)) cluster course stepped
+      waiting_sum (from number) (only_adds number frame index) cluster course stepped
 
   -- ---- none was posted, or one node posted one
 
@@ -285,9 +272,9 @@ module _ (frame : FrameId) (index : ℕ) where
       asked_before serves true asked = refl
       asked_before serves false asked =
           let asker = serves.add.sender in
-          let counts = owed_counts cluster course moved.node moved.message stepped.1.within asker frame index serves.add serves.later serves.oldest in
-          let amount : from asker serves.add ≡ 1 =
-          ap (λ it. one (adds_body asker frame index asker it)) serves.asked ∙ rw (own_number asker, same_self frame, own_number index) refl in
+          let counts = owed_counts cluster course moved.node moved.message stepped.1.within (from asker) in
+          let amount : first_amount (from asker) (owed_adds past) ≡ 1 =
+          ap (first_amount (from asker)) serves.oldest ∙ ap (λ it. one (adds_body asker frame index asker it)) serves.asked ∙ rw (own_number asker, same_self frame, own_number index) refl in
           let sum = from_sum cluster course stepped.0 asker in
           let none = posted_none asker course asked in absurd (omega (arith, counts, amount, sum, none))
 

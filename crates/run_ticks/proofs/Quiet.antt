@@ -16,12 +16,13 @@ use Rattle.cluster_rules.proofs.Phases.{Idle, Asked, phase_of}
 use Rattle.cluster_rules.proofs.Phasing.{equal_number, is_one, quiet_idle}
 use Rattle.cluster_rules.proofs.Stepping.{Carries, Stepped}
 use Rattle.cluster_rules.proofs.Testing.{both_true}
+use Rattle.cluster_rules.proofs.UnderWay.{first_amount, waiting}
 use Rattle.cluster_order.specs.Reading.{happens_to}
 use Rattle.determinacy.specs.Ending.{is_item}
 use Rattle.run_ticks.specs.Laws.{items_in}
 use Rattle.run_ticks.proofs.Someone.{some_waits}
 use Rattle.run_ticks.proofs.Ticking.{items_more}
-use Rattle.run_ticks.proofs.Waiting.{first_amount, event_serves, posts_amount, posted_amount, served_amount, waiting, waiting_sum}
+use Rattle.run_ticks.proofs.Waiting.{event_serves, posts_amount, posted_amount, served_amount, waiting_sum}
 
 module _ (number : ℕ) where
   -- it is an Add that this node sent

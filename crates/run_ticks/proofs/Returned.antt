@@ -33,7 +33,7 @@ use Rattle.run_ticks.specs.Posted.{adds_under_way}
 use Rattle.cluster_rules.proofs.Phasing.{is_one}
 use Rattle.run_ticks.proofs.Someone.{some_waits}
 use Rattle.run_ticks.proofs.Ticking.{is_add, under_way_is}
-use Rattle.run_ticks.proofs.Waiting.{waiting}
+use Rattle.cluster_rules.proofs.UnderWay.{waiting}
 
 -- ---- no frame waits
 

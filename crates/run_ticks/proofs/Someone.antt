@@ -12,9 +12,8 @@ use Rattle.cluster_rules.proofs.Letters.{Letter, letters_of, amount_of}
 use Rattle.cluster_rules.proofs.Summing.{sum_below, sum_one}
 use Rattle.cluster_rules.proofs.Marks.{one, same_self}
 use Rattle.cluster_rules.proofs.Testing.{own_number}
-use Rattle.cluster_rules.proofs.UnderWay.{adds_body, add_from, amount_in, owed_at}
+use Rattle.cluster_rules.proofs.UnderWay.{adds_body, add_from, amount_in, owed_at, waiting}
 use Rattle.run_ticks.proofs.Asked.{some_of}
-use Rattle.run_ticks.proofs.Waiting.{waiting}
 
 -- the message is such an Add
 abbrev IsAddOf : Msg → Type 0

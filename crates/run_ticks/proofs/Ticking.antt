@@ -16,14 +16,14 @@ use Rattle.cluster_rules.specs.Runs.{Cluster, IsFree, MayDo, node_at}
 use Rattle.cluster_rules.proofs.Stepping.{Stepped}
 use Rattle.cluster_rules.proofs.Summing.{sum_below, sum_none}
 use Rattle.cluster_rules.proofs.Marks.{one}
-use Rattle.cluster_rules.proofs.UnderWay.{sum_moved}
+use Rattle.cluster_rules.proofs.UnderWay.{first_amount, serves_amount, waiting, sum_moved}
 use Rattle.cluster_order.specs.Reading.{happens_to, event_of, events_of}
 use Rattle.cluster_order.proofs.Growing.{at_behind, before_behind, at_last, before_last}
 use Rattle.determinacy.specs.Ending.{count, is_item}
 use Rattle.determinacy.proofs.Counting.{count_yes, count_no, count_zero}
 use Rattle.run_ticks.specs.Laws.{items_in}
 use Rattle.run_ticks.specs.Posted.{posts_add, adds_posted, serves_item, serves_add, adds_served, adds_under_way}
-use Rattle.run_ticks.proofs.Waiting.{first_amount, serves_amount, event_serves, posts_amount, posted_amount, served_amount, waiting, waiting_sum}
+use Rattle.run_ticks.proofs.Waiting.{event_serves, posts_amount, posted_amount, served_amount, waiting_sum}
 
 -- the ticks of all nodes
 abbrev pub ticks_sum_of : Cluster → Course → ℕ
