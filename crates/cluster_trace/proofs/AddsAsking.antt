@@ -1,5 +1,5 @@
 -- An add that a home serves for another node is the one that the first frame of the asker's stack wants.
-use Rattle.std.proofs.Common.{◌≡◌, ◌<◌, ℕ, ℤ, List, Option, None, refl, ◌∙◌, ap}
+use Rattle.std.proofs.Common.{◌≡◌, ◌<◌, ℕ, ℤ, List, Option, None, refl, ap}
 use Rattle.cilk_meaning.specs.Resolved.{Program}
 use Rattle.machine_code.specs.StandsFor.{StandsFor}
 use Rattle.page_messages.specs.declared.closure.FrameId.{FrameId}
@@ -16,7 +16,7 @@ use Rattle.cluster_rules.proofs.UnderWay.{moved_by}
 use Rattle.cluster_edges.proofs.Asking.{asks_life}
 use Rattle.cluster_edges.proofs.AskedThere.{asks_served}
 use Rattle.cluster_trace.proofs.Spawning.{step_then}
-use Rattle.cluster_trace.proofs.Ahead.{ahead, old_in, told_so}
+use Rattle.cluster_trace.proofs.Ahead.{ahead, old_in}
 use Rattle.cluster_trace.proofs.Onwards.{AddsAsked}
 
 -- Where a home does an add, the execution is not yet ahead of the node that asked for it.
@@ -24,8 +24,7 @@ not_ahead : (cluster : Cluster) (course : Course) → Stepped cluster course →
     → (frame : FrameId) (index word : ℕ) (old addend : ℤ) (serves : Serves (node_at cluster number) (own number course) frame index word old addend)
     → ahead serves.add.sender course ≡ None
 not_ahead cluster course stepped number here less frame index word old addend serves =
-    told_so cluster course stepped serves.add.sender
-    ∙ ap old_in (was_asked cluster course number here less (phased cluster course stepped) frame index word old addend serves)
+    ap old_in (was_asked cluster course number here less (phased cluster course stepped) frame index word old addend serves)
 
 -- A served add is the one that the first frame of the asker wants, and the execution is not ahead of the asker.
 pub adds_asked : (cluster : Cluster) (turns : List WholeTurn) (lawful : IsLawful cluster turns) (program : Program) (stands : StandsFor cluster.code program)

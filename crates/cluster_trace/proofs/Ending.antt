@@ -31,8 +31,6 @@ use Rattle.cluster_edges.proofs.Asking.{step_at}
 use Rattle.cluster_edges.proofs.Firsts.{stepped_first}
 use Rattle.cluster_edges.proofs.Joining.{tied}
 use Rattle.cluster_edges.proofs.Lone.{Only, nowhere}
-use Rattle.determinacy.proofs.Completed.{complete}
-use Rattle.determinacy.specs.Following.{Complete}
 use Rattle.determinacy.specs.Replies.{Trace, want_at, Born}
 use Rattle.cluster_trace.specs.Instances.{trace_of}
 use Rattle.cluster_trace.proofs.Spawning.{all_stepped, made_first}
@@ -40,7 +38,7 @@ use Rattle.cluster_trace.proofs.Standing.{Stacked, account_wants, value_returns}
 use Rattle.cluster_trace.proofs.Ahead.{ahead, quiet_none}
 use Rattle.cluster_trace.proofs.Accounted.{Accounted}
 use Rattle.cluster_trace.proofs.Changes.{on_none, live_here, last_has}
-use Rattle.cluster_trace.proofs.Always.{all_so, obeys}
+use Rattle.cluster_trace.proofs.Always.{all_so}
 
 -- where all frames of a stack have returned, the top one has, and so have those below
 top_returned : {A : Type 0} (deposits : List Deposit) (top : Life) (below : List Life) (gives : Option ℤ) → returned top ≡ gives
