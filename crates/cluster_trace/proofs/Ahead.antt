@@ -1,11 +1,11 @@
 -- The old value that a home has told for a node which does not know it yet: there the execution is one answer ahead of the node.
 use Rattle.std.proofs.Common.{◌≡◌, ◌<◌, ℕ, ℤ, List, Option, Some, None, ap}
+use Rattle.page_messages.specs.declared.closure.FrameId.{FrameId}
 use Rattle.cluster_rules.specs.Lives.{Life, added}
 use Rattle.cluster_rules.specs.Sendings.{IsQuiet}
 use Rattle.cluster_rules.specs.Frames.{stack_of}
 use Rattle.cluster_rules.specs.Positions.{Course, own}
 use Rattle.cluster_rules.specs.Runs.{Cluster, node_at}
-use Rattle.page_messages.specs.declared.closure.FrameId.{FrameId}
 use Rattle.cluster_rules.proofs.Stepping.{Stepped}
 use Rattle.cluster_rules.proofs.Marks.{AddsFirst}
 use Rattle.cluster_rules.proofs.Phases.{Phase, Idle, Asked, Told, phase_of, IsFirst}
@@ -25,6 +25,9 @@ ahead number course = old_in (phase_of number course)
 abbrev pub lead : Option ℤ → List Life → List Life
 lead None stack = stack
 lead (Some old) stack = added old stack
+
+pub lead_none : (led : Option ℤ) (stack : List Life) → led ≡ None → lead led stack ≡ stack
+lead_none led stack none = ap (λ it. lead it stack) none
 
 module _ (cluster : Cluster) (course : Course) (stepped : Stepped cluster course) (number : ℕ) where
   -- A node that waits for nothing is as the execution.

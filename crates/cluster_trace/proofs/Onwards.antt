@@ -1,5 +1,5 @@
 -- Through each event of a course the accounts of all frames are kept, and it answers what its frame wants.
-use Rattle.std.proofs.Common.{◌≡◌, ◌≢◌, ◌⊎◌, inl, inr, ℕ, suc, ◌+◌, ◌<◌, ◌≤◌, ℤ, List, [], ◌∷◌, Option, Some, None, true, false, cond, eqb, is_some, refl, sym, ◌∙◌, ap, subst, arith}
+use Rattle.std.proofs.Common.{◌≡◌, ◌≢◌, ◌⊎◌, inl, inr, ℕ, suc, ◌+◌, ◌<◌, ◌≤◌, ℤ, List, [], ◌∷◌, Option, Some, None, true, false, cond, eqb, refl, sym, ◌∙◌, ap, subst, arith}
 use Rattle.backer_order.specs.Log as log
 use Rattle.cilk_meaning.specs.Instance.{Meaning}
 use Rattle.cilk_meaning.specs.Resolved.{Program}
@@ -48,7 +48,7 @@ use Rattle.cluster_trace.proofs.Placing.{Tells, Says}
 use Rattle.cluster_trace.proofs.Answering.{act_wanted, tick_wanted}
 use Rattle.cluster_trace.proofs.Going.{life_tick, life_add}
 use Rattle.cluster_trace.proofs.Elsewhere.{NotBy, Only, only_actor, only_ticker}
-use Rattle.cluster_trace.proofs.Ahead.{old_in, ahead, lead, quiet_none}
+use Rattle.cluster_trace.proofs.Ahead.{old_in, ahead, lead, lead_none, quiet_none}
 use Rattle.cluster_trace.proofs.Accounted.{NodeAccounts, BodyAccount, Accounted, node_same, body_same, says_same, accounted_next}
 use Rattle.cluster_trace.proofs.Changes.{live_here, live_node, taken_node, grant_node, empty_node, park_closure, done_says, took_node, added_node}
 use Rattle.cluster_trace.proofs.Doing.{aims_more, below_same, item_next, act_stack}
@@ -103,10 +103,6 @@ one_more frame self more all less = let some : one (same_frame frame frame) ≡ 
 no_more : (count : ℕ) → count ≤ count
 no_more count = omega arith
 
-none_of : (one : Option ℤ) → is_some one ≡ false → one ≡ None
-none_of None is = refl
-none_of (Some old) is = absurd (cc)
-
 module _ (cluster : Cluster) (turns : List WholeTurn) (lawful : IsLawful cluster turns) (program : Program) (stands : StandsFor cluster.code program) where
   abbrev course : Course
   course = course_of turns
@@ -132,12 +128,6 @@ module _ (cluster : Cluster) (turns : List WholeTurn) (lawful : IsLawful cluster
       → (serves.add.sender < cluster.config.nodes) × (ahead serves.add.sender (before course position) ≡ None) × (life : Life) × (below : List Life)
       × (stack_of (node_at cluster serves.add.sender) (own serves.add.sender (before course position)) ≡ life ∷ below) × (life.id ≡ frame)
       × (want_of life ≡ Some (Asks (want.Add word addend)))
-
-  lead_none_stack : (position : ℕ) (moved : Moved) (one : Option ℤ) (stack : List Life) → one ≡ None
-      → Stacked cluster program stands trace (suc position) (moved ∷ before course position) [] stack
-      → Stacked cluster program stands trace (suc position) (moved ∷ before course position) [] (lead one stack)
-  lead_none_stack position moved None stack none all = all
-  lead_none_stack position moved (Some old) stack none all = absurd (cc)
 
   module _ (position number : ℕ) (here : Option PostAt) where
     abbrev earlier : Course
@@ -285,8 +275,8 @@ module _ (cluster : Cluster) (turns : List WholeTurn) (lawful : IsLawful cluster
           item_next cluster turns lawful program stands position moved found answers number (less event found) may.life.id only some
               (after_act node done (live frames.stack))
               (frames_now event found)
-              (lead_none_stack position moved (ahead number earlier) (after_act node done (live frames.stack)) led
-              (subst (λ list. Stacked cluster program stands trace (suc position) (moved ∷ earlier) [] (after_act node done list)) (sym first.1) stack))
+              (subst (Stacked cluster program stands trace (suc position) (moved ∷ earlier) [])
+              (ap (after_act node done) (sym first.1) ∙ sym (lead_none (ahead number earlier) (after_act node done (live frames.stack)) led)) stack)
               (λ other apart. refl) (frames_there event found) (λ message is. absurd (cc)) it,
         )
 
@@ -318,8 +308,8 @@ module _ (cluster : Cluster) (turns : List WholeTurn) (lawful : IsLawful cluster
           item_next cluster turns lawful program stands position moved found answers number (less event found) may.life.id only some
               (with_first (answered Done) (live frames.stack))
               (frames_now event found)
-              (lead_none_stack position moved (ahead number earlier) (with_first (answered Done) (live frames.stack)) led
-              (subst (λ list. Stacked cluster program stands trace (suc position) (moved ∷ earlier) [] (with_first (answered Done) list)) (sym first.1) stack))
+              (subst (Stacked cluster program stands trace (suc position) (moved ∷ earlier) []) (ap (with_first (answered Done)) (sym first.1)
+              ∙ sym (lead_none (ahead number earlier) (with_first (answered Done) (live frames.stack)) led)) stack)
               (λ other apart. refl) (frames_there event found) (λ message is. absurd (cc)) it,
         )
 
@@ -382,9 +372,9 @@ module _ (cluster : Cluster) (turns : List WholeTurn) (lawful : IsLawful cluster
                 (add_only number within reads number within life first.0 may.add.acts.named all may.add.wanted marks_less)
                 (add_some number within reads number within life first.0 may.add.acts.named all may.add.wanted marks_less) (added old (live frames.stack))
                 (frames_now served found ∙ now)
-                (lead_none_stack position moving (ahead number (moving ∷ earlier)) (added old (live frames.stack))
-                (ap (λ adds. old_in (after_adding number frame index old adds phase)) free.none_owed ∙ led)
-                (subst (λ list. Stacked cluster program stands trace (suc position) (moving ∷ earlier) [] (added old list)) (sym first.1) stack))
+                (subst (Stacked cluster program stands trace (suc position) (moving ∷ earlier) []) (ap (added old) (sym first.1)
+                ∙ sym (lead_none (ahead number (moving ∷ earlier)) (added old (live frames.stack))
+                (ap (λ adds. old_in (after_adding number frame index old adds phase)) free.none_owed ∙ led))) stack)
                 (λ other apart. ap (λ adds. old_in (after_adding other frame index old adds (phase_of other earlier))) free.none_owed) (frames_there served found)
                 (λ message is. absurd (cc)) it,
           )

@@ -10,7 +10,6 @@ use Rattle.machine_code.specs.StandsFor.{StandsFor}
 use Rattle.page_messages.specs.declared.closure.FrameId.{FrameId}
 use Rattle.page_messages.specs.declared.log.LoggedAct.{LoggedAct}
 use Rattle.page_messages.specs.declared.log.LoggedAct.TheVariants as act
-use Rattle.page_messages.specs.declared.log.Item.{Item}
 use Rattle.page_messages.specs.declared.log.Item.TheVariants as item
 use Rattle.page_messages.specs.declared.log.PostAt.{PostAt}
 use Rattle.cluster_rules.specs.Walking.{is_empty, with_first, first_of}
@@ -41,7 +40,7 @@ use Rattle.cluster_trace.proofs.Spawning.{all_stepped}
 use Rattle.cluster_trace.proofs.Standing.{Stacked, account_wants, live_stacked}
 use Rattle.cluster_trace.proofs.Ahead.{lead, quiet_none}
 use Rattle.cluster_trace.proofs.Always.{all_so}
-use Rattle.lone_cluster.proofs.Silent.{OwnEvent, Silent, silent_own, no_adds, no_waits, own_here, Lone, lone}
+use Rattle.lone_cluster.proofs.Silent.{OwnEvent, silent_own, no_adds, no_waits, own_here, Lone, lone}
 use Rattle.lone_cluster.proofs.Positions.{stands_at, may_act, acting}
 
 -- ---- stacks by name
@@ -160,10 +159,9 @@ module _ (cluster : Cluster) (turns : List WholeTurn) (lawful : IsLawful cluster
   stack_stacked position less =
       let it = (all_so cluster turns lawful program stands parted position less).1 in
       let so_far = first position course in
-      let inside : 0 < cluster.config.nodes = omega (arith, alone) in
       let quiet = no_waits (own 0 so_far) (silent_own 0 so_far (lone_at position).0) in
       subst (λ led. Stacked cluster program stands trace position so_far [] (lead led (stack_at position)))
-      (quiet_none cluster so_far (stepped_first cluster course position stepped) 0 inside quiet) (it.nodes 0 inside).stack
+      (quiet_none cluster so_far (stepped_first cluster course position stepped) 0 (omega (arith, alone)) quiet) (it.nodes 0 (omega (arith, alone))).stack
 
   pub stack_wants : (position : ℕ) → position ≤ length course → Wanting position (stack_at position)
   stack_wants position less = stacked_wanting position (first position course) [] (stack_at position) (stack_stacked position less)
