@@ -151,15 +151,15 @@ module _ (P : Saying) where
   }
 
   module _ (holds : (id : FrameId) (goes : Meaning) → P id goes) where
-    each_always : (lives : List Life) → Each P lives
+    pub each_always : (lives : List Life) → Each P lives
     each_always [] = tt
     each_always (life ∷ lives) = (holds life.id life.goes, each_always lives)
 
-    parked_always : (code : Code) (parked : List Parked) → EachParked code P parked
+    pub parked_always : (code : Code) (parked : List Parked) → EachParked code P parked
     parked_always code [] = tt
     parked_always code (first ∷ parked) = (holds first.closure.id (wants code first.closure.frame.frame), parked_always code parked)
 
-    body_always : (code : Code) (said : Body) → OfBody code P said
+    pub body_always : (code : Code) (said : Body) → OfBody code P said
     body_always code (body.Fetch page) = tt
     body_always code (body.Page page words) = tt
     body_always code (body.Reconcile parts) = tt

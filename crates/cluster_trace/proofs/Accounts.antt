@@ -7,7 +7,7 @@ use Rattle.std.proofs.lemmas.List.Sorted.{IsPermutation-to_front, IsPermutation-
 use Rattle.cilk_meaning.specs.Instance.{Meaning}
 use Rattle.cilk_meaning.specs.Resolved.{Program}
 use Rattle.cilk_meaning.specs.Serve.{after, rest_of}
-use Rattle.cilk_meaning.specs.Wants.{Returns, Deposit, Answer, Value, Done}
+use Rattle.cilk_meaning.specs.Wants.{Returns, Deposit, Answer, Done}
 use Rattle.machine_code.specs.Early.{at_sync}
 use Rattle.machine_code.specs.Machine.{starts}
 use Rattle.machine_code.specs.StandsFor.{StandsFor}

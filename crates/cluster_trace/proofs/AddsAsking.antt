@@ -1,31 +1,19 @@
 -- An add that a home serves for another node is the one that the first frame of the asker's stack wants.
-use Rattle.std.proofs.Common.{◌≡◌, ◌<◌, ℕ, ℤ, List, Option, None, refl, ◌∙◌, ap}
+use Rattle.std.proofs.Common.{List, refl, ap}
 use Rattle.cilk_meaning.specs.Resolved.{Program}
 use Rattle.machine_code.specs.StandsFor.{StandsFor}
-use Rattle.page_messages.specs.declared.closure.FrameId.{FrameId}
 use Rattle.page_messages.specs.declared.log.Item.TheVariants as item
-use Rattle.page_messages.specs.declared.log.PostAt.{PostAt}
 use Rattle.cluster_rules.specs.Turns.{WholeTurn, Did}
 use Rattle.cluster_rules.specs.Frames.{stack_of}
-use Rattle.cluster_rules.specs.Acting.{Serves}
-use Rattle.cluster_rules.specs.Positions.{Course, course_of, own, before}
+use Rattle.cluster_rules.specs.Positions.{course_of, own, before}
 use Rattle.cluster_rules.specs.Runs.{Cluster, IsLawful, node_at}
-use Rattle.cluster_rules.proofs.Stepping.{Stepped}
 use Rattle.cluster_rules.proofs.Asking.{phased, was_asked}
 use Rattle.cluster_rules.proofs.UnderWay.{moved_by}
 use Rattle.cluster_edges.proofs.Asking.{asks_life}
 use Rattle.cluster_edges.proofs.AskedThere.{asks_served}
 use Rattle.cluster_trace.proofs.Spawning.{step_then}
-use Rattle.cluster_trace.proofs.Ahead.{ahead, old_in, told_so}
+use Rattle.cluster_trace.proofs.Ahead.{old_in}
 use Rattle.cluster_trace.proofs.Onwards.{AddsAsked}
-
--- Where a home does an add, the execution is not yet ahead of the node that asked for it.
-not_ahead : (cluster : Cluster) (course : Course) → Stepped cluster course → (number : ℕ) (here : Option PostAt) → number < cluster.config.nodes
-    → (frame : FrameId) (index word : ℕ) (old addend : ℤ) (serves : Serves (node_at cluster number) (own number course) frame index word old addend)
-    → ahead serves.add.sender course ≡ None
-not_ahead cluster course stepped number here less frame index word old addend serves =
-    told_so cluster course stepped serves.add.sender
-    ∙ ap old_in (was_asked cluster course number here less (phased cluster course stepped) frame index word old addend serves)
 
 -- A served add is the one that the first frame of the asker wants, and the execution is not ahead of the asker.
 pub adds_asked : (cluster : Cluster) (turns : List WholeTurn) (lawful : IsLawful cluster turns) (program : Program) (stands : StandsFor cluster.code program)
@@ -37,7 +25,8 @@ adds_asked cluster turns lawful program stands position number here frame index 
     let sender = serves.add.sender in
     let first = asks_life frame word addend (stack_of (node_at cluster sender) (own sender (before (course_of turns) position))) asks.1 in (
       asks.0,
-      not_ahead cluster (before (course_of turns) position) stepped.0 number here stepped.1.within frame index word old addend serves,
+      ap old_in (was_asked cluster (before (course_of turns) position) number here stepped.1.within (phased cluster (before (course_of turns) position) stepped.0)
+          frame index word old addend serves),
       first.0,
       first.1,
       first.2,

@@ -14,7 +14,7 @@ use Rattle.page_messages.specs.declared.log.Item.TheVariants as item
 use Rattle.cluster_rules.specs.Turns.{WholeTurn, Did, Past}
 use Rattle.cluster_rules.specs.Node.{Node}
 use Rattle.cluster_rules.specs.Lives.{Life, target_in, want_of}
-use Rattle.cluster_rules.specs.Acting.{Wants, Acts, MaySync, MayMake, MayAct, MayTick, MayAdd}
+use Rattle.cluster_rules.specs.Acting.{Wants, Acts, MaySync, MayMake, MayAct, MayTick}
 use Rattle.cluster_rules.specs.Positions.{Moved, Course, course_of, own, at, before}
 use Rattle.cluster_rules.specs.Runs.{Cluster, IsLawful, node_at}
 use Rattle.cluster_order.specs.Reading.{act_of}

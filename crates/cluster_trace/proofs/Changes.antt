@@ -32,7 +32,7 @@ use Rattle.cluster_edges.proofs.Joining.{tied}
 use Rattle.determinacy.specs.Replies.{Trace}
 use Rattle.cluster_trace.proofs.Standing.{LifeAccount, Stacked, account_wants, live_stacked}
 use Rattle.cluster_trace.proofs.Placing.{ClosureAccount, AllLives, AllParked, lives_append, parked_append, closed, separated, bottom_off, Tells, Says, AllNamed, all_from}
-use Rattle.cluster_trace.proofs.Ahead.{ahead, lead, ahead_first}
+use Rattle.cluster_trace.proofs.Ahead.{ahead, lead, lead_none, ahead_first}
 use Rattle.cluster_trace.proofs.Accounted.{NodeAccounts, BodyAccount, Accounted}
 
 module _ (cluster : Cluster) (program : Program) (stands : StandsFor cluster.code program) (trace : Trace) (at : ℕ) (course : Course)
@@ -62,28 +62,20 @@ module _ (cluster : Cluster) (program : Program) (stands : StandsFor cluster.cod
   abbrev here : Keeps led frames
   here = it.nodes number less
 
-  pub on_none : (one : Option ℤ) (stack : List Life) → one ≡ None → On [] (lead one stack) → On [] stack
-  on_none None stack none all = all
-  on_none (Some old) stack none all = absurd (cc)
-
-  on_some : (one : Option ℤ) (stack : List Life) → one ≡ None → On [] stack → On [] (lead one stack)
-  on_some None stack none all = all
-  on_some (Some old) stack none all = absurd (cc)
-
   on_nothing : (one : Option ℤ) → On [] (lead one [])
   on_nothing None = tt
   on_nothing (Some old) = tt
 
   -- Where the node waits for nothing, its live frames have their accounts.
   pub live_here : led ≡ None → On [] (live frames.stack)
-  live_here none = live_stacked cluster program stands trace at course frames.stack (on_none led frames.stack none here.stack)
+  live_here none = live_stacked cluster program stands trace at course frames.stack (subst (On []) (lead_none led frames.stack none) here.stack)
 
   pub live_node : led ≡ None → Keeps led (record frames { stack = live frames.stack })
-  live_node none = record { stack = on_some led (live frames.stack) none (live_here none); ready = here.ready; parked = here.parked }
+  live_node none = record { stack = subst (On []) (sym (lead_none led (live frames.stack) none)) (live_here none); ready = here.ready; parked = here.parked }
 
   taken_on : (ready : List Life) → AllLives cluster program stands trace at course ready → led ≡ None → Keeps led (taken_up frames.stack ready frames.parked)
   taken_on [] all none = record { stack = here.stack; ready = tt; parked = here.parked }
-  taken_on (life ∷ ready) all none = record { stack = on_some led (life ∷ []) none (all.0, tt, tt); ready = all.1; parked = here.parked }
+  taken_on (life ∷ ready) all none = record { stack = subst (On []) (sym (lead_none led (life ∷ []) none)) (all.0, tt, tt); ready = all.1; parked = here.parked }
 
   pub taken_node : led ≡ None → Keeps led (taken_up frames.stack frames.ready frames.parked)
   taken_node none = taken_on frames.ready here.ready none
@@ -141,7 +133,7 @@ module _ (cluster : Cluster) (program : Program) (stands : StandsFor cluster.cod
   done_says receiver join index value may =
       let none : led ≡ None = none_or led
       (λ old is. let first = ahead_first cluster course stepped number old is in returned_none first.0 first.1 frames.stack first.2 may.returned.none_left) in
-      let bottom = last_has [] frames.stack may.life may.returned.at_bottom (on_none led frames.stack none here.stack)
+      let bottom = last_has [] frames.stack may.life may.returned.at_bottom (subst (On []) (lead_none led frames.stack none) here.stack)
       ((tied cluster course stepped).nodes number less).stack in
       let parent = bottom.2.fits.linked join may.link in
       record {

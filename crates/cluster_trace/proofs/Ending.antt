@@ -31,16 +31,14 @@ use Rattle.cluster_edges.proofs.Asking.{step_at}
 use Rattle.cluster_edges.proofs.Firsts.{stepped_first}
 use Rattle.cluster_edges.proofs.Joining.{tied}
 use Rattle.cluster_edges.proofs.Lone.{Only, nowhere}
-use Rattle.determinacy.proofs.Completed.{complete}
-use Rattle.determinacy.specs.Following.{Complete}
 use Rattle.determinacy.specs.Replies.{Trace, want_at, Born}
 use Rattle.cluster_trace.specs.Instances.{trace_of}
 use Rattle.cluster_trace.proofs.Spawning.{all_stepped, made_first}
 use Rattle.cluster_trace.proofs.Standing.{Stacked, account_wants, value_returns}
-use Rattle.cluster_trace.proofs.Ahead.{ahead, quiet_none}
+use Rattle.cluster_trace.proofs.Ahead.{ahead, lead_none, quiet_none}
 use Rattle.cluster_trace.proofs.Accounted.{Accounted}
-use Rattle.cluster_trace.proofs.Changes.{on_none, live_here, last_has}
-use Rattle.cluster_trace.proofs.Always.{all_so, obeys}
+use Rattle.cluster_trace.proofs.Changes.{live_here, last_has}
+use Rattle.cluster_trace.proofs.Always.{all_so}
 
 -- where all frames of a stack have returned, the top one has, and so have those below
 top_returned : {A : Type 0} (deposits : List Deposit) (top : Life) (below : List Life) (gives : Option ℤ) → returned top ≡ gives
@@ -137,7 +135,7 @@ module _ (cluster : Cluster) (turns : List WholeTurn) (lawful : IsLawful cluster
       main_returns it =
           let stepped = stepped_there position in
           let here = (accounted.nodes number less).stack in
-          let all = on_none cluster program stands trace position so_far stepped number less accounted (ahead number so_far) stack none_ahead here in
+          let all = subst (Stacked cluster program stands trace position so_far []) (lead_none (ahead number so_far) stack none_ahead) here in
           let ties = ((tied cluster so_far stepped).nodes number less).stack in
           let bottom = last_has cluster program stands trace position so_far stepped number less accounted [] stack it.life it.returned.at_bottom all ties in
           let gives = last_returned [] stack it.life it.returned.none_left it.returned.at_bottom in

@@ -4,10 +4,7 @@ use Rattle.backer_order.specs.Log as log
 use Rattle.backer_order.specs.Log.{main_id}
 use Rattle.cilk_meaning.specs.declared.ends.NodeEnd.{NodeEnd}
 use Rattle.cilk_meaning.specs.declared.ends.NodeEnd.TheVariants.{Finished, Trapped, Budget}
-use Rattle.cilk_meaning.specs.Parted.{IsParted}
-use Rattle.cilk_meaning.specs.Resolved.{Program}
 use Rattle.machine_code.specs.Machine.{starts}
-use Rattle.machine_code.specs.StandsFor.{StandsFor}
 use Rattle.page_messages.specs.declared.closure.FrameId.{FrameId}
 use Rattle.page_messages.specs.declared.log.Turn.{Turn}
 use Rattle.cluster_rules.specs.Positions.{Course, course_of, before, Happens}

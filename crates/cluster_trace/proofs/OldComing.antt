@@ -1,5 +1,5 @@
 -- An old value that a node takes is the one that its home told for it last.
-use Rattle.std.proofs.Common.{List, ◌∙◌, ap}
+use Rattle.std.proofs.Common.{List, ap}
 use Rattle.cilk_meaning.specs.Resolved.{Program}
 use Rattle.machine_code.specs.StandsFor.{StandsFor}
 use Rattle.cluster_rules.specs.Turns.{WholeTurn, Took}
@@ -8,7 +8,7 @@ use Rattle.cluster_rules.specs.Runs.{Cluster, IsLawful}
 use Rattle.cluster_rules.proofs.Asking.{phased, was_told}
 use Rattle.cluster_rules.proofs.UnderWay.{moved_by}
 use Rattle.cluster_trace.proofs.Spawning.{step_then}
-use Rattle.cluster_trace.proofs.Ahead.{old_in, told_so}
+use Rattle.cluster_trace.proofs.Ahead.{old_in}
 use Rattle.cluster_trace.proofs.Onwards.{OldComes}
 
 -- The old value in an Added that a node takes is the one by which the execution is ahead of that node.
@@ -18,4 +18,4 @@ old_comes cluster turns lawful program stands position number here message old f
     let past : Course = before (course_of turns) position in
     let step = step_then cluster turns lawful position (moved_by number (Took message) here) found in
     let told = was_told cluster past number here step.1.within (phased cluster past step.0) message step.0 step.1.carries old is in
-    told_so cluster past step.0 number ∙ ap old_in told.2
+    ap old_in told.2

@@ -1,11 +1,11 @@
 -- Through each event of a course the accounts of all frames are kept, and it answers what its frame wants.
-use Rattle.std.proofs.Common.{◌≡◌, ◌≢◌, ◌⊎◌, inl, inr, ℕ, suc, ◌+◌, ◌<◌, ◌≤◌, ℤ, List, [], ◌∷◌, Option, Some, None, true, false, cond, eqb, is_some, refl, sym, ◌∙◌, ap, subst, arith}
+use Rattle.std.proofs.Common.{◌≡◌, ◌≢◌, ◌⊎◌, inl, inr, ℕ, suc, ◌+◌, ◌<◌, ◌≤◌, ℤ, List, [], ◌∷◌, Option, Some, None, true, false, cond, eqb, refl, sym, ◌∙◌, ap, subst, arith}
 use Rattle.backer_order.specs.Log as log
 use Rattle.cilk_meaning.specs.Instance.{Meaning}
 use Rattle.cilk_meaning.specs.Resolved.{Program}
 use Rattle.cilk_meaning.specs.Wants as want
 use Rattle.cilk_meaning.specs.Wants.{Asks, Done, Value}
-use Rattle.machine_code.specs.Machine.{Code, starts, wants}
+use Rattle.machine_code.specs.Machine.{starts}
 use Rattle.machine_code.specs.StandsFor.{StandsFor}
 use Rattle.page_messages.specs.declared.closure.FrameId.{FrameId}
 use Rattle.page_messages.specs.declared.closure.JoinId.{JoinId}
@@ -21,7 +21,7 @@ use Rattle.cluster_rules.specs.Turns.{WholeTurn, Event, Did, Sent, Took, Ended, 
 use Rattle.cluster_rules.specs.Node.{Node}
 use Rattle.cluster_rules.specs.Home.{replies_in}
 use Rattle.cluster_rules.specs.Lives.{Life, same_frame, live, want_of, made, answered, added, after_act}
-use Rattle.cluster_rules.specs.Frames.{Frames, Parked, frames_on, frames_of, stack_of, stack_sent, frames_took}
+use Rattle.cluster_rules.specs.Frames.{Frames, frames_on, frames_of, stack_of, stack_sent, frames_took}
 use Rattle.cluster_rules.specs.Acting.{Acts, MayAct, MayTick, MayAddHere, Serves}
 use Rattle.cluster_rules.specs.Positions.{Moved, Course, course_of, own, at, before}
 use Rattle.cluster_rules.specs.Runs.{Cluster, IsLawful, node_at, IsOwed, IsFree, MayDo, MayPost}
@@ -29,11 +29,12 @@ use Rattle.cluster_rules.proofs.Stepping.{Stepped}
 use Rattle.cluster_rules.proofs.Marks.{one, many, named, marks, first_is, live_within, same_name, same_self}
 use Rattle.cluster_rules.proofs.Passing.{may_post}
 use Rattle.cluster_rules.proofs.Holding.{own_first, own_other}
-use Rattle.cluster_rules.proofs.Phasing.{cond_same}
+use Rattle.cluster_rules.proofs.Phases.{Phase, after_post, after_taking, after_adding, phase_of}
+use Rattle.cluster_rules.proofs.Asking.{phased, phase_asker, phase_others}
 use Rattle.cluster_rules.proofs.Testing.{own_number, other_number}
 use Rattle.cluster_rules.proofs.Summing.{one_or_two}
 use Rattle.cluster_rules.proofs.UnderWay.{moved_by}
-use Rattle.cluster_edges.proofs.Anywhere.{Saying, Each, EachParked, OfBody, everywhere_always}
+use Rattle.cluster_edges.proofs.Anywhere.{each_always, parked_always, body_always, everywhere_always}
 use Rattle.cluster_edges.proofs.Granting.{granted}
 use Rattle.cluster_edges.proofs.Joining.{tied}
 use Rattle.cluster_order.specs.Reading.{words_of, part_of, note_of, taken_from, served_for, act_of, item_of, happens_to}
@@ -47,7 +48,7 @@ use Rattle.cluster_trace.proofs.Placing.{Tells, Says}
 use Rattle.cluster_trace.proofs.Answering.{act_wanted, tick_wanted}
 use Rattle.cluster_trace.proofs.Going.{life_tick, life_add}
 use Rattle.cluster_trace.proofs.Elsewhere.{NotBy, Only, only_actor, only_ticker}
-use Rattle.cluster_trace.proofs.Ahead.{ahead, ahead_adding, ahead_taking, lead, quiet_none}
+use Rattle.cluster_trace.proofs.Ahead.{old_in, ahead, lead, lead_none, quiet_none}
 use Rattle.cluster_trace.proofs.Accounted.{NodeAccounts, BodyAccount, Accounted, node_same, body_same, says_same, accounted_next}
 use Rattle.cluster_trace.proofs.Changes.{live_here, live_node, taken_node, grant_node, empty_node, park_closure, done_says, took_node, added_node}
 use Rattle.cluster_trace.proofs.Doing.{aims_more, below_same, item_next, act_stack}
@@ -102,32 +103,6 @@ one_more frame self more all less = let some : one (same_frame frame frame) ≡ 
 no_more : (count : ℕ) → count ≤ count
 no_more count = omega arith
 
-none_of : (one : Option ℤ) → is_some one ≡ false → one ≡ None
-none_of None is = refl
-none_of (Some old) is = absurd (cc)
-
-module _ (P : Saying) (holds : (id : FrameId) (goes : Meaning) → P id goes) where
-  all_each : (lives : List Life) → Each P lives
-  all_each [] = tt
-  all_each (life ∷ lives) = (holds life.id life.goes, all_each lives)
-
-  all_parked : (code : Code) (parked : List Parked) → EachParked code P parked
-  all_parked code [] = tt
-  all_parked code (first ∷ parked) = (holds first.closure.id (wants code first.closure.frame.frame), all_parked code parked)
-
-  all_body : (code : Code) (said : Body) → OfBody code P said
-  all_body code (body.Fetch page) = tt
-  all_body code (body.Page page words) = tt
-  all_body code (body.Reconcile parts) = tt
-  all_body code body.Ack = tt
-  all_body code body.Ask = tt
-  all_body code (body.Grant closure) = holds closure.id (wants code closure.frame.frame)
-  all_body code body.Refuse = tt
-  all_body code (body.Done join index value) = tt
-  all_body code (body.Park join closure) = holds closure.id (wants code closure.frame.frame)
-  all_body code (body.Add frame index word addend) = tt
-  all_body code (body.Added old) = tt
-
 module _ (cluster : Cluster) (turns : List WholeTurn) (lawful : IsLawful cluster turns) (program : Program) (stands : StandsFor cluster.code program) where
   abbrev course : Course
   course = course_of turns
@@ -154,12 +129,6 @@ module _ (cluster : Cluster) (turns : List WholeTurn) (lawful : IsLawful cluster
       × (stack_of (node_at cluster serves.add.sender) (own serves.add.sender (before course position)) ≡ life ∷ below) × (life.id ≡ frame)
       × (want_of life ≡ Some (Asks (want.Add word addend)))
 
-  lead_none_stack : (position : ℕ) (moved : Moved) (one : Option ℤ) (stack : List Life) → one ≡ None
-      → Stacked cluster program stands trace (suc position) (moved ∷ before course position) [] stack
-      → Stacked cluster program stands trace (suc position) (moved ∷ before course position) [] (lead one stack)
-  lead_none_stack position moved None stack none all = all
-  lead_none_stack position moved (Some old) stack none all = absurd (cc)
-
   module _ (position number : ℕ) (here : Option PostAt) where
     abbrev earlier : Course
     earlier = before course position
@@ -172,6 +141,9 @@ module _ (cluster : Cluster) (turns : List WholeTurn) (lawful : IsLawful cluster
 
     abbrev frames : Frames
     frames = frames_of node past
+
+    abbrev phase : Phase
+    phase = phase_of number earlier
 
     abbrev Found : Event → Type 0
     Found event = at course position ≡ Some (moved_by number event here)
@@ -220,12 +192,12 @@ module _ (cluster : Cluster) (turns : List WholeTurn) (lawful : IsLawful cluster
             accounted_next cluster turns lawful program stands position moved found answers number (λ other below apart. all.at other below) all.letters
                 (subst (NodeAccounts cluster program stands trace (suc position) later (ahead number later)) (sym frames_now)
                 (node_same cluster turns lawful program stands position moved found answers (ahead number later) each
-                (all_each Not (λ id goes. none id) (lead (ahead number later) each.stack))
-                (all_each Not (λ id goes. none id) each.ready) (all_parked Not (λ id goes. none id) cluster.code each.parked) now))
+                (each_always Not (λ id goes. none id) (lead (ahead number later) each.stack))
+                (each_always Not (λ id goes. none id) each.ready) (parked_always Not (λ id goes. none id) cluster.code each.parked) now))
                 aheads frames_there
                 (λ message is. let both = sent message is in (
                   body_same cluster turns lawful program stands position moved found answers message.body
-                      (all_body Not (λ id goes. none id) cluster.code message.body) both.0,
+                      (body_always Not (λ id goes. none id) cluster.code message.body) both.0,
                   says_same cluster turns lawful program stands position moved found answers message.body both.1,
                 ))
                 it,
@@ -236,6 +208,22 @@ module _ (cluster : Cluster) (turns : List WholeTurn) (lawful : IsLawful cluster
 
       quiet_by : Nobody (happens_to cluster earlier number here event) → Nobody (trace.events position)
       quiet_by none = λ id. ap (by id) event_reads ∙ none id
+
+      -- a post or a taking, which changes the phase of its own node alone
+      changes : (after : Phase → Phase)
+          → ((other : ℕ) → phase_of other later ≡ cond (eqb number other) (after (phase_of other earlier)) (phase_of other earlier))
+          → Nobody (happens_to cluster earlier number here event)
+          → NodeAccounts cluster program stands trace position earlier (old_in (after phase)) (frames_on node event past frames)
+          → ((message : Msg) → event ≡ Sent message → BodyAccount cluster program stands trace position earlier message.body
+          × Says cluster program stands trace position earlier message.body)
+          → Old → Result event
+      changes after phases none now sent it =
+          nobody (quiet_by none)
+          (subst (λ led. NodeAccounts cluster program stands trace position earlier (old_in led) (frames_on node event past frames))
+          (sym (phases number ∙ ap (λ b. cond b (after phase) phase) (own_number number))) now)
+          (λ other apart. ap old_in (phases other
+          ∙ ap (λ b. cond b (after (phase_of other earlier)) (phase_of other earlier)) (other_number number other (λ same. apart (sym same)))))
+          sent it
 
       frames_stay : frames_on node event past frames ≡ frames → (other : ℕ) → (other ≡ number) ⊎ (other ≢ number)
           → frames_of (node_at cluster other) (own other later) ≡ frames_of (node_at cluster other) (own other earlier)
@@ -287,8 +275,8 @@ module _ (cluster : Cluster) (turns : List WholeTurn) (lawful : IsLawful cluster
           item_next cluster turns lawful program stands position moved found answers number (less event found) may.life.id only some
               (after_act node done (live frames.stack))
               (frames_now event found)
-              (lead_none_stack position moved (ahead number earlier) (after_act node done (live frames.stack)) led
-              (subst (λ list. Stacked cluster program stands trace (suc position) (moved ∷ earlier) [] (after_act node done list)) (sym first.1) stack))
+              (subst (Stacked cluster program stands trace (suc position) (moved ∷ earlier) [])
+              (ap (after_act node done) (sym first.1) ∙ sym (lead_none (ahead number earlier) (after_act node done (live frames.stack)) led)) stack)
               (λ other apart. refl) (frames_there event found) (λ message is. absurd (cc)) it,
         )
 
@@ -320,8 +308,8 @@ module _ (cluster : Cluster) (turns : List WholeTurn) (lawful : IsLawful cluster
           item_next cluster turns lawful program stands position moved found answers number (less event found) may.life.id only some
               (with_first (answered Done) (live frames.stack))
               (frames_now event found)
-              (lead_none_stack position moved (ahead number earlier) (with_first (answered Done) (live frames.stack)) led
-              (subst (λ list. Stacked cluster program stands trace (suc position) (moved ∷ earlier) [] (with_first (answered Done) list)) (sym first.1) stack))
+              (subst (Stacked cluster program stands trace (suc position) (moved ∷ earlier) []) (ap (with_first (answered Done)) (sym first.1)
+              ∙ sym (lead_none (ahead number earlier) (with_first (answered Done) (live frames.stack)) led)) stack)
               (λ other apart. refl) (frames_there event found) (λ message is. absurd (cc)) it,
         )
 
@@ -384,10 +372,10 @@ module _ (cluster : Cluster) (turns : List WholeTurn) (lawful : IsLawful cluster
                 (add_only number within reads number within life first.0 may.add.acts.named all may.add.wanted marks_less)
                 (add_some number within reads number within life first.0 may.add.acts.named all may.add.wanted marks_less) (added old (live frames.stack))
                 (frames_now served found ∙ now)
-                (lead_none_stack position moving (ahead number (moving ∷ earlier)) (added old (live frames.stack))
-                (ap (λ adds. ahead_adding number old adds (ahead number earlier)) free.none_owed ∙ led)
-                (subst (λ list. Stacked cluster program stands trace (suc position) (moving ∷ earlier) [] (added old list)) (sym first.1) stack))
-                (λ other apart. ap (λ adds. ahead_adding other old adds (ahead other earlier)) free.none_owed) (frames_there served found)
+                (subst (Stacked cluster program stands trace (suc position) (moving ∷ earlier) []) (ap (added old) (sym first.1)
+                ∙ sym (lead_none (ahead number (moving ∷ earlier)) (added old (live frames.stack))
+                (ap (λ adds. old_in (after_adding number frame index old adds phase)) free.none_owed ∙ led))) stack)
+                (λ other apart. ap (λ adds. old_in (after_adding other frame index old adds (phase_of other earlier))) free.none_owed) (frames_there served found)
                 (λ message is. absurd (cc)) it,
           )
 
@@ -413,17 +401,17 @@ module _ (cluster : Cluster) (turns : List WholeTurn) (lawful : IsLawful cluster
           let now : frames_on node served past frames ≡ frames = rw serves.oldest refl in
           let stays : (other : ℕ) → frames_of (node_at cluster other) (own other (moving ∷ earlier)) ≡ frames_of (node_at cluster other) (own other earlier) =
           λ other. frames_stay served found now other (one_or_two other number) in
+          let phases = phased cluster earlier (stepped served found).0 in
           let told : ahead sender (moving ∷ earlier) ≡ Some old =
-          ap (λ adds. ahead_adding sender old adds (ahead sender earlier)) serves.oldest
-          ∙ ap (λ b. cond b (Some old) (ahead sender earlier)) (own_number sender) in (
+          ap old_in (phase_asker cluster earlier number here (less served found) phases frame index word old addend serves) in (
             answers,
             item_next cluster turns lawful program stands position moving found answers sender facts.0 life.id
                 (add_only sender facts.0 reads sender facts.0 life below (sym facts.5) all facts.6 marks_less)
                 (add_some sender facts.0 reads sender facts.0 life below (sym facts.5) all facts.6 marks_less) there.stack (stays sender)
                 (subst (λ one. Stacked cluster program stands trace (suc position) (moving ∷ earlier) [] (lead one there.stack)) (sym told)
                 (subst (λ list. Stacked cluster program stands trace (suc position) (moving ∷ earlier) [] (added old list)) (sym facts.4) stack))
-                (λ other apart. ap (λ adds. ahead_adding other old adds (ahead other earlier)) serves.oldest
-                ∙ ap (λ b. cond b (Some old) (ahead other earlier)) (other_number sender other (λ same. apart (sym same)))) (λ other apart. stays other)
+                (λ other apart. ap old_in (phase_others cluster earlier number here (less served found) phases frame index word old addend serves other
+                (other_number sender other (λ same. apart (sym same))))) (λ other apart. stays other)
                 (λ message is. absurd (cc)) it,
           )
 
@@ -465,7 +453,7 @@ module _ (cluster : Cluster) (turns : List WholeTurn) (lawful : IsLawful cluster
       sending = Sent message
 
       abbrev Keeps : Body → Type 0
-      Keeps said = NodeAccounts cluster program stands trace position earlier (ahead number earlier) (record frames { stack = stack_sent said frames.stack })
+      Keeps said = NodeAccounts cluster program stands trace position earlier (old_in (after_post said phase)) (record frames { stack = stack_sent said frames.stack })
 
       same_message : (first other : Msg) → Sent first ≡ Sent other → first ≡ other
       same_message first other same = cc
@@ -474,8 +462,8 @@ module _ (cluster : Cluster) (turns : List WholeTurn) (lawful : IsLawful cluster
           → Says cluster program stands trace position earlier said
           → Result sending
       sent_so said is keeps account says =
-          nobody sending found (quiet_by sending found (no_post number message.receiver (note_of cluster number earlier message.body)))
-          (subst Keeps (sym is) keeps) (λ other apart. refl)
+          changes sending found (after_post message.body) (λ other. refl) (no_post number message.receiver (note_of cluster number earlier message.body))
+          (subst Keeps (sym is) keeps)
           (λ other same. subst (λ (it : Msg). BodyAccount cluster program stands trace position earlier it.body
           × Says cluster program stands trace position earlier it.body)
           (same_message message other same) (
@@ -536,9 +524,10 @@ module _ (cluster : Cluster) (turns : List WholeTurn) (lawful : IsLawful cluster
           (λ join' index' value' same. absurd (cc))
       sent_next (body.Add frame index word addend) is (inl reply) = absurd (cc)
       sent_next (body.Add frame index word addend) is (inr may) =
+          let none = quiet_none cluster earlier before_so number within_so may.quiet in
           sent_so (body.Add frame index word addend) is
-          (live_node cluster program stands trace position earlier before_so number within_so it
-          (quiet_none cluster earlier before_so number within_so may.quiet)) tt (λ join' index' value' same. absurd (cc))
+          (subst (λ led. NodeAccounts cluster program stands trace position earlier led (record frames { stack = live frames.stack })) none
+          (live_node cluster program stands trace position earlier before_so number within_so it none)) tt (λ join' index' value' same. absurd (cc))
       sent_next (body.Added old) is may = sent_so (body.Added old) is same_here tt (λ join' index' value' same. absurd (cc))
 
     -- ---- takings
@@ -547,26 +536,18 @@ module _ (cluster : Cluster) (turns : List WholeTurn) (lawful : IsLawful cluster
       abbrev taking : Event
       taking = Took message
 
-      took_so : (said : Body) → message.body ≡ said
-          → NodeAccounts cluster program stands trace position earlier
-          (cond (eqb number number) (ahead_taking said (ahead number earlier)) (ahead number earlier))
-          (frames_took node said (Took message ∷ past) frames)
-          → Result taking
-      took_so said is keeps =
-          nobody taking found (quiet_by taking found (no_took number (taken_from earlier here)))
-          (subst (λ said. NodeAccounts cluster program stands trace position earlier
-          (cond (eqb number number) (ahead_taking said (ahead number earlier)) (ahead number earlier))
-          (frames_took node said (Took message ∷ past) frames)) (sym is) keeps)
-          (λ other apart. ap (λ b. cond b (ahead_taking message.body (ahead other earlier)) (ahead other earlier))
-          (other_number number other (λ same. apart (sym same))))
-          (λ other same. absurd (cc)) it
+      abbrev Holds : Body → Phase → Type 0
+      Holds said led = NodeAccounts cluster program stands trace position earlier (old_in led) (frames_took node said (Took message ∷ past) frames)
 
-      took_plain : (said : Body) → message.body ≡ said → ahead_taking said (ahead number earlier) ≡ ahead number earlier
-          → ((old : ℤ) → said ≡ body.Added old → ⊥) → Result taking
+      took_so : (said : Body) → message.body ≡ said → Holds said (after_taking said phase) → Result taking
+      took_so said is holds =
+          changes taking found (after_taking message.body) (λ other. refl) (no_took number (taken_from earlier here))
+          (subst (λ said. Holds said (after_taking said phase)) (sym is) holds) (λ other same. absurd (cc)) it
+
+      took_plain : (said : Body) → message.body ≡ said → after_taking said phase ≡ phase → ((old : ℤ) → said ≡ body.Added old → ⊥) → Result taking
       took_plain said is same not =
           took_so said is
-          (subst (λ led. NodeAccounts cluster program stands trace position earlier led (frames_took node said (Took message ∷ past) frames))
-          (sym (cond_same (eqb number number) (ahead_taking said (ahead number earlier)) (ahead number earlier) same))
+          (subst (Holds said) (sym same)
           (took_node cluster program stands trace position earlier (stepped taking found).0 number (less taking found) it here message
           (stepped taking found).1.carries said is not))
 
@@ -583,11 +564,9 @@ module _ (cluster : Cluster) (turns : List WholeTurn) (lawful : IsLawful cluster
       took_next comes (body.Add frame index word addend) is = took_plain (body.Add frame index word addend) is refl (λ old same. absurd (cc))
       took_next comes (body.Added old) is =
           took_so (body.Added old) is
-          (subst (λ b. NodeAccounts cluster program stands trace position earlier (cond b None (ahead number earlier))
-          (record frames { stack = added old frames.stack })) (sym (own_number number))
           (added_node cluster program stands trace position earlier (stepped taking found).0 number (less taking found) it here message
           (stepped taking found).1.carries old
-          (comes position number here message old found is)))
+          (comes position number here message old found is))
 
     -- ---- each event
 

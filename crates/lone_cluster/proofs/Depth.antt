@@ -10,7 +10,6 @@ use Rattle.machine_code.specs.StandsFor.{StandsFor}
 use Rattle.page_messages.specs.declared.closure.FrameId.{FrameId}
 use Rattle.page_messages.specs.declared.log.LoggedAct.{LoggedAct}
 use Rattle.page_messages.specs.declared.log.LoggedAct.TheVariants as act
-use Rattle.page_messages.specs.declared.log.Item.{Item}
 use Rattle.page_messages.specs.declared.log.Item.TheVariants as item
 use Rattle.page_messages.specs.declared.log.PostAt.{PostAt}
 use Rattle.cluster_rules.specs.Walking.{is_empty, with_first, first_of}
@@ -39,9 +38,9 @@ use Rattle.one_node.specs.Deep.{pop, pushed, is_return, stack, IsTop, Deep}
 use Rattle.cluster_trace.specs.Instances.{trace_of}
 use Rattle.cluster_trace.proofs.Spawning.{all_stepped}
 use Rattle.cluster_trace.proofs.Standing.{Stacked, account_wants, live_stacked}
-use Rattle.cluster_trace.proofs.Ahead.{ahead, ahead_item, lead}
+use Rattle.cluster_trace.proofs.Ahead.{lead, quiet_none}
 use Rattle.cluster_trace.proofs.Always.{all_so}
-use Rattle.lone_cluster.proofs.Silent.{OwnEvent, Silent, silent_own, no_adds, own_here, Lone, lone}
+use Rattle.lone_cluster.proofs.Silent.{OwnEvent, silent_own, no_adds, no_waits, own_here, Lone, lone}
 use Rattle.lone_cluster.proofs.Positions.{stands_at, may_act, acting}
 
 -- ---- stacks by name
@@ -113,29 +112,6 @@ return_is (Some (Asks request)) = refl
 return_is (Some (Returns value)) = refl
 return_is (Some (Traps kind)) = refl
 
--- ---- the execution is not ahead of a lone node
-
-ahead_none : (number : ℕ) (done : Item) (earlier : Option ℤ) → ahead_item number done [] earlier ≡ earlier
-ahead_none number (item.Act frame index act) earlier = refl
-ahead_none number (item.Tick frame) earlier = refl
-ahead_none number (item.Drop page) earlier = refl
-ahead_none number (item.TakeUp frame) earlier = refl
-ahead_none number (item.OwnFetch page words) earlier = refl
-ahead_none number (item.OwnReconcile part) earlier = refl
-ahead_none number (item.Served frame index word old addend) earlier = refl
-
-never_ahead : (number : ℕ) (course : Course) → Silent course → ahead number course ≡ None
-never_ahead number [] silent = refl
-never_ahead number (moved ∷ course) silent = on moved.event silent.1 (never_ahead number course silent.2)
-  where
-    on : (event : Event) → OwnEvent event → ahead number course ≡ None → ahead number (record moved { event = event } ∷ course) ≡ None
-    on (Did done) itself none =
-        ap (λ adds. ahead_item number done adds (ahead number course)) (no_adds (own moved.node course) (silent_own moved.node course silent.2))
-        ∙ ahead_none number done (ahead number course) ∙ none
-    on (Sent message) itself none = absurd itself
-    on (Took message) itself none = absurd itself
-    on (Ended end) itself none = none
-
 module _ (cluster : Cluster) (turns : List WholeTurn) (lawful : IsLawful cluster turns) (program : Program) (stands : StandsFor cluster.code program)
     (parted : IsParted program) (alone : cluster.config.nodes ≡ 1) where
   abbrev course : Course
@@ -182,8 +158,10 @@ module _ (cluster : Cluster) (turns : List WholeTurn) (lawful : IsLawful cluster
   stack_stacked : (position : ℕ) → position ≤ length course → Stacked cluster program stands trace position (first position course) [] (stack_at position)
   stack_stacked position less =
       let it = (all_so cluster turns lawful program stands parted position less).1 in
-      subst (λ led. Stacked cluster program stands trace position (first position course) [] (lead led (stack_at position)))
-      (never_ahead 0 (first position course) (lone_at position).0) (it.nodes 0 (omega (arith, alone))).stack
+      let so_far = first position course in
+      let quiet = no_waits (own 0 so_far) (silent_own 0 so_far (lone_at position).0) in
+      subst (λ led. Stacked cluster program stands trace position so_far [] (lead led (stack_at position)))
+      (quiet_none cluster so_far (stepped_first cluster course position stepped) 0 (omega (arith, alone)) quiet) (it.nodes 0 (omega (arith, alone))).stack
 
   pub stack_wants : (position : ℕ) → position ≤ length course → Wanting position (stack_at position)
   stack_wants position less = stacked_wanting position (first position course) [] (stack_at position) (stack_stacked position less)

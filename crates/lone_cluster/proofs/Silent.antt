@@ -18,6 +18,7 @@ use Rattle.page_messages.specs.declared.log.PostAt.{PostAt}
 use Rattle.cluster_rules.specs.Walking.{is_empty, last_of, latest, with_first}
 use Rattle.cluster_rules.specs.Turns.{Event, Did, Sent, Took, Ended, Past}
 use Rattle.cluster_rules.specs.Node.{Node, page_of, home_of}
+use Rattle.cluster_rules.specs.Sendings.{IsQuiet}
 use Rattle.cluster_rules.specs.Home.{owed_home_replies, owed_adds, owed_olds, after_served, told_by}
 use Rattle.cluster_rules.specs.Lives.{Life, main_life, made, with_kept, live_from, live, answered, added, after_act, returned}
 use Rattle.cluster_rules.specs.Frames.{Frames, frames_item, frames_on, frames_of, stack_of}
@@ -125,6 +126,14 @@ no_asks node (Did done ∷ past) silent = no_asks node past silent.1
 no_asks node (Sent message ∷ past) silent = absurd silent.0
 no_asks node (Took message ∷ past) silent = absurd silent.0
 no_asks node (Ended end ∷ past) silent = no_asks node past silent.1
+
+-- A node that never posts waits for nothing.
+pub no_waits : (past : Past) → SilentPast past → IsQuiet past
+no_waits [] silent wait = refl
+no_waits (Did done ∷ past) silent wait = no_waits past silent.1 wait
+no_waits (Sent message ∷ past) silent wait = absurd silent.0
+no_waits (Took message ∷ past) silent wait = absurd silent.0
+no_waits (Ended end ∷ past) silent wait = no_waits past silent.1 wait
 
 -- ---- its frames
 

@@ -25,7 +25,7 @@ use Rattle.determinacy.specs.Replies.{Trace, want_at}
 use Rattle.cluster_trace.specs.Instances.{trace_of}
 use Rattle.cluster_trace.proofs.Spawning.{all_stepped}
 use Rattle.cluster_trace.proofs.Standing.{Stacked, account_wants}
-use Rattle.cluster_trace.proofs.Ahead.{ahead, lead, old_in, told_so}
+use Rattle.cluster_trace.proofs.Ahead.{ahead, lead, old_in}
 use Rattle.cluster_trace.proofs.Accounted.{Accounted}
 use Rattle.cluster_trace.proofs.Always.{all_so, obeys}
 use Rattle.cluster_trace.proofs.Ending.{IsBorn, all_born}
@@ -74,7 +74,7 @@ module _ (cluster : Cluster) (turns : List WholeTurn) (lawful : IsLawful cluster
         let known = phased cluster course stepped in
         let less = known.within number (ap waits_in asked) in
         let stack = stack_of (node_at cluster number) (own number course) in
-        let none : ahead number course ≡ None = told_so cluster course stepped number ∙ ap old_in asked in
+        let none : ahead number course ≡ None = ap old_in asked in
         none_first frame index stack
         (subst (λ led. Stacked cluster program stands trace now course [] (lead led stack)) none (accounted.nodes number less).stack)
         (born.at number less).stack
