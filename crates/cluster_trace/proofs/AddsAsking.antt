@@ -19,14 +19,14 @@ use Rattle.cluster_trace.proofs.Onwards.{AddsAsked}
 pub adds_asked : (cluster : Cluster) (turns : List WholeTurn) (lawful : IsLawful cluster turns) (program : Program) (stands : StandsFor cluster.code program)
     → AddsAsked cluster turns lawful program stands
 adds_asked cluster turns lawful program stands position number here frame index word old addend found serves =
+    let earlier = before (course_of turns) position in
     let stepped = step_then cluster turns lawful position (moved_by number (Did (item.Served frame index word old addend)) here) found in
     let asks = asks_served cluster turns lawful number position frame index word old addend
     (record { moved = moved_by number (Did (item.Served frame index word old addend)) here; is = found; by = refl; event_is = refl }) serves in
     let sender = serves.add.sender in
-    let first = asks_life frame word addend (stack_of (node_at cluster sender) (own sender (before (course_of turns) position))) asks.1 in (
+    let first = asks_life frame word addend (stack_of (node_at cluster sender) (own sender earlier)) asks.1 in (
       asks.0,
-      ap old_in (was_asked cluster (before (course_of turns) position) number here stepped.1.within (phased cluster (before (course_of turns) position) stepped.0)
-          frame index word old addend serves),
+      ap old_in (was_asked cluster earlier number here stepped.1.within (phased cluster earlier stepped.0) frame index word old addend serves),
       first.0,
       first.1,
       first.2,

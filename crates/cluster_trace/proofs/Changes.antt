@@ -75,7 +75,8 @@ module _ (cluster : Cluster) (program : Program) (stands : StandsFor cluster.cod
 
   taken_on : (ready : List Life) → AllLives cluster program stands trace at course ready → led ≡ None → Keeps led (taken_up frames.stack ready frames.parked)
   taken_on [] all none = record { stack = here.stack; ready = tt; parked = here.parked }
-  taken_on (life ∷ ready) all none = record { stack = subst (On []) (sym (lead_none led (life ∷ []) none)) (all.0, tt, tt); ready = all.1; parked = here.parked }
+  taken_on (life ∷ ready) all none =
+      record { stack = subst (On []) (sym (lead_none led (life ∷ []) none)) (all.0, tt, tt); ready = all.1; parked = here.parked }
 
   pub taken_node : led ≡ None → Keeps led (taken_up frames.stack frames.ready frames.parked)
   taken_node none = taken_on frames.ready here.ready none

@@ -1,5 +1,6 @@
 -- Through each event of a course the accounts of all frames are kept, and it answers what its frame wants.
-use Rattle.std.proofs.Common.{◌≡◌, ◌≢◌, ◌⊎◌, inl, inr, ℕ, suc, ◌+◌, ◌<◌, ◌≤◌, ℤ, List, [], ◌∷◌, Option, Some, None, true, false, cond, eqb, refl, sym, ◌∙◌, ap, subst, arith}
+use Rattle.std.proofs.Common.{◌≡◌, ◌≢◌, ◌⊎◌, inl, inr, ℕ, suc, ◌+◌, ◌<◌, ◌≤◌, ℤ, List, [], ◌∷◌, Option, Some, None, true, false, cond, eqb}
+use Rattle.std.proofs.Common.{refl, sym, ◌∙◌, ap, subst, arith}
 use Rattle.backer_order.specs.Log as log
 use Rattle.cilk_meaning.specs.Instance.{Meaning}
 use Rattle.cilk_meaning.specs.Resolved.{Program}
@@ -219,7 +220,7 @@ module _ (cluster : Cluster) (turns : List WholeTurn) (lawful : IsLawful cluster
           → Old → Result event
       changes after phases none now sent it =
           nobody (quiet_by none)
-          (subst (λ led. NodeAccounts cluster program stands trace position earlier (old_in led) (frames_on node event past frames))
+          (subst (λ that. NodeAccounts cluster program stands trace position earlier (old_in that) (frames_on node event past frames))
           (sym (phases number ∙ ap (λ b. cond b (after phase) phase) (own_number number))) now)
           (λ other apart. ap old_in (phases other
           ∙ ap (λ b. cond b (after (phase_of other earlier)) (phase_of other earlier)) (other_number number other (λ same. apart (sym same)))))
@@ -375,7 +376,8 @@ module _ (cluster : Cluster) (turns : List WholeTurn) (lawful : IsLawful cluster
                 (subst (Stacked cluster program stands trace (suc position) (moving ∷ earlier) []) (ap (added old) (sym first.1)
                 ∙ sym (lead_none (ahead number (moving ∷ earlier)) (added old (live frames.stack))
                 (ap (λ adds. old_in (after_adding number frame index old adds phase)) free.none_owed ∙ led))) stack)
-                (λ other apart. ap (λ adds. old_in (after_adding other frame index old adds (phase_of other earlier))) free.none_owed) (frames_there served found)
+                (λ other apart. ap (λ adds. old_in (after_adding other frame index old adds (phase_of other earlier))) free.none_owed)
+                (frames_there served found)
                 (λ message is. absurd (cc)) it,
           )
 
@@ -453,7 +455,8 @@ module _ (cluster : Cluster) (turns : List WholeTurn) (lawful : IsLawful cluster
       sending = Sent message
 
       abbrev Keeps : Body → Type 0
-      Keeps said = NodeAccounts cluster program stands trace position earlier (old_in (after_post said phase)) (record frames { stack = stack_sent said frames.stack })
+      Keeps said =
+          NodeAccounts cluster program stands trace position earlier (old_in (after_post said phase)) (record frames { stack = stack_sent said frames.stack })
 
       same_message : (first other : Msg) → Sent first ≡ Sent other → first ≡ other
       same_message first other same = cc
@@ -537,7 +540,7 @@ module _ (cluster : Cluster) (turns : List WholeTurn) (lawful : IsLawful cluster
       taking = Took message
 
       abbrev Holds : Body → Phase → Type 0
-      Holds said led = NodeAccounts cluster program stands trace position earlier (old_in led) (frames_took node said (Took message ∷ past) frames)
+      Holds said after = NodeAccounts cluster program stands trace position earlier (old_in after) (frames_took node said (Took message ∷ past) frames)
 
       took_so : (said : Body) → message.body ≡ said → Holds said (after_taking said phase) → Result taking
       took_so said is holds =
