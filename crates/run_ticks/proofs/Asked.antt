@@ -9,7 +9,6 @@ use Rattle.page_messages.specs.declared.log.Item.{Item}
 use Rattle.page_messages.specs.declared.log.Item.TheVariants as item
 use Rattle.cluster_rules.specs.Walking.{is_empty}
 use Rattle.cluster_rules.specs.Turns.{Event, Did, Sent, Took, Ended, Past}
-use Rattle.cluster_rules.specs.Sendings.{adds_in}
 use Rattle.cluster_rules.specs.Home.{owed_adds}
 use Rattle.cluster_rules.specs.Lives.{same_frame}
 use Rattle.cluster_rules.specs.Acting.{Serves, MayAddHere}

@@ -1,19 +1,13 @@
 -- Adds that wait at their homes or travel there, by any measure of messages: as many as were posted, less those that were served.
-use Rattle.std.proofs.Common.{◌≡◌, ◌<◌, ◌+◌, ℕ, List, [], ◌∷◌, Option, false, refl, ap, arith}
+use Rattle.std.proofs.Common.{◌≡◌, ◌<◌, ◌+◌, ℕ, [], ◌∷◌, Option, false, arith}
 use Rattle.page_messages.specs.declared.message.Msg.{Msg}
-use Rattle.page_messages.specs.declared.message.Body.{Body}
-use Rattle.page_messages.specs.declared.message.Body.TheVariants as body
-use Rattle.page_messages.specs.declared.log.Item.{Item}
-use Rattle.page_messages.specs.declared.log.Item.TheVariants as item
 use Rattle.page_messages.specs.declared.log.PostAt.{PostAt}
 use Rattle.cluster_rules.specs.Turns.{Event, Did, Sent, Took, Ended, Past}
 use Rattle.cluster_rules.specs.Sendings.{adds_in}
-use Rattle.cluster_rules.specs.Home.{owed_adds, with_add, after_served}
-use Rattle.cluster_rules.specs.Positions.{Moved, Course, own}
+use Rattle.cluster_rules.specs.Home.{owed_adds}
+use Rattle.cluster_rules.specs.Positions.{Course, own}
 use Rattle.cluster_rules.specs.Runs.{Cluster}
 use Rattle.cluster_rules.proofs.Stepping.{Carries, Stepped}
-use Rattle.cluster_rules.proofs.Letters.{letters_of, amount_of, letter_sent, letter_taken}
-use Rattle.cluster_rules.proofs.Summing.{sum_below, sum_none}
 use Rattle.cluster_rules.proofs.UnderWay.{serves_amount, waiting, moved_by, none_waits, adds_sent, adds_took, adds_ended, adds_did}
 
 module _ (amount : Msg → ℕ) where
